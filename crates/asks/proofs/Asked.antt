@@ -5,6 +5,7 @@ use Rattle.std.specs.Io.KnownBytes.{Appends, Consumes, IsAtEnd}
 use Rattle.std.proofs.KnownBytes.{Consumes-kept, Consumes-nil, Consumes-trans}
 use Rattle.std.proofs.lemmas.Bool.Decides.{nat_tests}
 use Rattle.std.proofs.Math.Bool.{and-false}
+use Rattle.std.proofs.Math.Seq.{drop-length}
 use Rattle.client.specs.declared.Outcome.{Outcome}
 use Rattle.client.specs.Prelude.{Knows, Note, Rest, losses, after_drop, taken_out, awaits}
 use Rattle.streams.specs.declared.fault.StreamFault.{StreamFault}
@@ -14,13 +15,13 @@ use Rattle.asks.specs.Prelude.{hears_all, after_all, FeedsPiece, HearsPiece, IsA
 use Rattle.streams.proofs.Parts.{take_short}
 use Rattle.asks.proofs.Tales.{hears_all-append, after_all-append, notes_then}
 
+-- an output that was lent whole, with what is so of it, has nothing left once as many bytes are gone
+pub all_sent : (xs out : List ℕ) (n : ℕ) → out ≡ xs → n ≡ length out → (IsSo : List ℕ → Type 0) → IsSo out → IsSo xs × (drop n xs ≡ [])
+all_sent xs out n e l IsSo so = (subst IsSo e so, subst (λ (z : ℕ). drop z xs ≡ []) (sym (l ∙ ap length e)) (drop-length xs))
+
 -- bytes that are fewer than were asked for are all that there is
 pub all_taken : (n : ℕ) (xs bytes : List ℕ) → bytes ≡ take n xs → length bytes < n → (bytes ≡ xs) × (drop n xs ≡ [])
 all_taken n xs bytes e l = let t = take_short n xs (subst (λ (z : List ℕ). length z < n) e l) in (e ∙ t.0, t.1)
-
--- what is so of the bytes that were put out is so of all that there is
-pub all_out : (n : ℕ) (xs bytes out : List ℕ) → bytes ≡ take n xs → length bytes < n → out ≡ bytes → (IsSo : List ℕ → Type 0) → IsSo out → IsSo xs × (drop n xs ≡ [])
-all_out n xs bytes out e l same IsSo so = let t = all_taken n xs bytes e l in (subst IsSo (same ∙ t.0) so, t.1)
 
 pub unanswered_awaits : (k : Knows) → awaits k ≡ true → all_answered k ≡ false
 unanswered_awaits k e = rw e refl

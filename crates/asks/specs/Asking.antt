@@ -150,7 +150,7 @@ pub record ReadsAll (r : Rest) (left left_now : Option (List ℕ)) (before after
       → (unheard ≡ []) ⊎ ((hears_all r fed).knows.over ≡ true)
   pub ends : fault ≡ None → IsAtEnd left_now ⊎ (awaits (hears_all r fed).knows ≡ false)
 
--- What was written of the output, of which n bytes were taken out: all of it, or a beginning where the sink failed or memory ran out.
+-- What was written of the output, of which n bytes were taken out: all of it, or a beginning if the sink failed or memory ran out.
 abbrev pub Writes : List ℕ → ℕ → Option StreamFault → Option (List ℕ) → Option (List ℕ) → Type 0
 Writes out n None before after = Appends before after out × (drop n out ≡ [])
 Writes out n (Some stream_fault.ReadFailed) before after =
@@ -166,7 +166,7 @@ PutsOut r before after Now fault =
     (n : ℕ) × Writes r.unsent n fault before after × Now (taken_out r n)
 
 -- What a client that stood at a rest wrote, and what it made of the bytes that were read. All of these were fed, but for those after
--- the client's end and, where memory ran out, the last of them; without a fault they are all of the input, or no answer is still to come.
+-- the client's end and, if memory ran out, the last of them; without a fault they are all of the input, or no answer is still to come.
 pub record Asks (r : Rest) (left left_now written written_now : Option (List ℕ))
     (before after : List Note) (Now : Rest → Type 0) (fault : Option StreamFault) : Type 0 where
   pub out : ℕ
@@ -189,7 +189,7 @@ all_answered k = not (awaits k) && length k.waiting == 0
 abbrev pub given_up : Rest → Rest
 given_up r = if all_answered r.knows then r else after_drop r
 
--- the outcomes of waiting requests where the client is given up; none where all was answered
+-- the outcomes of waiting requests if the client is given up; none if all was answered
 abbrev pub losses_then : Knows → List (ℕ × Outcome)
 losses_then k = if all_answered k then [] else losses k
 

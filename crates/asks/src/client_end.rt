@@ -19,7 +19,7 @@ use streams::{MAX_PIECE, PeerSource, Sink, StreamFault, write_all};
 pub struct Told {
     /// What was heard, in order: the version, rows and summaries.
     pub heard: Vec<Heard>,
-    /// What became of the requests without an answer; none where all were answered.
+    /// What became of the requests without an answer; none if all were answered.
     pub losses: Losses,
     /// Why it was broken off, if it was. A bad answer of the server is no fault: the client has ended then.
     pub fault: Option<StreamFault>,
@@ -47,7 +47,7 @@ fn end_of(fault: ClientFault) -> Result<(), StreamFault>
     }
 }
 
-/// Feeds a piece whole, or up to the client's end, and adds what was told. I3 where memory runs out: then some of it was fed.
+/// Feeds a piece whole, or up to the client's end, and adds what was told. I3 if memory runs out: then some of it was fed.
 pub fn feed_piece(
     client: &mut Client,
     piece: &[u8],
@@ -76,7 +76,7 @@ pub fn feed_piece(
 }
 
 /// Reads a piece of at most 4,096 bytes and feeds it whole, or up to the client's end, and adds what was told. It answers whether there
-/// was a piece: none is the end of the input. I1 where the source fails, and nothing has changed; I3 where memory runs out: then some of it was fed.
+/// was a piece: none is the end of the input. I1 if the source fails, and nothing has changed; I3 if memory runs out: then some of it was fed.
 /// The sink is that of what the client puts out.
 pub fn hear_piece<I: PeerSource, O: Sink>(
     client: &mut Client,
@@ -162,7 +162,7 @@ fn read_on<I: PeerSource, O: Sink>(
     Ok(())
 }
 
-/// Writes all that the client puts out. I2 where the sink fails, with a beginning of it written, or I3.
+/// Writes all that the client puts out. I2 if the sink fails, with a beginning of it written. Takes no memory.
 pub fn write_out<O: Sink>(client: &mut Client, sink: &mut O) -> Result<(), StreamFault>
     ensures out { (r : Rest) → Fits client.old r
         → PutsOut r (O.taken sink.old) (O.taken sink.new) (Fits client.new) (result_err result) }
@@ -171,17 +171,18 @@ pub fn write_out<O: Sink>(client: &mut Client, sink: &mut O) -> Result<(), Strea
         (StaysSound (O.has_failed sink.old) (O.has_failed sink.new)) }
     ensures stays { O.has_failed sink.old ≡ true → O.has_failed sink.new ≡ true }
     ensures fault { IfErr result (λ e. e ≡ StreamFault.ReadFailed → ⊥) }
+    ensures memory { IsErrOf result StreamFault.Memory → ⊥ }
 {
-    let Ok(bytes) = client.take_out(usize::MAX) else {
-        return Err(StreamFault::Memory);
-    };
-    if write_all(sink, bytes.as_slice()).is_err() {
+    let written = write_all(sink, client.unsent());
+    let count = client.unsent().len();
+    client.sent(count);
+    if written.is_err() {
         return Err(StreamFault::WriteFailed);
     }
     Ok(())
 }
 
-/// Unless all was answered, the client is lost. Answers what became of the requests that waited, none where all were answered. It takes no
+/// Unless all was answered, the client is lost. Answers what became of the requests that waited, none if all were answered. It takes no
 /// memory.
 pub fn give_up(client: &mut Client) -> Losses
     ensures { (r : Rest) → Fits client.old r → GivesUp (Fits client.new) result r }
@@ -223,8 +224,8 @@ fn converse<I: PeerSource, O: Sink>(
 /// come (a version, or the summary of a request that isn't GOODBYE), the client hasn't ended, and the input goes on. Unless all
 /// was answered by then, the client is lost.
 ///
-/// What is told is what the client makes of the bytes that were fed, however they were cut. I1 where the source fails,
-/// I2 where the sink does: what was written is then a beginning of the output; I3 for want of memory. With each of them the
+/// What is told is what the client makes of the bytes that were fed, however they were cut. I1 if the source fails,
+/// I2 if the sink does: what was written is then a beginning of the output; I3 for want of memory. With each of them the
 /// client is lost too, unless all was answered.
 pub fn ask_all<I: PeerSource, O: Sink>(
     alloc: Global,

@@ -8,7 +8,7 @@ use Rattle.wire.specs.declared.Wish.{Wish}
 use Rattle.wire.specs.Prelude.{wish_version, reach, state, takes as reads, at_client, Took, Opened, Item}
 use Rattle.wire.proofs.Readers.{reads_pieces}
 use Rattle.messages.specs.Prelude.{RequestView, hears, IsWritten}
-use Rattle.engine.specs.Prelude.{EntryView}
+use Rattle.engine.specs.Prelude.{EntryView, Welcome}
 use Rattle.session.specs.Prelude.{Setting}
 use Rattle.server.specs.Prelude.{Rest}
 use Rattle.client.specs.declared.SubmitFault.{SubmitFault}
@@ -51,18 +51,18 @@ all_false : (a b c d : Bool) → a ≡ false → b ≡ false → c ≡ false →
 all_false false false false false w x y z = refl
 all_false _ _ _ _ w x y z = cc
 
-module _ {G : Type 0} (answer : Definition) (accepts : G → List ℕ → List ℕ → Bool) (gate : G) (ours : ℕ → Option Wish) (brought : List EntryView) where
+module _ {G : Type 0} (answer : Definition) (welcomes : G → Welcome) (gate : G) (ours : ℕ → Option Wish) (brought : List EntryView) where
   abbrev S : Setting
-  S = setting_of answer accepts gate
+  S = setting_of answer welcomes gate
 
   abbrev rest : World → Rest G
   rest w = server_rest gate w
 
   abbrev StandsIn : List Moment → Type 0
-  StandsIn ms = Stands answer accepts gate ours brought ms
+  StandsIn ms = Stands answer welcomes gate ours brought ms
 
   abbrev Links : List Moment → Type 0
-  Links ms = (c : ℕ) (wish : Wish) → ours c ≡ Some wish → IsLinked answer accepts wish c ms (record { sessions = []; next = 0; ledger = brought; gate = gate })
+  Links ms = (c : ℕ) (wish : Wish) → ours c ≡ Some wish → IsLinked answer welcomes wish c ms (record { sessions = []; next = 0; ledger = brought; gate = gate })
 
   module _ (ms : List Moment) (st : StandsIn ms) (c : ℕ) (x : ClientCall) where
     abbrev w : World
@@ -77,28 +77,28 @@ module _ {G : Type 0} (answer : Definition) (accepts : G → List ℕ → List �
       reached : Reached S brought world
       server : rest world ≡ rest w
       others : (j : ℕ) → c ≢ j → slice_get world.conns j ≡ slice_get w.conns j
-      at : AtMoments answer accepts gate ours brought ms_with c (slice_get world.conns c)
+      at : AtMoments answer welcomes gate ours brought ms_with c (slice_get world.conns c)
 
     next : Next → StandsIn ms_with
     next n = record {
       world = n.world;
       reached = n.reached;
-      server = n.server ∙ st.server ∙ sym (server_still answer accepts gate ours brought ms c x);
+      server = n.server ∙ st.server ∙ sym (server_still answer welcomes gate ours brought ms c x);
       at = λ j.
-          ⊎_elim (λ same. subst (λ i. AtMoments answer accepts gate ours brought ms_with i (slice_get n.world.conns i)) same n.at)
-          (λ apart. subst (AtMoments answer accepts gate ours brought ms_with j) (sym (n.others j apart)) (at_other answer accepts gate ours brought ms c x j (slice_get w.conns j) apart (st.at j))) (cases_eq c j);
+          ⊎_elim (λ same. subst (λ i. AtMoments answer welcomes gate ours brought ms_with i (slice_get n.world.conns i)) same n.at)
+          (λ apart. subst (AtMoments answer welcomes gate ours brought ms_with j) (sym (n.others j apart)) (at_other answer welcomes gate ours brought ms c x j (slice_get w.conns j) apart (st.at j))) (cases_eq c j);
     }
 
     -- where the world doesn't change
-    same_world : AtMoments answer accepts gate ours brought ms_with c (slice_get w.conns c) → StandsIn ms_with
+    same_world : AtMoments answer welcomes gate ours brought ms_with c (slice_get w.conns c) → StandsIn ms_with
     same_world h = next (record { world = w; reached = st.reached; server = refl; others = λ j n. refl; at = h })
 
     -- of the connection with its number, after the call
     abbrev AtOwn : Option Connection → Type 0
-    AtOwn k = At (ours c) (λ wish. called (run_of wish c ms) x) (took_in answer accepts gate ours brought c ms) (gave_in answer accepts gate ours brought c ms) (said_in answer accepts gate ours brought c ms) k
+    AtOwn k = At (ours c) (λ wish. called (run_of wish c ms) x) (took_in answer welcomes gate ours brought c ms) (gave_in answer welcomes gate ours brought c ms) (said_in answer welcomes gate ours brought c ms) k
 
-    own : (k : Option Connection) → AtOwn k → AtMoments answer accepts gate ours brought ms_with c k
-    own k h = at_own answer accepts gate ours brought ms c x k h
+    own : (k : Option Connection) → AtOwn k → AtMoments answer welcomes gate ours brought ms_with c k
+    own k h = at_own answer welcomes gate ours brought ms c x k h
 
     -- where its peer is foreign
     foreign : ours c ≡ None → StandsIn ms_with
@@ -110,16 +110,16 @@ module _ {G : Type 0} (answer : Definition) (accepts : G → List ℕ → List �
         go (Some wish) e run run2 up out said k h = cc
 
     -- the bytes that the client has taken by then came out of its session
-    came : Links ms_with → (wish : Wish) → ours c ≡ Some wish → IsFront (called (run_of wish c ms) x).took (gave_in answer accepts gate ours brought c ms)
+    came : Links ms_with → (wish : Wish) → ours c ≡ Some wish → IsFront (called (run_of wish c ms) x).took (gave_in answer welcomes gate ours brought c ms)
     came links wish mine =
-        subst (λ bs. IsFront (called (run_of wish c ms) x).took bs) (gave_still answer accepts gate ours brought ms c x c)
-        (subst (λ (z : Run). IsFront z.took (gave_in answer accepts gate ours brought c ms_with)) (run_more wish c ms x) (links c wish mine).down)
+        subst (λ bs. IsFront (called (run_of wish c ms) x).took bs) (gave_still answer welcomes gate ours brought ms c x c)
+        (subst (λ (z : Run). IsFront z.took (gave_in answer welcomes gate ours brought c ms_with)) (run_more wish c ms x) (links c wish mine).down)
 
     -- where it wasn't opened
     absent : Links ms_with → slice_get w.conns c ≡ None → StandsIn ms_with
     absent links none =
-        let u = subst (AtMoments answer accepts gate ours brought ms c) none (st.at c) in
-        same_world (subst (AtMoments answer accepts gate ours brought ms_with c) (sym none) (own None (record {
+        let u = subst (AtMoments answer welcomes gate ours brought ms c) none (st.at c) in
+        same_world (subst (AtMoments answer welcomes gate ours brought ms_with c) (sym none) (own None (record {
           taken = u.taken;
           given = u.given;
           told = u.told;
@@ -133,8 +133,8 @@ module _ {G : Type 0} (answer : Definition) (accepts : G → List ℕ → List �
       s : Sound k
       s = reached_sound S brought st.reached c k here
 
-      f : AtMoments answer accepts gate ours brought ms c (Some k)
-      f = subst (AtMoments answer accepts gate ours brought ms c) here (st.at c)
+      f : AtMoments answer welcomes gate ours brought ms c (Some k)
+      f = subst (AtMoments answer welcomes gate ours brought ms c) here (st.at c)
 
       abbrev run : Run
       run = run_of wish c ms
@@ -176,7 +176,7 @@ module _ {G : Type 0} (answer : Definition) (accepts : G → List ℕ → List �
       }
 
       unchanged : Meets (called run x) k → StandsIn ms_with
-      unchanged m = same_world (subst (AtMoments answer accepts gate ours brought ms_with c) (sym here) (own (Some k) (facts_then k refl refl refl refl refl refl refl m)))
+      unchanged m = same_world (subst (AtMoments answer welcomes gate ours brought ms_with c) (sym here) (own (Some k) (facts_then k refl refl refl refl refl refl refl m)))
 
       changed : (e : Event) (k2 : Connection) (seen : Seen) → WStep S w e seen (after_effect w c k (quiet k2 seen)) → k2.server_lost ≡ k.server_lost → ((j : ℕ) → live_of j k2 ≡ live_of j k) → AtOwn (Some k2) → StandsIn ms_with
       changed e k2 seen wstep l m at = next (record {
@@ -184,7 +184,7 @@ module _ {G : Type 0} (answer : Definition) (accepts : G → List ℕ → List �
         reached = goes_on w (after_effect w c k (quiet k2 seen)) e seen st.reached wstep;
         server = sym (unseen gate w c k here k2 seen l (λ _ j. m j));
         others = λ j n. set_other w.conns c j k2 n;
-        at = subst (AtMoments answer accepts gate ours brought ms_with c) (sym (set_same w.conns c k k2 here)) (own (Some k2) at);
+        at = subst (AtMoments answer welcomes gate ours brought ms_with c) (sym (set_same w.conns c k k2 here)) (own (Some k2) at);
       })
 
       acts : (e : Event) (y : Effect) → at_peer S c (ledger w) e (Ours wish) k ≡ Ok y → at_conn S w e c (slice_get w.conns c) ≡ Ok (after_effect w c k y, y.seen)
@@ -271,7 +271,7 @@ module _ {G : Type 0} (answer : Definition) (accepts : G → List ℕ → List �
         count = (f wish mine k here).given.count
 
         out : IsFront (fed.took ++ p) (take count (output k))
-        out = subst (λ bs. IsFront (fed.took ++ p) bs) (f wish mine k here).given.is (subst (λ z. IsFront (called fed z).took (gave_in answer accepts gate ours brought c ms)) is (came links wish mine))
+        out = subst (λ bs. IsFront (fed.took ++ p) bs) (f wish mine k here).given.is (subst (λ z. IsFront (called fed z).took (gave_in answer welcomes gate ours brought c ms)) is (came links wish mine))
 
         whole : IsFront (fed.took ++ p) (output k)
         whole = front_trans (fed.took ++ p) (take count (output k)) (output k) out (drop count (output k), take-append-drop count (output k))

@@ -6,7 +6,7 @@ use Rattle.std.proofs.lemmas.Option.{some_pair_parts}
 use Rattle.std.proofs.Math.Seq.{take-add}
 use Rattle.wire.specs.declared.Wish.{Wish}
 use Rattle.messages.specs.Prelude.{Arrival, Shook}
-use Rattle.engine.specs.Prelude.{EntryView}
+use Rattle.engine.specs.Prelude.{EntryView, Welcome}
 use Rattle.session.specs.Prelude.{Setting, Done, WroteRow, Wrote, work_kept}
 use Rattle.server.specs.declared.Took.{Took}
 use Rattle.server.specs.Prelude.{Rest, Live, is_full, find, setting, feed_at, work_at, take_out_at, Event as Call, opens, feeds, works, takes, noops, loses, after_call, after_event, used_of, took_by, fed_live, taken_from, noop_put, with_session, after_step}
@@ -92,18 +92,18 @@ spoken_facts {k = k} s p o run up out more said new f u t =
       side = speaks_side p same o run f.side;
     }
 
-module _ {G : Type 0} (answer : Definition) (accepts : G → List ℕ → List ℕ → Bool) (gate : G) (ours : ℕ → Option Wish) (brought : List EntryView) where
+module _ {G : Type 0} (answer : Definition) (welcomes : G → Welcome) (gate : G) (ours : ℕ → Option Wish) (brought : List EntryView) where
   abbrev S : Setting
-  S = setting_of answer accepts gate
+  S = setting_of answer welcomes gate
 
   abbrev rest : World → Rest G
   rest w = server_rest gate w
 
   abbrev StandsIn : List Moment → Type 0
-  StandsIn ms = Stands answer accepts gate ours brought ms
+  StandsIn ms = Stands answer welcomes gate ours brought ms
 
   abbrev Links : List Moment → Type 0
-  Links ms = (c : ℕ) (wish : Wish) → ours c ≡ Some wish → IsLinked answer accepts wish c ms (record { sessions = []; next = 0; ledger = brought; gate = gate })
+  Links ms = (c : ℕ) (wish : Wish) → ours c ≡ Some wish → IsLinked answer welcomes wish c ms (record { sessions = []; next = 0; ledger = brought; gate = gate })
 
   module _ (ms : List Moment) (st : StandsIn ms) where
     abbrev w : World
@@ -113,12 +113,12 @@ module _ {G : Type 0} (answer : Definition) (accepts : G → List ℕ → List �
     ms_with e = ms ++ serves e ∷ []
 
     -- a call that is refused
-    idles : (e : Call) → after_event answer accepts e (rest w) ≡ rest w → ((c : ℕ) → IsSilent answer accepts e (rest w) c) → StandsIn (ms_with e)
+    idles : (e : Call) → after_event answer welcomes e (rest w) ≡ rest w → ((c : ℕ) → IsSilent answer welcomes e (rest w) c) → StandsIn (ms_with e)
     idles e same silent = record {
       world = w;
       reached = st.reached;
-      server = sym (server_then answer accepts gate ours brought ms w st.server e ∙ same);
-      at = λ c. at_still answer accepts gate ours brought ms w st.server e c (slice_get w.conns c) (silent c) (st.at c);
+      server = sym (server_then answer welcomes gate ours brought ms w st.server e ∙ same);
+      at = λ c. at_still answer welcomes gate ours brought ms w st.server e c (slice_get w.conns c) (silent c) (st.at c);
     }
 
     -- an opening
@@ -131,7 +131,7 @@ module _ {G : Type 0} (answer : Definition) (accepts : G → List ℕ → List �
         peer : Peer
         peer = peer_by (ours n)
 
-        silent : (c : ℕ) → IsSilent answer accepts opens (rest w) c
+        silent : (c : ℕ) → IsSilent answer welcomes opens (rest w) c
         silent c = record { took = refl; gave = refl; wrote = refl }
 
         new_side : (o : Option Wish) (run : Wish → Run) → ((wish : Wish) → o ≡ Some wish → ((run wish).sent ≡ []) × ((run wish).took ≡ [])) → Side o run (fresh (peer_by o))
@@ -155,12 +155,12 @@ module _ {G : Type 0} (answer : Definition) (accepts : G → List ℕ → List �
             record {
               world = w2;
               reached = goes_on w w2 (Opens peer) (Opened n) st.reached (record { steps = cond-false (nat_le 16 (live w) || nat_le (2 ^ 63) (length w.conns)) _ _ e; made = tt; counted = tt });
-              server = sym (server_then answer accepts gate ours brought ms w st.server opens ∙ cond-false (is_full (rest w)) _ _ ((open_served G gate w peer).0 ∙ e) ∙ (open_served G gate w peer).1);
-              at = λ c. at_still answer accepts gate ours brought ms w st.server opens c (slice_get w2.conns c) (silent c)
-                  (⊎_elim (λ same. subst (AtMoments answer accepts gate ours brought ms c) (sym same) (st.at c))
-                  (λ here. subst (AtMoments answer accepts gate ours brought ms c) (sym here.1)
-                  (subst (λ (z : Peer). AtMoments answer accepts gate ours brought ms c (Some (fresh z))) (ap (λ j. peer_by (ours j)) here.0)
-                  (new (ours c) _ _ _ _ (subst (AtMoments answer accepts gate ours brought ms c) here.2 (st.at c))))) (push_cases w.conns (fresh peer) c));
+              server = sym (server_then answer welcomes gate ours brought ms w st.server opens ∙ cond-false (is_full (rest w)) _ _ ((open_served G gate w peer).0 ∙ e) ∙ (open_served G gate w peer).1);
+              at = λ c. at_still answer welcomes gate ours brought ms w st.server opens c (slice_get w2.conns c) (silent c)
+                  (⊎_elim (λ same. subst (AtMoments answer welcomes gate ours brought ms c) (sym same) (st.at c))
+                  (λ here. subst (AtMoments answer welcomes gate ours brought ms c) (sym here.1)
+                  (subst (λ (z : Peer). AtMoments answer welcomes gate ours brought ms c (Some (fresh z))) (ap (λ j. peer_by (ours j)) here.0)
+                  (new (ours c) _ _ _ _ (subst (AtMoments answer welcomes gate ours brought ms c) here.2 (st.at c))))) (push_cases w.conns (fresh peer) c));
             }
 
     module _ (c : ℕ) (k : Connection) (here : slice_get w.conns c ≡ Some k) where
@@ -168,28 +168,28 @@ module _ {G : Type 0} (answer : Definition) (accepts : G → List ℕ → List �
       s = reached_sound S brought st.reached c k here
 
       abbrev FactsNow : Type 0
-      FactsNow = AtMoments answer accepts gate ours brought ms c (Some k)
+      FactsNow = AtMoments answer welcomes gate ours brought ms c (Some k)
 
       f : FactsNow
-      f = subst (AtMoments answer accepts gate ours brought ms c) here (st.at c)
+      f = subst (AtMoments answer welcomes gate ours brought ms c) here (st.at c)
 
       -- an effect at the connection that the call stands for
       record Does (e : Call) : Type 0 where
         effect : Effect
         reached : Reached S brought (after_effect w c k effect)
-        server : rest (after_effect w c k effect) ≡ after_event answer accepts e (rest w)
-        at : AtMoments answer accepts gate ours brought (ms_with e) c (Some effect.conn)
+        server : rest (after_effect w c k effect) ≡ after_event answer welcomes e (rest w)
+        at : AtMoments answer welcomes gate ours brought (ms_with e) c (Some effect.conn)
 
       does : (e : Call) → OnConn c e → Does e → StandsIn (ms_with e)
       does e on d = record {
         world = after_effect w c k d.effect;
         reached = d.reached;
-        server = d.server ∙ sym (server_then answer accepts gate ours brought ms w st.server e);
+        server = d.server ∙ sym (server_then answer welcomes gate ours brought ms w st.server e);
         at = λ j.
-            ⊎_elim (λ same. subst (λ i. AtMoments answer accepts gate ours brought (ms_with e) i (slice_get (slice_set w.conns c d.effect.conn) i)) same
-            (subst (AtMoments answer accepts gate ours brought (ms_with e) c) (sym (set_same w.conns c k d.effect.conn here)) d.at))
-            (λ apart. subst (AtMoments answer accepts gate ours brought (ms_with e) j) (sym (set_other w.conns c j d.effect.conn apart))
-            (at_still answer accepts gate ours brought ms w st.server e j (slice_get w.conns j) (silent_other answer accepts e c j (rest w) on apart) (st.at j))) (cases_eq c j);
+            ⊎_elim (λ same. subst (λ i. AtMoments answer welcomes gate ours brought (ms_with e) i (slice_get (slice_set w.conns c d.effect.conn) i)) same
+            (subst (AtMoments answer welcomes gate ours brought (ms_with e) c) (sym (set_same w.conns c k d.effect.conn here)) d.at))
+            (λ apart. subst (AtMoments answer welcomes gate ours brought (ms_with e) j) (sym (set_other w.conns c j d.effect.conn apart))
+            (at_still answer welcomes gate ours brought ms w st.server e j (slice_get w.conns j) (silent_other answer welcomes e c j (rest w) on apart) (st.at j))) (cases_eq c j);
       }
 
       -- an event of the connection, by what it does there
@@ -211,17 +211,17 @@ module _ {G : Type 0} (answer : Definition) (accepts : G → List ℕ → List �
         found : find c r.sessions ≡ Some (live_of c k)
         found = find_at w.conns 0 c c k (omega arith) here alive
 
-        working : counted_if (work_at answer accepts c r) → Does (works c)
+        working : counted_if (work_at answer welcomes c r) → Does (works c)
         working counts =
-            let x = work S c (ledger w) k in let served = work_served G gate w c k here alive s answer accepts in
+            let x = work S c (ledger w) k in let served = work_served G gate w c k here alive s answer welcomes in
             let d = work_kept S c (ledger w) (kept_of k) k.ended in
-            let wrote : call_said answer accepts c (works c) r ≡ said_by d.answer = cond-true (c == c) _ _ (eq-eqb c c refl) ∙ ap (λ (o : Option Live). step_said answer accepts o r) found in
+            let wrote : call_said answer welcomes c (works c) r ≡ said_by d.answer = cond-true (c == c) _ _ (eq-eqb c c refl) ∙ ap (λ (o : Option Live). step_said answer welcomes o r) found in
             record {
               effect = x;
               reached = goes_on w (after_effect w c k x) (Work c) x.seen st.reached (record { steps = acts (Work c) x (either (Work c) x refl (λ _. refl)); made = tt; counted = subst counted_if served counts });
               server = ap (λ o. after_call o r) (sym served);
-              at = at_then answer accepts gate ours brought ms w st.server (works c) c (Some x.conn)
-                  (spoken_facts s (work_speaks S c (ledger w) k) (ours c) _ _ _ [] _ (call_said answer accepts c (works c) r) f (sym (append-nil k.up)) (told_work d.answer k.says ∙ ap (λ z. z ++ answers_among k.says) (sym wrote)));
+              at = at_then answer welcomes gate ours brought ms w st.server (works c) c (Some x.conn)
+                  (spoken_facts s (work_speaks S c (ledger w) k) (ours c) _ _ _ [] _ (call_said answer welcomes c (works c) r) f (sym (append-nil k.up)) (told_work d.answer k.says ∙ ap (λ z. z ++ answers_among k.says) (sym wrote)));
             }
 
         putting : Does (noops c)
@@ -231,7 +231,7 @@ module _ {G : Type 0} (answer : Definition) (accepts : G → List ℕ → List �
               effect = x;
               reached = goes_on w (after_effect w c k x) (PutsNoop c) x.seen st.reached (record { steps = acts (PutsNoop c) x (either (PutsNoop c) x refl (λ _. refl)); made = tt; counted = tt });
               server = ap (λ o. after_call o r) (sym served);
-              at = at_then answer accepts gate ours brought ms w st.server (noops c) c (Some x.conn)
+              at = at_then answer welcomes gate ours brought ms w st.server (noops c) c (Some x.conn)
                   (spoken_facts s (noop_speaks k) (ours c) _ _ _ [] _ [] f (sym (append-nil k.up)) (noop_case (λ y. answers_among y.conn.says ≡ answers_among k.says) k refl (λ _ _. refl)));
             }
 
@@ -242,7 +242,7 @@ module _ {G : Type 0} (answer : Definition) (accepts : G → List ℕ → List �
               effect = x;
               reached = goes_on w (after_effect w c k x) (ServerLost c) SawNothing st.reached (record { steps = acts (ServerLost c) x (either (ServerLost c) x refl (λ _. refl)); made = tt; counted = tt });
               server = ap (λ z. z.1) (sym (lost_served G gate w c k here alive s));
-              at = at_then answer accepts gate ours brought ms w st.server (loses c) c (Some x.conn) (gone_facts (ours c) _ _ _ _ f);
+              at = at_then answer welcomes gate ours brought ms w st.server (loses c) c (Some x.conn) (gone_facts (ours c) _ _ _ _ f);
             }
           where
             gone_side : (o : Option Wish) (run : Wish → Run) → Side o run k → Side o run (server_gone k).conn
@@ -304,7 +304,7 @@ module _ {G : Type 0} (answer : Definition) (accepts : G → List ℕ → List �
                 effect = x;
                 reached = goes_on w (after_effect w c k x) (ToClient c n) seen st.reached (record { steps = acts (ToClient c n) x h; made = tt; counted = tt });
                 server = sym (alike gate w c k here (record k { taken = t }) k2 SawNothing seen alive alive alive (ap (λ i. live_of c (record k { taken = i })) same)) ∙ ap (λ o. after_call o r) (sym served);
-                at = at_then answer accepts gate ours brought ms w st.server (takes c n) c (Some k2)
+                at = at_then answer welcomes gate ours brought ms w st.server (takes c n) c (Some k2)
                     (out_facts (ours c) _ _ _ _ (taken_for n k) (taken_for n k) (sym same) f (subst (λ o. Side o (λ wish. run_of wish c ms) k2) (sym strange) (λ _. refl)));
               }
 
@@ -323,7 +323,7 @@ module _ {G : Type 0} (answer : Definition) (accepts : G → List ℕ → List �
                 effect = x;
                 reached = subst (Reached S brought) is (takes_out w c m st.reached);
                 server = ap (λ o. after_call o r) (sym served);
-                at = at_then answer accepts gate ours brought ms w st.server (takes c n) c (Some x.conn)
+                at = at_then answer welcomes gate ours brought ms w st.server (takes c n) c (Some x.conn)
                     (out_facts (ours c) _ _ _ _ t k.down refl f (subst (λ o. Side o (λ wish. run_of wish c ms) x.conn) (sym mine) (record { lives = side.lives; sent = side.sent; took = side.took })));
               }
             where
@@ -338,10 +338,10 @@ module _ {G : Type 0} (answer : Definition) (accepts : G → List ℕ → List �
 
         -- bytes that the session takes
         fed_facts : (piece : List ℕ) (p : List ℕ) (took : Took) → feed_at c piece r ≡ Some (took, rest (after_effect w c k (feed p k))) → (feed p k).conn.up ≡ k.up ++ take took.used piece
-            → AtMoments answer accepts gate ours brought (ms_with (feeds c piece)) c (Some (feed p k).conn)
+            → AtMoments answer welcomes gate ours brought (ms_with (feeds c piece)) c (Some (feed p k).conn)
         fed_facts piece p took served up =
             let took_is : took_by c (feeds c piece) r ≡ take took.used piece = cond-true (c == c) _ _ (eq-eqb c c refl) ∙ ap (used_of piece) served in
-            at_then answer accepts gate ours brought ms w st.server (feeds c piece) c (Some (feed p k).conn)
+            at_then answer welcomes gate ours brought ms w st.server (feeds c piece) c (Some (feed p k).conn)
             (spoken_facts s (feed_speaks k s p) (ours c) _ _ _ (took_by c (feeds c piece) r) _ [] f (up ∙ ap (λ z. k.up ++ z) (sym took_is))
             (feed_case (λ y. answers_among y.conn.says ≡ answers_among k.says) p k (λ what. refl) (λ _ _ _. told_item _ k.says)))
 
@@ -393,8 +393,8 @@ module _ {G : Type 0} (answer : Definition) (accepts : G → List ℕ → List �
                 (knows_if S (ledger w) wish k inv.talk (tells S w.brought w.since c wish k peer inv.talk).version) in
                 let link = (links c wish mine).up in
                 let front : IsFront (k.up ++ p) run.out =
-                subst (λ (z : Run). IsFront (k.up ++ p) z.out) (run_then answer accepts gate ours brought ms w st.server (feeds c piece) c wish)
-                (subst (λ bs. IsFront bs (run_of wish c (ms_with (feeds c piece))).out) (took_then answer accepts gate ours brought ms w st.server (feeds c piece) c ∙ ap₂ (λ (y z : List ℕ). y ++ z) (sym f.taken) is) link) in
+                subst (λ (z : Run). IsFront (k.up ++ p) z.out) (run_then answer welcomes gate ours brought ms w st.server (feeds c piece) c wish)
+                (subst (λ bs. IsFront bs (run_of wish c (ms_with (feeds c piece))).out) (took_then answer welcomes gate ours brought ms w st.server (feeds c piece) c ∙ ap₂ (λ (y z : List ℕ). y ++ z) (sym f.taken) is) link) in
                 front_trans (k.up ++ p) run.out (input wish k.sent) front (run.rest.unsent, (tells_by_bytes wish (client_calls c ms)).out ∙ puts)
 
     -- by what stands in the place of its number
@@ -416,26 +416,26 @@ module _ {G : Type 0} (answer : Definition) (accepts : G → List ℕ → List �
 
     -- what a step tells is counted
     abbrev Counts : Call → Type 0
-    Counts e = (conn : ℕ) → e ≡ works conn → counted_if (work_at answer accepts conn (rest w))
+    Counts e = (conn : ℕ) → e ≡ works conn → counted_if (work_at answer welcomes conn (rest w))
 
     pub calls : (e : Call) → Counts e → Links (ms_with e) → StandsIn (ms_with e)
     calls opens counts links = opening
     calls (feeds c piece) counts links =
         at_place c (feeds c piece)
-        (λ gone. idles (feeds c piece) (idle_call gate w c gone (λ l. ((fed_live l piece).0, with_session (fed_live l piece).1 (rest w)))) (λ j. silent_gone answer accepts gate w c gone (feeds c piece) j refl))
+        (λ gone. idles (feeds c piece) (idle_call gate w c gone (λ l. ((fed_live l piece).0, with_session (fed_live l piece).1 (rest w)))) (λ j. silent_gone answer welcomes gate w c gone (feeds c piece) j refl))
         (λ k here n. does c k here (feeds c piece) refl (by_peer c (λ e. feeding_foreign c k here n piece e) (λ wish e. feeding_ours c k here n piece wish e links)))
     calls (works c) counts links =
         at_place c (works c)
-        (λ gone. idles (works c) (idle_call gate w c gone (λ l. after_step l (work_kept (setting answer accepts (rest w)) l.conn (rest w).ledger l.kept l.kept.ended) (rest w))) (λ j. silent_gone answer accepts gate w c gone (works c) j refl))
+        (λ gone. idles (works c) (idle_call gate w c gone (λ l. after_step l (work_kept (setting answer welcomes (rest w)) l.conn (rest w).ledger l.kept l.kept.ended) (rest w))) (λ j. silent_gone answer welcomes gate w c gone (works c) j refl))
         (λ k here n. does c k here (works c) refl (working c k here n (counts c refl)))
     calls (takes c m) counts links =
         at_place c (takes c m)
-        (λ gone. idles (takes c m) (idle_call gate w c gone (λ l. ((taken_from m l).0, with_session (taken_from m l).1 (rest w)))) (λ j. silent_gone answer accepts gate w c gone (takes c m) j refl))
+        (λ gone. idles (takes c m) (idle_call gate w c gone (λ l. ((taken_from m l).0, with_session (taken_from m l).1 (rest w)))) (λ j. silent_gone answer welcomes gate w c gone (takes c m) j refl))
         (λ k here n. does c k here (takes c m) refl (by_peer c (λ e. taking_foreign c k here n m e) (λ wish e. taking_ours c k here n m wish e)))
     calls (noops c) counts links =
         at_place c (noops c)
-        (λ gone. idles (noops c) (idle_call gate w c gone (λ l. ((noop_put l).0, with_session (noop_put l).1 (rest w)))) (λ j. silent_gone answer accepts gate w c gone (noops c) j refl))
+        (λ gone. idles (noops c) (idle_call gate w c gone (λ l. ((noop_put l).0, with_session (noop_put l).1 (rest w)))) (λ j. silent_gone answer welcomes gate w c gone (noops c) j refl))
         (λ k here n. does c k here (noops c) refl (putting c k here n))
     calls (loses c) counts links =
-        at_place c (loses c) (λ gone. idles (loses c) (idle_loss gate w c gone) (λ j. silent_gone answer accepts gate w c gone (loses c) j refl))
+        at_place c (loses c) (λ gone. idles (loses c) (idle_loss gate w c gone) (λ j. silent_gone answer welcomes gate w c gone (loses c) j refl))
         (λ k here n. does c k here (loses c) refl (losing c k here n))

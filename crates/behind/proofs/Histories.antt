@@ -1,8 +1,8 @@
 -- What a connection of a world stands for after calls at both ends, and what a call adds to it.
-use Rattle.std.proofs.Common.{◌≡◌, ◌≢◌, refl, sym, ◌∙◌, ap, subst, ℕ, ◌≤◌, ◌==◌, Bool, false, if◌then◌else◌, Option, Some, None, option_map, List, [], ◌∷◌, ◌++◌, take, slice_get, append-nil, append_assoc}
+use Rattle.std.proofs.Common.{◌≡◌, ◌≢◌, refl, sym, ◌∙◌, ap, subst, ℕ, ◌≤◌, ◌==◌, false, if◌then◌else◌, Option, Some, None, option_map, List, [], ◌∷◌, ◌++◌, take, slice_get, append-nil, append_assoc}
 use Rattle.std.proofs.lemmas.Bool.{cond-true, cond-false, cond_both, ne_eqb, eq-eqb}
 use Rattle.wire.specs.declared.Wish.{Wish}
-use Rattle.engine.specs.Prelude.{EntryView}
+use Rattle.engine.specs.Prelude.{EntryView, Welcome}
 use Rattle.server.specs.Prelude.{Rest, Live, empty, find, fed_live, taken_from, with_session, feed_at, take_out_at, Event as Call, opens, feeds, works, takes, noops, loses, after_event, after_events, used_of, took_by, bytes_taken}
 use Rattle.lines.specs.Prelude.{out_of, gave_by, bytes_given}
 use Rattle.lines.proofs.Moved.{after_both, taken_both, given_both}
@@ -111,19 +111,19 @@ OnConn conn (takes c n) = c ≡ conn
 OnConn conn (noops c) = c ≡ conn
 OnConn conn (loses c) = c ≡ conn
 
-module _ {G : Type 0} (answer : Definition) (accepts : G → List ℕ → List ℕ → Bool) where
-  said_both : (conn : ℕ) (es : List Call) (e : Call) (r : Rest G) → all_said answer accepts conn (es ++ e ∷ []) r ≡ call_said answer accepts conn e (after_events answer accepts es r) ++ all_said answer accepts conn es r
-  said_both conn [] e r = sym (append-nil (call_said answer accepts conn e r))
+module _ {G : Type 0} (answer : Definition) (welcomes : G → Welcome) where
+  said_both : (conn : ℕ) (es : List Call) (e : Call) (r : Rest G) → all_said answer welcomes conn (es ++ e ∷ []) r ≡ call_said answer welcomes conn e (after_events answer welcomes es r) ++ all_said answer welcomes conn es r
+  said_both conn [] e r = sym (append-nil (call_said answer welcomes conn e r))
   said_both conn (d ∷ es) e r =
-      let r2 = after_event answer accepts d r in
-      ap (λ z. z ++ call_said answer accepts conn d r) (said_both conn es e r2)
-      ∙ append_assoc (call_said answer accepts conn e (after_events answer accepts es r2)) (all_said answer accepts conn es r2) (call_said answer accepts conn d r)
+      let r2 = after_event answer welcomes d r in
+      ap (λ z. z ++ call_said answer welcomes conn d r) (said_both conn es e r2)
+      ∙ append_assoc (call_said answer welcomes conn e (after_events answer welcomes es r2)) (all_said answer welcomes conn es r2) (call_said answer welcomes conn d r)
 
   -- a call adds nothing to what is told of a connection
   pub record IsSilent (e : Call) (r : Rest G) (conn : ℕ) : Type 0 where
     pub took : took_by conn e r ≡ []
     pub gave : gave_by conn e r ≡ []
-    pub wrote : call_said answer accepts conn e r ≡ []
+    pub wrote : call_said answer welcomes conn e r ≡ []
 
   pub silent_other : (e : Call) (c conn : ℕ) (r : Rest G) → OnConn c e → c ≢ conn → IsSilent e r conn
   silent_other opens c conn r o n = absurd o
@@ -148,8 +148,8 @@ module _ {G : Type 0} (answer : Definition) (accepts : G → List ℕ → List �
     silent_gone (works d) conn o = record {
       took = refl;
       gave = refl;
-      wrote = cond_both (d == conn) (step_said answer accepts (find d r.sessions) r) [] (λ z. z ≡ [])
-          (λ _. ap (λ j. step_said answer accepts (find j r.sessions) r) o ∙ ap (λ (x : Option Live). step_said answer accepts x r) (found_none gate w c gone)) (λ _. refl);
+      wrote = cond_both (d == conn) (step_said answer welcomes (find d r.sessions) r) [] (λ z. z ≡ [])
+          (λ _. ap (λ j. step_said answer welcomes (find j r.sessions) r) o ∙ ap (λ (x : Option Live). step_said answer welcomes x r) (found_none gate w c gone)) (λ _. refl);
     }
     silent_gone (takes d n) conn o = record {
       took = refl;
@@ -160,9 +160,9 @@ module _ {G : Type 0} (answer : Definition) (accepts : G → List ℕ → List �
     silent_gone (noops d) conn o = record { took = refl; gave = refl; wrote = refl }
     silent_gone (loses d) conn o = record { took = refl; gave = refl; wrote = refl }
 
-module _ {G : Type 0} (answer : Definition) (accepts : G → List ℕ → List ℕ → Bool) (gate : G) (ours : ℕ → Option Wish) (brought : List EntryView) where
+module _ {G : Type 0} (answer : Definition) (welcomes : G → Welcome) (gate : G) (ours : ℕ → Option Wish) (brought : List EntryView) where
   abbrev S : Setting
-  S = setting_of answer accepts gate
+  S = setting_of answer welcomes gate
 
   abbrev rest : World → Rest G
   rest w = server_rest gate w
@@ -171,13 +171,13 @@ module _ {G : Type 0} (answer : Definition) (accepts : G → List ℕ → List �
   r0 = empty brought gate
 
   abbrev pub took_in : ℕ → List Moment → List ℕ
-  took_in c ms = bytes_taken answer accepts c (server_calls ms) r0
+  took_in c ms = bytes_taken answer welcomes c (server_calls ms) r0
 
   abbrev pub gave_in : ℕ → List Moment → List ℕ
-  gave_in c ms = bytes_given answer accepts c (server_calls ms) r0
+  gave_in c ms = bytes_given answer welcomes c (server_calls ms) r0
 
   abbrev pub said_in : ℕ → List Moment → List Said
-  said_in c ms = all_said answer accepts c (server_calls ms) r0
+  said_in c ms = all_said answer welcomes c (server_calls ms) r0
 
   abbrev pub runs_in : ℕ → List Moment → Wish → Run
   runs_in c ms wish = run_of wish c ms
@@ -190,42 +190,42 @@ module _ {G : Type 0} (answer : Definition) (accepts : G → List ℕ → List �
   pub record Stands (ms : List Moment) : Type 0 where
     pub world : World
     pub reached : Reached S brought world
-    pub server : rest world ≡ after_events answer accepts (server_calls ms) r0
+    pub server : rest world ≡ after_events answer welcomes (server_calls ms) r0
     pub at : (c : ℕ) → AtMoments ms c (slice_get world.conns c)
 
   -- a call on the server
-  module _ (ms : List Moment) (w : World) (server : rest w ≡ after_events answer accepts (server_calls ms) r0) (e : Call) where
+  module _ (ms : List Moment) (w : World) (server : rest w ≡ after_events answer welcomes (server_calls ms) r0) (e : Call) where
     abbrev ms2 : List Moment
     ms2 = ms ++ serves e ∷ []
 
-    pub server_then : after_events answer accepts (server_calls ms2) r0 ≡ after_event answer accepts e (rest w)
-    server_then = ap (λ es. after_events answer accepts es r0) (serves_more ms e) ∙ after_both answer accepts (server_calls ms) (e ∷ []) r0 (rest w) (sym server)
+    pub server_then : after_events answer welcomes (server_calls ms2) r0 ≡ after_event answer welcomes e (rest w)
+    server_then = ap (λ es. after_events answer welcomes es r0) (serves_more ms e) ∙ after_both answer welcomes (server_calls ms) (e ∷ []) r0 (rest w) (sym server)
 
     module _ (c : ℕ) where
       pub took_then : took_in c ms2 ≡ took_in c ms ++ took_by c e (rest w)
       took_then =
-          ap (λ es. bytes_taken answer accepts c es r0) (serves_more ms e) ∙ taken_both answer accepts c (server_calls ms) (e ∷ []) r0 (rest w) (sym server)
+          ap (λ es. bytes_taken answer welcomes c es r0) (serves_more ms e) ∙ taken_both answer welcomes c (server_calls ms) (e ∷ []) r0 (rest w) (sym server)
           ∙ ap (λ z. took_in c ms ++ z) (append-nil (took_by c e (rest w)))
 
       gave_then : gave_in c ms2 ≡ gave_in c ms ++ gave_by c e (rest w)
       gave_then =
-          ap (λ es. bytes_given answer accepts c es r0) (serves_more ms e) ∙ given_both answer accepts c (server_calls ms) (e ∷ []) r0 (rest w) (sym server)
+          ap (λ es. bytes_given answer welcomes c es r0) (serves_more ms e) ∙ given_both answer welcomes c (server_calls ms) (e ∷ []) r0 (rest w) (sym server)
           ∙ ap (λ z. gave_in c ms ++ z) (append-nil (gave_by c e (rest w)))
 
-      said_then : said_in c ms2 ≡ call_said answer accepts c e (rest w) ++ said_in c ms
+      said_then : said_in c ms2 ≡ call_said answer welcomes c e (rest w) ++ said_in c ms
       said_then =
-          ap (λ es. all_said answer accepts c es r0) (serves_more ms e) ∙ said_both answer accepts c (server_calls ms) e r0
-          ∙ ap (λ z. call_said answer accepts c e z ++ said_in c ms) (sym server)
+          ap (λ es. all_said answer welcomes c es r0) (serves_more ms e) ∙ said_both answer welcomes c (server_calls ms) e r0
+          ∙ ap (λ z. call_said answer welcomes c e z ++ said_in c ms) (sym server)
 
       pub run_then : (wish : Wish) → run_of wish c ms2 ≡ run_of wish c ms
       run_then wish = ap (calls (starts wish)) (asks_same c ms e)
 
       -- where it adds this to what is told of a connection
-      pub at_then : (k : Option Connection) → At (ours c) (runs_in c ms) (took_in c ms ++ took_by c e (rest w)) (gave_in c ms ++ gave_by c e (rest w)) (call_said answer accepts c e (rest w) ++ said_in c ms) k → AtMoments ms2 c k
+      pub at_then : (k : Option Connection) → At (ours c) (runs_in c ms) (took_in c ms ++ took_by c e (rest w)) (gave_in c ms ++ gave_by c e (rest w)) (call_said answer welcomes c e (rest w) ++ said_in c ms) k → AtMoments ms2 c k
       at_then k = at_as (ours c) _ _ _ _ _ _ _ _ k (λ wish. sym (run_then wish)) (sym took_then) (sym gave_then) (sym said_then)
 
       -- where it adds nothing
-      pub at_still : (k : Option Connection) → IsSilent answer accepts e (rest w) c → AtMoments ms c k → AtMoments ms2 c k
+      pub at_still : (k : Option Connection) → IsSilent answer welcomes e (rest w) c → AtMoments ms c k → AtMoments ms2 c k
       at_still k s h =
           at_as (ours c) _ _ _ _ _ _ _ _ k (λ wish. sym (run_then wish)) (sym (took_then ∙ ap (λ z. took_in c ms ++ z) s.took ∙ append-nil (took_in c ms)))
           (sym (gave_then ∙ ap (λ z. gave_in c ms ++ z) s.gave ∙ append-nil (gave_in c ms))) (sym (said_then ∙ ap (λ z. z ++ said_in c ms) s.wrote)) h
@@ -235,15 +235,15 @@ module _ {G : Type 0} (answer : Definition) (accepts : G → List ℕ → List �
     abbrev ms3 : List Moment
     ms3 = ms ++ asks d x ∷ []
 
-    pub server_still : after_events answer accepts (server_calls ms3) r0 ≡ after_events answer accepts (server_calls ms) r0
-    server_still = ap (λ es. after_events answer accepts es r0) (serves_same ms d x)
+    pub server_still : after_events answer welcomes (server_calls ms3) r0 ≡ after_events answer welcomes (server_calls ms) r0
+    server_still = ap (λ es. after_events answer welcomes es r0) (serves_same ms d x)
 
     pub gave_still : (c : ℕ) → gave_in c ms3 ≡ gave_in c ms
-    gave_still c = ap (λ es. bytes_given answer accepts c es r0) (serves_same ms d x)
+    gave_still c = ap (λ es. bytes_given answer welcomes c es r0) (serves_same ms d x)
 
     -- of the connection of another, and of its own
     pub at_other : (c : ℕ) (k : Option Connection) → d ≢ c → AtMoments ms c k → AtMoments ms3 c k
-    at_other c k n = at_as (ours c) _ _ _ _ _ _ _ _ k (λ wish. ap (calls (starts wish)) (sym (asks_other c ms d x n))) (ap (λ es. bytes_taken answer accepts c es r0) (sym (serves_same ms d x))) (sym (gave_still c)) (ap (λ es. all_said answer accepts c es r0) (sym (serves_same ms d x)))
+    at_other c k n = at_as (ours c) _ _ _ _ _ _ _ _ k (λ wish. ap (calls (starts wish)) (sym (asks_other c ms d x n))) (ap (λ es. bytes_taken answer welcomes c es r0) (sym (serves_same ms d x))) (sym (gave_still c)) (ap (λ es. all_said answer welcomes c es r0) (sym (serves_same ms d x)))
 
     pub at_own : (k : Option Connection) → At (ours d) (λ wish. called (run_of wish d ms) x) (took_in d ms) (gave_in d ms) (said_in d ms) k → AtMoments ms3 d k
-    at_own k = at_as (ours d) _ _ _ _ _ _ _ _ k (λ wish. sym (run_more wish d ms x)) (ap (λ es. bytes_taken answer accepts d es r0) (sym (serves_same ms d x))) (sym (gave_still d)) (ap (λ es. all_said answer accepts d es r0) (sym (serves_same ms d x)))
+    at_own k = at_as (ours d) _ _ _ _ _ _ _ _ k (λ wish. sym (run_more wish d ms x)) (ap (λ es. bytes_taken answer welcomes d es r0) (sym (serves_same ms d x))) (sym (gave_still d)) (ap (λ es. all_said answer welcomes d es r0) (sym (serves_same ms d x)))

@@ -1,9 +1,9 @@
 -- Calls at both ends, from the first to the last, and the losses of clients at the end of them.
-use Rattle.std.proofs.Common.{◌≡◌, ◌≢◌, refl, sym, ◌∙◌, ap, subst, ℕ, zero, suc, ◌≤◌, ◌<◌, Bool, true, false, Option, Some, None, Ok, List, [], ◌∷◌, ◌++◌, slice_get, append-nil, append_assoc, ⊎_elim, arith}
+use Rattle.std.proofs.Common.{◌≡◌, ◌≢◌, refl, sym, ◌∙◌, ap, subst, ℕ, zero, suc, ◌≤◌, ◌<◌, true, false, Option, Some, None, Ok, List, [], ◌∷◌, ◌++◌, slice_get, append-nil, append_assoc, ⊎_elim, arith}
 use Rattle.std.proofs.lemmas.Bool.{cases_Bool, cases_eq}
 use Rattle.std.proofs.lemmas.Option.{slice_get_within, same_Some}
 use Rattle.wire.specs.declared.Wish.{Wish}
-use Rattle.engine.specs.Prelude.{EntryView}
+use Rattle.engine.specs.Prelude.{EntryView, Welcome}
 use Rattle.session.specs.Prelude.{Setting}
 use Rattle.server.specs.Prelude.{Rest, empty, work_at, after_events, Event as Call}
 use Rattle.world.specs.Prelude.{Connection, bytes_delivered, World, ClientLost, SawNothing, quiet, ledger, empty as empty_world, at_conn, at_peer, with_effect, after_effect, IsLedger, Reached, begins, goes_on, server_rest, Definition, setting_of}
@@ -21,9 +21,9 @@ calls_before [] e later = refl
 calls_before (serves d ∷ before) e later = ap (λ z. d ∷ z) (calls_before before e later)
 calls_before (asks c x ∷ before) e later = calls_before before e later
 
-module _ {G : Type 0} (answer : Definition) (accepts : G → List ℕ → List ℕ → Bool) (gate : G) (ours : ℕ → Option Wish) (brought : List EntryView) (is : IsLedger brought) where
+module _ {G : Type 0} (answer : Definition) (welcomes : G → Welcome) (gate : G) (ours : ℕ → Option Wish) (brought : List EntryView) (is : IsLedger brought) where
   abbrev S : Setting
-  S = setting_of answer accepts gate
+  S = setting_of answer welcomes gate
 
   abbrev rest : World → Rest G
   rest w = server_rest gate w
@@ -32,27 +32,27 @@ module _ {G : Type 0} (answer : Definition) (accepts : G → List ℕ → List �
   r0 = empty brought gate
 
   abbrev StandsIn : List Moment → Type 0
-  StandsIn ms = Stands answer accepts gate ours brought ms
+  StandsIn ms = Stands answer welcomes gate ours brought ms
 
   -- before the first call
   first : StandsIn []
   first = record {
     world = empty_world brought;
     reached = begins is;
-    server = begun answer accepts gate brought;
+    server = begun answer welcomes gate brought;
     at = λ c. record { taken = refl; given = refl; told = refl; side = λ wish e. (refl, refl) };
   }
 
-  module _ (ms : List Moment) (played : ArePlayed answer accepts ours ms r0) where
+  module _ (ms : List Moment) (played : ArePlayed answer welcomes ours ms r0) where
     -- one more call
     moment : (before : List Moment) (m : Moment) (later : List Moment) → before ++ m ∷ later ≡ ms → StandsIn before → StandsIn (before ++ m ∷ [])
     moment before (serves e) later at st =
-        calls answer accepts gate ours brought before st e
-        (λ conn is. subst (λ z. counted_if (work_at answer accepts conn z)) (sym st.server)
+        calls answer welcomes gate ours brought before st e
+        (λ conn is. subst (λ z. counted_if (work_at answer welcomes conn z)) (sym st.server)
         (played.counted (server_calls before) (server_calls later) conn (ap (λ z. server_calls before ++ z ∷ server_calls later) (sym is) ∙ sym (calls_before before e later) ∙ ap server_calls at)))
         (λ c wish mine. played.linked (before ++ serves e ∷ []) later c wish mine (append_assoc before (serves e ∷ []) later ∙ at))
     moment before (asks c x) later at st =
-        asked answer accepts gate ours brought before st c x (λ d wish mine. played.linked (before ++ asks c x ∷ []) later d wish mine (append_assoc before (asks c x ∷ []) later ∙ at))
+        asked answer welcomes gate ours brought before st c x (λ d wish mine. played.linked (before ++ asks c x ∷ []) later d wish mine (append_assoc before (asks c x ∷ []) later ∙ at))
         (λ wish q mine is. played.written before later c wish q mine (ap (λ z. before ++ asks c z ∷ later) (sym is) ∙ at))
 
     moments : (later before : List Moment) → before ++ later ≡ ms → StandsIn before → StandsIn ms
@@ -71,13 +71,13 @@ module _ {G : Type 0} (answer : Definition) (accepts : G → List ℕ → List �
 
     pub record IsHere (n c : ℕ) (k : Connection) : Type 0 where
       pub peer : k.peer ≡ peer_by (ours c)
-      pub told : answers_among k.says ≡ all_said answer accepts c (server_calls ms) r0
+      pub told : answers_among k.says ≡ all_said answer welcomes c (server_calls ms) r0
       pub met : (wish : Wish) → ours c ≡ Some wish → IsMet n c wish k
 
     pub record Ends (n : ℕ) : Type 0 where
       pub world : World
       pub reached : Reached S brought world
-      pub server : rest world ≡ after_events answer accepts (server_calls ms) r0
+      pub server : rest world ≡ after_events answer welcomes (server_calls ms) r0
       pub here : (c : ℕ) (k : Connection) → slice_get world.conns c ≡ Some k → IsHere n c k
 
     at_first : Ends 0
@@ -86,7 +86,7 @@ module _ {G : Type 0} (answer : Definition) (accepts : G → List ℕ → List �
       reached = stands.reached;
       server = stands.server;
       here = λ c k h.
-          let f = subst (AtMoments answer accepts gate ours brought ms c) h (stands.at c) in
+          let f = subst (AtMoments answer welcomes gate ours brought ms c) h (stands.at c) in
           record {
             peer = f.peer;
             told = f.told;
@@ -169,10 +169,10 @@ module _ {G : Type 0} (answer : Definition) (accepts : G → List ℕ → List �
     ends (suc n) = next n (ends n)
 
     -- each client whose connection was opened
-    pub last : Ends (after_events answer accepts (server_calls ms) r0).next
-    last = ends (after_events answer accepts (server_calls ms) r0).next
+    pub last : Ends (after_events answer welcomes (server_calls ms) r0).next
+    last = ends (after_events answer welcomes (server_calls ms) r0).next
 
-    pub opened : (c : ℕ) (k : Connection) → slice_get last.world.conns c ≡ Some k → c < (after_events answer accepts (server_calls ms) r0).next
+    pub opened : (c : ℕ) (k : Connection) → slice_get last.world.conns c ≡ Some k → c < (after_events answer welcomes (server_calls ms) r0).next
     opened c k h = subst (λ n. c < n) (ap (λ (z : Rest G). z.next) last.server) (slice_get_within last.world.conns c k h)
 
     pub at_attempt : (c : ℕ) (k : Connection) (wish : Wish) → ours c ≡ Some wish → slice_get last.world.conns c ≡ Some k → IsAt last.world c k (attempt_of wish c ms)
@@ -180,7 +180,7 @@ module _ {G : Type 0} (answer : Definition) (accepts : G → List ℕ → List �
         let g = last.here c k h in let m = g.met wish mine in
         record { here = h; ours = g.peer ∙ ap peer_by mine; sent = m.sent; took = m.took; lost = m.lost (opened c k h) }
 
-    pub is_run : IsRun answer accepts gate ours brought ms
+    pub is_run : IsRun answer welcomes gate ours brought ms
     is_run = record {
       after = last.world;
       behind = record { reached = last.reached; server = last.server };
@@ -188,5 +188,5 @@ module _ {G : Type 0} (answer : Definition) (accepts : G → List ℕ → List �
       foreign = λ c k strange h. (last.here c k h).peer ∙ ap peer_by strange;
     }
 
-pub are_runs : {G : Type 0} (answer : Definition) (accepts : G → List ℕ → List ℕ → Bool) (gate : G) (ours : ℕ → Option Wish) → AreRuns answer accepts gate ours
-are_runs answer accepts gate ours brought ms is played = is_run answer accepts gate ours brought is ms played
+pub are_runs : {G : Type 0} (answer : Definition) (welcomes : G → Welcome) (gate : G) (ours : ℕ → Option Wish) → AreRuns answer welcomes gate ours
+are_runs answer welcomes gate ours brought ms is played = is_run answer welcomes gate ours brought is ms played

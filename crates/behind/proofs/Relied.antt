@@ -1,5 +1,5 @@
 -- What clients of ours may rely on, by the calls at both ends alone.
-use Rattle.std.proofs.Common.{map, nat_le, ◌≡◌, refl, sym, ◌∙◌, ap, ap₂, subst, ℕ, zero, suc, arith, ◌<◌, ◌==◌, Bool, if◌then◌else◌, Option, Some, None, List, [], ◌∷◌, ◌++◌, take, slice_get, length}
+use Rattle.std.proofs.Common.{map, nat_le, ◌≡◌, refl, sym, ◌∙◌, ap, ap₂, subst, ℕ, zero, suc, arith, ◌<◌, ◌==◌, if◌then◌else◌, Option, Some, None, List, [], ◌∷◌, ◌++◌, take, slice_get, length}
 use Rattle.std.proofs.lemmas.Bool.{cond-true, cond-false, cond_both}
 use Rattle.wire.specs.declared.Wish.{Wish}
 use Rattle.wire.specs.Prelude.{bytes_newest_first}
@@ -7,7 +7,7 @@ use Rattle.messages.specs.Prelude.{RequestView, Heard, heard_bytes}
 use Rattle.machine.specs.Prelude.{phase_of}
 use Rattle.client.specs.Prelude.{Got, GotRow, Reading, reading_of}
 use Rattle.client.proofs.Runs.{tells_by_bytes}
-use Rattle.engine.specs.Prelude.{EntryView, Token, TokensOnce}
+use Rattle.engine.specs.Prelude.{EntryView, Token, TokensOnce, Welcome}
 use Rattle.session.specs.Prelude.{Setting, Change, Tx}
 use Rattle.server.specs.Prelude.{Rest, empty, after_events}
 use Rattle.world.specs.Good.{Often}
@@ -86,16 +86,16 @@ brought_is S brought (begins l) = refl
 brought_is S brought (goes_on w w2 e seen r s) = (grows_by_work S w e seen w2 s.steps).0 ∙ brought_is S brought r
 brought_is S brought (takes_out w c n r) = taken_brought w c n (slice_get w.conns c) ∙ brought_is S brought r
 
-module _ {G : Type 0} (answer : Definition) (accepts : G → List ℕ → List ℕ → Bool) (gate : G) (ours : ℕ → Option Wish) (brought : List EntryView) (is : IsLedger brought)
-    (ms : List Moment) (played : ArePlayed answer accepts ours ms (empty brought gate)) where
+module _ {G : Type 0} (answer : Definition) (welcomes : G → Welcome) (gate : G) (ours : ℕ → Option Wish) (brought : List EntryView) (is : IsLedger brought)
+    (ms : List Moment) (played : ArePlayed answer welcomes ours ms (empty brought gate)) where
   abbrev S : Setting
-  S = setting_of answer accepts gate
+  S = setting_of answer welcomes gate
 
   abbrev after : Rest G
-  after = after_events answer accepts (server_calls ms) (empty brought gate)
+  after = after_events answer welcomes (server_calls ms) (empty brought gate)
 
-  abbrev e : Ends answer accepts gate ours brought is ms played after.next
-  e = last answer accepts gate ours brought is ms played
+  abbrev e : Ends answer welcomes gate ours brought is ms played after.next
+  e = last answer welcomes gate ours brought is ms played
 
   abbrev w : World
   w = e.world
@@ -103,17 +103,17 @@ module _ {G : Type 0} (answer : Definition) (accepts : G → List ℕ → List �
   ledger_is : ledger w ≡ after.ledger
   ledger_is = ap (λ (z : Rest G). z.ledger) e.server
 
-  relies : (c : ℕ) (wish : Wish) → ours c ≡ Some wish → (k : Connection) → slice_get w.conns c ≡ Some k → Relies answer accepts gate wish c ms (empty brought gate) w.since after.ledger
+  relies : (c : ℕ) (wish : Wish) → ours c ≡ Some wish → (k : Connection) → slice_get w.conns c ≡ Some k → Relies answer welcomes gate wish c ms (empty brought gate) w.since after.ledger
   relies c wish mine k here =
-      let at = at_attempt answer accepts gate ours brought is ms played c k wish mine here in
+      let at = at_attempt answer welcomes gate ours brought is ms played c k wish mine here in
       let good = all_good S brought w e.reached c k wish here at.ours in
-      let its : (i : ℕ) → change S w k i ≡ change_of answer accepts gate wish c ms (empty brought gate) after.ledger i =
+      let its : (i : ℕ) → change S w k i ≡ change_of answer welcomes gate wish c ms (empty brought gate) after.ledger i =
       λ i. ap (λ qs. change_for S (ledger w) (slice_get qs i) (before i k.says)) at.sent
       ∙ ap (λ all. change_for S all (slice_get (attempt_of wish c ms).sent i) (before i k.says)) ledger_is
       ∙ sym (change_among S after.ledger (slice_get (attempt_of wish c ms).sent i) i k.says)
       ∙ ap (λ xs. change_for S after.ledger (slice_get (attempt_of wish c ms).sent i) (before i xs)) (e.here c k here).told in
       let so = λ (o : Often) (i : ℕ) (h : StandsInWorld o c i w (change S w k i)).
-      subst (λ all. StandsSo o c i w.since all (change_of answer accepts gate wish c ms (empty brought gate) after.ledger i)) ledger_is
+      subst (λ all. StandsSo o c i w.since all (change_of answer welcomes gate wish c ms (empty brought gate) after.ledger i)) ledger_is
       (subst (StandsSo o c i w.since (ledger w)) (its i) (stands_in o c i w (change S w k i) h)) in
       let run = run_of wish c ms in
       let reads : heard_by_bytes k ≡ reading_of wish run.sent run.took =
@@ -134,7 +134,7 @@ module _ {G : Type 0} (answer : Definition) (accepts : G → List ℕ → List �
   found : (c : ℕ) → c < after.next → (k : Connection) × (slice_get w.conns c ≡ Some k)
   found c l = there w.conns c (subst (λ n. c < n) (sym (ap (λ (z : Rest G). z.next) e.server)) l)
 
-  pub is_true : IsTrue answer accepts gate ours brought ms after
+  pub is_true : IsTrue answer welcomes gate ours brought ms after
   is_true = record {
     since = w.since;
     grows = sym ledger_is ∙ ap (λ b. b ++ w.since) (brought_is S brought e.reached);
@@ -142,5 +142,5 @@ module _ {G : Type 0} (answer : Definition) (accepts : G → List ℕ → List �
     each = λ c wish mine l. relies c wish mine (found c l).0 (found c l).1;
   }
 
-pub clients_may_rely : {G : Type 0} (answer : Definition) (accepts : G → List ℕ → List ℕ → Bool) (gate : G) (ours : ℕ → Option Wish) → ClientsMayRely answer accepts gate ours
-clients_may_rely answer accepts gate ours brought ms is played = is_true answer accepts gate ours brought is ms played
+pub clients_may_rely : {G : Type 0} (answer : Definition) (welcomes : G → Welcome) (gate : G) (ours : ℕ → Option Wish) → ClientsMayRely answer welcomes gate ours
+clients_may_rely answer welcomes gate ours brought ms is played = is_true answer welcomes gate ours brought is ms played

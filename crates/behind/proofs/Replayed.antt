@@ -1,7 +1,7 @@
 -- Each call on a server is an event of a world whose peers are foreign, or is refused in both.
 use Rattle.std.proofs.Common.{◌≡◌, refl, sym, ◌∙◌, ap, subst, ℕ, ◌+◌, ◌-◌, ◌≤◌, ◌^◌, min, max, Bool, true, false, not, ◌||◌, if◌then◌else◌, nat_le, is_some, Option, Some, None, Result, Ok, Err, IsErr, List, [], ◌∷◌, ◌++◌, length, map, slice_get, append-nil, inl, inr, ⊎_elim, true≢false, arith}
 use Rattle.std.proofs.lemmas.Bool.{cond-true, cond-false, cases_Bool}
-use Rattle.engine.specs.Prelude.{EntryView}
+use Rattle.engine.specs.Prelude.{EntryView, Welcome}
 use Rattle.session.specs.declared.Cause.{Cause}
 use Rattle.session.specs.declared.What.{What}
 use Rattle.session.specs.declared.Worked.{Worked}
@@ -39,9 +39,9 @@ pub some_is : {A : Type 0} (o : Option A) → is_some o ≡ true → (x : A) × 
 some_is (Some x) h = (x, refl)
 some_is None h = cc
 
-module _ {G : Type 0} (answer : Definition) (accepts : G → List ℕ → List ℕ → Bool) (gate : G) (brought : List EntryView) where
+module _ {G : Type 0} (answer : Definition) (welcomes : G → Welcome) (gate : G) (brought : List EntryView) where
   abbrev S : Setting
-  S = setting_of answer accepts gate
+  S = setting_of answer welcomes gate
 
   abbrev rest : World → Rest G
   rest w = server_rest gate w
@@ -50,16 +50,16 @@ module _ {G : Type 0} (answer : Definition) (accepts : G → List ℕ → List �
   record Goes (w : World) (call : Call) : Type 0 where
     after : World
     follows : Follows S w (event_of call) after
-    server : rest after ≡ after_event answer accepts call (rest w)
+    server : rest after ≡ after_event answer welcomes call (rest w)
     foreign : AllForeign after
 
   -- what a step tells is counted
   abbrev Counts : Call → Rest G → Type 0
-  Counts call r = (conn : ℕ) → call ≡ works conn → counted_if (work_at answer accepts conn r)
+  Counts call r = (conn : ℕ) → call ≡ works conn → counted_if (work_at answer welcomes conn r)
 
   module _ (w : World) (reached : Reached S brought w) (all : AllForeign w) where
     -- it is refused by both
-    refused : (call : Call) (x : Refusal) → step S w (event_of call) ≡ Err x → after_event answer accepts call (rest w) ≡ rest w → Goes w call
+    refused : (call : Call) (x : Refusal) → step S w (event_of call) ≡ Err x → after_event answer welcomes call (rest w) ≡ rest w → Goes w call
     refused call x e same = record { after = w; follows = inr (subst IsErr (sym e) refl, refl); server = sym same; foreign = all }
 
     goes_open : Goes w opens
@@ -91,7 +91,7 @@ module _ {G : Type 0} (answer : Definition) (accepts : G → List ℕ → List �
       at_foreign_peer : (e : Event) (x : Effect) → at_peer S c (ledger w) e Foreign k ≡ Ok x → at_conn S w e c (slice_get w.conns c) ≡ Ok (after_effect w c k x, x.seen)
       at_foreign_peer e x h = ap (at_conn S w e c) here ∙ ap (with_effect w c k) (ap (λ p. at_peer S c (ledger w) e p k) f.peer ∙ h)
 
-      done : (call : Call) (x : Effect) (wstep : WStep S w (event_of call) x.seen (after_effect w c k x)) → rest (after_effect w c k x) ≡ after_event answer accepts call (rest w) → IsForeign x.conn → Goes w call
+      done : (call : Call) (x : Effect) (wstep : WStep S w (event_of call) x.seen (after_effect w c k x)) → rest (after_effect w c k x) ≡ after_event answer welcomes call (rest w) → IsForeign x.conn → Goes w call
       done call x wstep same g = record {
         after = after_effect w c k x;
         follows = inl (x.seen, wstep);
@@ -128,7 +128,7 @@ module _ {G : Type 0} (answer : Definition) (accepts : G → List ℕ → List �
               made = tt;
               counted = tt;
             })
-            (still (SawWork (Worked.Ended end.0)) ∙ sym (idle_call gate w c was (λ l. after_step l (work_kept (setting answer accepts (rest w)) l.conn (rest w).ledger l.kept l.kept.ended) (rest w)))) f
+            (still (SawWork (Worked.Ended end.0)) ∙ sym (idle_call gate w c was (λ l. after_step l (work_kept (setting answer welcomes (rest w)) l.conn (rest w).ledger l.kept l.kept.ended) (rest w)))) f
 
         gone_noops : Goes w (noops c)
         gone_noops =
@@ -166,7 +166,7 @@ module _ {G : Type 0} (answer : Definition) (accepts : G → List ℕ → List �
 
         live_works : Counts (works c) (rest w) → Goes w (works c)
         live_works counts =
-            let x = work S c (ledger w) k in let served = work_served G gate w c k here alive s answer accepts in
+            let x = work S c (ledger w) k in let served = work_served G gate w c k here alive s answer welcomes in
             done (works c) x (record { steps = at_foreign_peer (Work c) x refl; made = tt; counted = subst counted_if served (counts c refl) })
             (ap (λ o. after_call o (rest w)) (sym served)) (speaks_foreign (work_speaks S c (ledger w) k) f)
 
@@ -214,7 +214,7 @@ module _ {G : Type 0} (answer : Definition) (accepts : G → List ℕ → List �
         (λ k here t. gone_feeds c k here t piece) (λ k here n. live_feeds c k here n piece)
     goes (works c) counts =
         at_place c (works c)
-        (λ none. refused (works c) V1 (ap (at_conn S w (Work c) c) none) (idle_call gate w c (nowhere c none) (λ l. after_step l (work_kept (setting answer accepts (rest w)) l.conn (rest w).ledger l.kept l.kept.ended) (rest w))))
+        (λ none. refused (works c) V1 (ap (at_conn S w (Work c) c) none) (idle_call gate w c (nowhere c none) (λ l. after_step l (work_kept (setting answer welcomes (rest w)) l.conn (rest w).ledger l.kept l.kept.ended) (rest w))))
         (λ k here t. gone_works c k here t) (λ k here n. live_works c k here n counts)
     goes (takes c n) counts =
         at_place c (takes c n)
@@ -238,35 +238,35 @@ module _ {G : Type 0} (answer : Definition) (accepts : G → List ℕ → List �
     after : World
     replays : Replays S w (map event_of calls) after
     reached : Reached S brought after
-    server : rest after ≡ after_events answer accepts calls (rest w)
+    server : rest after ≡ after_events answer welcomes calls (rest w)
     foreign : AllForeign after
 
-  leads : (calls : List Call) (w : World) → Reached S brought w → AllForeign w → AreCounted answer accepts calls (rest w) → Leads w calls
+  leads : (calls : List Call) (w : World) → Reached S brought w → AllForeign w → AreCounted answer welcomes calls (rest w) → Leads w calls
   leads [] w r all counted = record { after = w; replays = refl; reached = r; server = refl; foreign = all }
   leads (call ∷ calls) w r all counted =
       let g = goes w r all call (λ conn is. counted [] calls conn (ap (λ z. z ∷ calls) (sym is))) in
       let l = leads calls g.after (reached_after w g.after (event_of call) r g.follows) g.foreign
-      (subst (AreCounted answer accepts calls) (sym g.server) (λ before later conn e. counted (call ∷ before) later conn (ap (λ z. call ∷ z) e))) in
+      (subst (AreCounted answer welcomes calls) (sym g.server) (λ before later conn e. counted (call ∷ before) later conn (ap (λ z. call ∷ z) e))) in
       record {
         after = l.after;
         replays = (g.after, g.follows, l.replays);
         reached = l.reached;
-        server = l.server ∙ ap (after_events answer accepts calls) g.server;
+        server = l.server ∙ ap (after_events answer welcomes calls) g.server;
         foreign = l.foreign;
       }
 
-module _ {G : Type 0} (answer : Definition) (accepts : G → List ℕ → List ℕ → Bool) (gate : G) where
+module _ {G : Type 0} (answer : Definition) (welcomes : G → Welcome) (gate : G) where
   -- the server at the beginning
   pub begun : (brought : List EntryView) → server_rest gate (empty_world brought) ≡ empty brought gate
   begun brought = ap (λ es. empty es gate) (append-nil brought)
 
-  pub are_events : AreEvents answer accepts gate
+  pub are_events : AreEvents answer welcomes gate
   are_events brought calls is counted =
-      let l = leads answer accepts gate brought calls (empty_world brought) (begins is) (λ c k h. cc)
-      (subst (AreCounted answer accepts calls) (sym (begun brought)) counted) in
+      let l = leads answer welcomes gate brought calls (empty_world brought) (begins is) (λ c k h. cc)
+      (subst (AreCounted answer welcomes calls) (sym (begun brought)) counted) in
       record {
         after = l.after;
         replays = l.replays;
-        behind = record { reached = l.reached; server = l.server ∙ ap (after_events answer accepts calls) (begun brought) };
+        behind = record { reached = l.reached; server = l.server ∙ ap (after_events answer welcomes calls) (begun brought) };
         foreign = λ c k h. (l.foreign c k h).peer;
       }

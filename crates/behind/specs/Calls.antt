@@ -1,6 +1,7 @@
 -- Lists of calls on a server as events of a world whose peers are foreign.
-use Rattle.std.specs.Prelude.{◌≡◌, ℕ, Bool, Option, Some, None, List, ◌∷◌, ◌++◌, map, slice_get}
+use Rattle.std.specs.Prelude.{◌≡◌, ℕ, Option, Some, None, List, ◌∷◌, ◌++◌, map, slice_get}
 use Rattle.engine.specs.Views.{EntryView}
+use Rattle.engine.specs.Welcomes.{Welcome}
 use Rattle.session.specs.declared.Worked.{Worked}
 use Rattle.session.specs.Rest.{IsCounted}
 use Rattle.server.specs.Serving.{Rest, empty, work_at}
@@ -11,7 +12,7 @@ use Rattle.world.specs.Rests.{server_rest}
 use Rattle.world.specs.Contract.{Replays}
 use Rattle.world.specs.Turns.{Definition, setting_of}
 
--- the event that a call is where the peer is foreign; bytes that are taken out of a session reach its peer at once
+-- the event that a call is if the peer is foreign; bytes that are taken out of a session reach its peer at once
 abbrev pub event_of : Call → Event
 event_of opens = Opens Foreign
 event_of (feeds conn piece) = Feeds conn piece
@@ -20,29 +21,29 @@ event_of (takes conn max) = ToClient conn max
 event_of (noops conn) = PutsNoop conn
 event_of (loses conn) = ServerLost conn
 
--- a commit that a step told is of a ledger shorter than 2^63; where no session has the number, nothing was told
+-- a commit that a step told is of a ledger shorter than 2^63; if no session has the number, nothing was told
 abbrev pub counted_if : {G : Type 0} → Option (Worked × Rest G) → Type 0
 counted_if None = Unit {0}
 counted_if (Some p) = IsCounted p.0
 
-module _ {G : Type 0} (answer : Definition) (accepts : G → List ℕ → List ℕ → Bool) where
+module _ {G : Type 0} (answer : Definition) (welcomes : G → Welcome) where
   -- Each commit that these calls told is of a ledger shorter than 2^63, as `work` promises.
   abbrev pub AreCounted : List Call → Rest G → Type 0
   AreCounted calls r = (before later : List Call) (conn : ℕ) → before ++ works conn ∷ later ≡ calls
-      → counted_if (work_at answer accepts conn (after_events answer accepts before r))
+      → counted_if (work_at answer welcomes conn (after_events answer welcomes before r))
 
   -- A world of which the server is this one: its sessions keep what the connections tell, and the ledgers are one.
   pub record IsBehind (gate : G) (brought : List EntryView) (r : Rest G) (w : World) : Type 0 where
-    pub reached : Reached (setting_of answer accepts gate) brought w
+    pub reached : Reached (setting_of answer welcomes gate) brought w
     pub server : server_rest gate w ≡ r
 
   -- A world to which the events that these calls are lead, those left out that are refused, and of which the server is the one that the
   -- calls led to. Each of its peers is foreign.
   pub record IsReplayed (gate : G) (ledger : List EntryView) (calls : List Call) : Type 0 where
     pub after : World
-    pub replays : Replays (setting_of answer accepts gate) (empty_world ledger) (map event_of calls)
+    pub replays : Replays (setting_of answer welcomes gate) (empty_world ledger) (map event_of calls)
         after
-    pub behind : IsBehind gate ledger (after_events answer accepts calls (empty ledger gate)) after
+    pub behind : IsBehind gate ledger (after_events answer welcomes calls (empty ledger gate)) after
     pub foreign : (conn : ℕ) (k : Connection) → slice_get after.conns conn ≡ Some k
         → k.peer ≡ Foreign
 

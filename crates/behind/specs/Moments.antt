@@ -1,7 +1,8 @@
 -- Calls at both ends in the order of time: on one server, and on clients of ours at the other ends of its connections.
-use Rattle.std.specs.Prelude.{◌≡◌, ℕ, ◌==◌, if◌then◌else◌, Bool, Option, Some, None, List, [], ◌∷◌, ◌++◌}
+use Rattle.std.specs.Prelude.{◌≡◌, ℕ, ◌==◌, if◌then◌else◌, Option, Some, None, List, [], ◌∷◌, ◌++◌}
 use Rattle.wire.specs.declared.Wish.{Wish}
 use Rattle.messages.specs.View.{RequestView}
+use Rattle.engine.specs.Welcomes.{Welcome}
 use Rattle.server.specs.Serving.{Rest}
 use Rattle.server.specs.Running.{Event as Call}
 use Rattle.server.specs.Past.{bytes_taken}
@@ -47,18 +48,18 @@ attempt_of wish conn ms = attempt_by wish (run_of wish conn ms)
 abbrev pub IsFront : List ℕ → List ℕ → Type 0
 IsFront front whole = (rest : List ℕ) × (front ++ rest ≡ whole)
 
-module _ {G : Type 0} (answer : Definition) (accepts : G → List ℕ → List ℕ → Bool) where
+module _ {G : Type 0} (answer : Definition) (welcomes : G → Welcome) where
   -- By these moments the session of a connection took a front of what came out of its client, and the client one of what came out of the
   -- session.
   pub record IsLinked (wish : Wish) (conn : ℕ) (ms : List Moment) (r : Rest G) : Type 0 where
-    pub up : IsFront (bytes_taken answer accepts conn (server_calls ms) r) (run_of wish conn ms).out
+    pub up : IsFront (bytes_taken answer welcomes conn (server_calls ms) r) (run_of wish conn ms).out
     pub down : IsFront (run_of wish conn ms).took
-        (bytes_given answer accepts conn (server_calls ms) r)
+        (bytes_given answer welcomes conn (server_calls ms) r)
 
   -- Calls from this server on, where the clients of ours are these: by the number of a connection what its client wishes, and None where its
   -- peer is foreign.
   pub record ArePlayed (ours : ℕ → Option Wish) (ms : List Moment) (r : Rest G) : Type 0 where
-    pub counted : AreCounted answer accepts (server_calls ms) r
+    pub counted : AreCounted answer welcomes (server_calls ms) r
     -- after each of them no byte came that wasn't sent
     pub linked : (before later : List Moment) (conn : ℕ) (wish : Wish) → ours conn ≡ Some wish
         → before ++ later ≡ ms → IsLinked wish conn before r

@@ -1,7 +1,8 @@
 -- Calls at both ends as runs of a world.
-use Rattle.std.specs.Prelude.{◌≡◌, ℕ, Bool, Option, Some, None, List, slice_get}
+use Rattle.std.specs.Prelude.{◌≡◌, ℕ, Option, Some, None, List, slice_get}
 use Rattle.wire.specs.declared.Wish.{Wish}
 use Rattle.engine.specs.Views.{EntryView}
+use Rattle.engine.specs.Welcomes.{Welcome}
 use Rattle.server.specs.Serving.{empty}
 use Rattle.server.specs.Running.{after_events}
 use Rattle.world.specs.Connections.{Connection, Foreign}
@@ -11,14 +12,14 @@ use Rattle.known.specs.Tied.{IsAt}
 use Rattle.behind.specs.Calls.{IsBehind}
 use Rattle.behind.specs.Moments.{Moment, server_calls, attempt_of, ArePlayed}
 
-module _ {G : Type 0} (answer : Definition) (accepts : G → List ℕ → List ℕ → Bool) where
+module _ {G : Type 0} (answer : Definition) (welcomes : G → Welcome) where
   -- A world of which the server is the one that the calls led to, and the connections of these clients are their attempts; each other peer
   -- is foreign.
   pub record IsRun (gate : G) (ours : ℕ → Option Wish) (ledger : List EntryView)
       (ms : List Moment) : Type 0 where
     pub after : World
-    pub behind : IsBehind answer accepts gate ledger
-        (after_events answer accepts (server_calls ms) (empty ledger gate)) after
+    pub behind : IsBehind answer welcomes gate ledger
+        (after_events answer welcomes (server_calls ms) (empty ledger gate)) after
     pub attempts : (conn : ℕ) (k : Connection) (wish : Wish) → ours conn ≡ Some wish
         → slice_get after.conns conn ≡ Some k → IsAt after conn k (attempt_of wish conn ms)
     pub foreign : (conn : ℕ) (k : Connection) → ours conn ≡ None
@@ -27,4 +28,4 @@ module _ {G : Type 0} (answer : Definition) (accepts : G → List ℕ → List �
   -- Calls on a server that was made over a ledger, and on these clients, are a run.
   abbrev pub AreRuns : G → (ℕ → Option Wish) → Type 0
   AreRuns gate ours = (ledger : List EntryView) (ms : List Moment) → IsLedger ledger
-      → ArePlayed answer accepts ours ms (empty ledger gate) → IsRun gate ours ledger ms
+      → ArePlayed answer welcomes ours ms (empty ledger gate) → IsRun gate ours ledger ms

@@ -1,8 +1,9 @@
 -- What clients of ours may rely on, by the calls at both ends alone.
-use Rattle.std.specs.Prelude.{◌≡◌, ◌⊎◌, ℕ, ◌<◌, ◌==◌, if◌then◌else◌, Bool, Option, Some, None, List, [], ◌∷◌, ◌++◌, length, slice_get}
+use Rattle.std.specs.Prelude.{◌≡◌, ◌⊎◌, ℕ, ◌<◌, ◌==◌, if◌then◌else◌, Option, Some, None, List, [], ◌∷◌, ◌++◌, length, slice_get}
 use Rattle.wire.specs.declared.Wish.{Wish}
 use Rattle.engine.specs.Views.{EntryView, Token}
 use Rattle.engine.specs.Tokens.{under_token, TokensOnce}
+use Rattle.engine.specs.Welcomes.{Welcome}
 use Rattle.session.specs.Session.{Change}
 use Rattle.session.specs.Rest.{work_kept}
 use Rattle.server.specs.Serving.{Live, Rest, empty, find, setting}
@@ -36,12 +37,12 @@ pub record TellsFront (said : List Said) (told : List Told) : Type 0 where
   pub parts : said ≡ later ++ heard
   pub tells : told ≡ tellings_of heard
 
-module _ {G : Type 0} (answer : Definition) (accepts : G → List ℕ → List ℕ → Bool) where
-  -- the row or summary that a step of the session says; none where no session lives
+module _ {G : Type 0} (answer : Definition) (welcomes : G → Welcome) where
+  -- the row or summary that a step of the session says; none if no session lives
   abbrev pub step_said : Option Live → Rest G → List Said
   step_said None r = []
   step_said (Some s) r =
-      said_by (work_kept (setting answer accepts r) s.conn r.ledger s.kept s.kept.ended).answer
+      said_by (work_kept (setting answer welcomes r) s.conn r.ledger s.kept s.kept.ended).answer
 
   -- that of a session which a call said
   abbrev pub call_said : ℕ → Call → Rest G → List Said
@@ -52,11 +53,11 @@ module _ {G : Type 0} (answer : Definition) (accepts : G → List ℕ → List �
   abbrev pub all_said : ℕ → List Call → Rest G → List Said
   all_said conn [] r = []
   all_said conn (call ∷ calls) r =
-      all_said conn calls (after_event answer accepts call r) ++ call_said conn call r
+      all_said conn calls (after_event answer welcomes call r) ++ call_said conn call r
 
   -- what a request of the client of a connection changes, by the summaries before its own; all is the ledger
   abbrev pub change_of : G → Wish → ℕ → List Moment → Rest G → List EntryView → ℕ → Change
-  change_of gate wish conn ms r all i = change_for (setting_of answer accepts gate) all
+  change_of gate wish conn ms r all i = change_for (setting_of answer welcomes gate) all
       (slice_get (attempt_of wish conn ms).sent i) (before i (all_said conn (server_calls ms) r))
 
   -- What the client of a connection relies on: since are the entries since the server was made, and all is the ledger.
@@ -85,6 +86,6 @@ module _ {G : Type 0} (answer : Definition) (accepts : G → List ℕ → List �
   -- After calls on a server that was made over a ledger, and on these clients, this is so.
   abbrev pub ClientsMayRely : G → (ℕ → Option Wish) → Type 0
   ClientsMayRely gate ours = (ledger : List EntryView) (ms : List Moment) → IsLedger ledger
-      → ArePlayed answer accepts ours ms (empty ledger gate)
+      → ArePlayed answer welcomes ours ms (empty ledger gate)
       → IsTrue gate ours ledger ms
-      (after_events answer accepts (server_calls ms) (empty ledger gate))
+      (after_events answer welcomes (server_calls ms) (empty ledger gate))

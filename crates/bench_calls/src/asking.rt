@@ -18,7 +18,7 @@ pub(crate) trait Asks {
     /// Hears a piece, and counts what it tells, or keeps it.
     fn hear(&mut self, piece: &[u8], tally: &mut Tally) -> Result<(), Stopped>;
 
-    /// Counts what is kept, where no request waits, and forgets it.
+    /// Counts what is kept, if no request waits, and forgets it.
     fn settle(&mut self, tally: &mut Tally) -> Result<(), Stopped>;
 }
 

@@ -81,7 +81,7 @@ pub extern "C" fn bench_sessions(alloc: Global, count: u32, requests: u32) -> u6
     sessions(alloc, count, requests).unwrap_or(0)
 }
 
-/// A server alone works the requests of a recording with so many sessions; it answers as many bytes as are recorded, or, where they are
+/// A server alone works the requests of a recording with so many sessions; it answers as many bytes as are recorded, or, if they are
 /// watched, the bytes that are recorded.
 #[unsafe(no_mangle)]
 pub extern "C" fn bench_server_alone(

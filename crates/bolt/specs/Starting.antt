@@ -1,4 +1,4 @@
--- What is said where there are no words to tell a command by.
+-- What is said if there are no words to tell a command by.
 use Rattle.std.specs.Prelude.{ℕ, List, [], ◌∷◌, ◌++◌, codes}
 use Rattle.commands.specs.Refusals.{help_text}
 use Rattle.bolt.specs.declared.command_line.Unread.{Unread}

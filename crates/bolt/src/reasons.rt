@@ -10,7 +10,7 @@ use std::io;
 use std::io::ErrorKind;
 use streams::{Over, Sink, StreamFault, write_all};
 
-/// Says why a file isn't had: the fault on a line, and on the next the file and the system's reason, where there is memory for it.
+/// Says why a file isn't had: the fault on a line, and on the next the file and the system's reason, if there is memory for it.
 /// It answers the exit status.
 pub(crate) fn put_unread<E: Sink>(alloc: Global, file: &str, error: &io::Error, err: &mut E) -> u8
     ensures { (result ≡ 1) ⊎ (result ≡ 3) }
@@ -39,7 +39,7 @@ pub(crate) fn put_unreached<E: Sink>(
     status
 }
 
-/// Says why a stream failed, where it did by an error of the system and there is memory for it: what it is, and the reason.
+/// Says why a stream failed, if it did by an error of the system and there is memory for it: what it is, and the reason.
 pub(crate) fn put_failed<S, E: Sink>(alloc: Global, what: &str, stream: &Over<S>, err: &mut E) {
     if let Some(error) = stream.error() {
         put_reason(alloc, what, error, err);
@@ -60,7 +60,7 @@ pub(crate) fn put_lost<S, E: Sink>(alloc: Global, silence: &str, stream: &Over<S
     }
 }
 
-/// Says which host and port a shell is connected to, where there is memory for it.
+/// Says which host and port a shell is connected to, if there is memory for it.
 pub(crate) fn put_connected<E: Sink>(alloc: Global, host: &str, port: u16, err: &mut E) {
     if let Ok(text) = connected_line(alloc, host, port) {
         let _ = write_all(err, text.as_bytes());
@@ -84,7 +84,7 @@ fn place_name(alloc: Global, host: &str, port: u16) -> Result<String, AllocError
     Ok(text)
 }
 
-/// A name and the system's reason on a line, where there is memory for it.
+/// A name and the system's reason on a line, if there is memory for it.
 fn put_reason<E: Sink>(alloc: Global, name: &str, error: &io::Error, err: &mut E) {
     if let Ok(text) = format!(in alloc; "{name}: {error}\n") {
         let _ = write_all(err, text.as_bytes());

@@ -5,7 +5,7 @@ use commands::command;
 use std::fs::File;
 use streams::Over;
 
-/// Does the replay that the words ask for, with the file as its input: `fault I1` where it can't be opened, and on the next line why.
+/// Does the replay that the words ask for, with the file as its input: `fault I1` if it can't be opened, and on the next line why.
 pub(crate) fn replay_file(rt: &HostRuntime, words: &[String], file: &str) -> u8 {
     let opened = match File::open(rt, file) {
         Ok(opened) => opened,

@@ -27,7 +27,7 @@ pub(crate) const SILENCE: u64 = 60;
 /// How many seconds each read waits for what a peer still sends after the end.
 const LAST_WAIT: u64 = 1;
 
-/// A client at a shell, with the server at this port of the host: `fault I1` where it can't be reached, and on the next line why. Where it
+/// A client at a shell, with the server at this port of the host: `fault I1` if it can't be reached, and on the next line why. Where it
 /// can, that is said on standard error. A stream that fails then is told with the system's reason too, a server that says nothing for too
 /// long with that.
 pub(crate) fn shell_at(rt: &HostRuntime, host: &str, port: u16) -> u8 {

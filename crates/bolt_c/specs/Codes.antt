@@ -166,7 +166,7 @@ Opens old None n new = (n ≡ 10) × (new ≡ old)
 Opens old (Some w) n new =
     (n ≡ 0 → Opened w new) × ((n ≡ 0 → ⊥) → (n ≡ 5) × (new ≡ old))
 
--- `bolt_lost`: the outcome of each request that waited, where there is room for 32; else nothing has changed
+-- `bolt_lost`: the outcome of each request that waited, if there is room for 32; else nothing has changed
 pub record Loses (old : Held) (before : List Loss) (count result : ℕ) (after : List Loss)
     (told : ℕ) (new : Held) : Type 0 where
   pub short : length before < max_waiting

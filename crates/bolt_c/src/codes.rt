@@ -46,7 +46,7 @@ pub struct Heard {
     pub ordinal: u64,
     /// 0 for nothing, 1 for the version, 2 for a row, 3 for a summary.
     pub kind: u32,
-    /// Of the version, 44, 50 or 51, or 0 where none was taken.
+    /// Of the version, 44, 50 or 51, or 0 if none was taken.
     pub version: u32,
     /// Of a summary, what became of its request, 0 to 3.
     pub outcome: u32,
@@ -60,7 +60,7 @@ pub struct Heard {
 pub struct Loss {
     /// Its ordinal, from 0.
     pub ordinal: u64,
-    /// 4 where it is lost, 5 where it may have committed.
+    /// 4 if it is lost, 5 where it may have committed.
     pub outcome: u64,
 }
 
@@ -74,9 +74,9 @@ pub struct Standing {
     pub pending: u32,
     /// The phase of the last summary, 0 before one.
     pub phase: u32,
-    /// 44, 50 or 51, or 0 where none is known.
+    /// 44, 50 or 51, or 0 if none is known.
     pub version: u32,
-    /// 1 where the client has ended, else 0.
+    /// 1 if the client has ended, else 0.
     pub has_ended: u32,
     /// 1 where an answer is still to come, else 0.
     pub awaits: u32,

@@ -104,7 +104,7 @@ pub extern "C" fn bolt_take(
     }
 }
 
-/// Uses bytes of the server to the end of the item begun, and tells what ended with the last of them. Answers 4 where the client has ended,
+/// Uses bytes of the server to the end of the item begun, and tells what ended with the last of them. Answers 4 if the client has ended,
 /// 6 at a bad answer, 5 for want of memory: nothing was used then.
 #[unsafe(no_mangle)]
 pub extern "C" fn bolt_feed(
@@ -132,7 +132,7 @@ pub extern "C" fn bolt_feed(
 }
 
 /// The bytes of the row or summary that was heard last go into the buffer, as many as there is room for; tells how many there are. Answers 9
-/// where none was heard, 7 where it can't be written, 5 for want of memory: nothing has changed then.
+/// if none was heard, 7 if it can't be written, 5 for want of memory: nothing has changed then.
 #[unsafe(no_mangle)]
 pub extern "C" fn bolt_message(
     alloc: Global,
@@ -159,7 +159,7 @@ pub extern "C" fn bolt_message(
 }
 
 /// No byte comes any more: the client has ended, and the outcome of each request that waited goes into the buffer, in order.
-/// Where that hasn't room for 32, it answers 11, and nothing has changed.
+/// If that hasn't room for 32, it answers 11, and nothing has changed.
 #[unsafe(no_mangle)]
 pub extern "C" fn bolt_lost(
     alloc: Global,

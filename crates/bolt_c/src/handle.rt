@@ -75,7 +75,7 @@ impl Handle {
         })
     }
 
-    /// What it holds, which is left empty; nothing where it is null.
+    /// What it holds, which is left empty; nothing if it is null.
     pub(crate) fn take(&mut self, alloc: Global) -> Option<Box<Held>>
         ensures told { MatchOption result (self.old.held ≡ None) (λ b. self.old.held ≡ Some b.value) }
         ensures empty { self.new.held ≡ None }

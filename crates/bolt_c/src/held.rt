@@ -152,7 +152,7 @@ impl Held {
     }
 
     /// The bytes of the row or summary that was heard last go into the buffer, as many as there is room for; how many there are.
-    /// Where none was heard, or memory ran out, nothing has changed.
+    /// If none was heard, or memory ran out, nothing has changed.
     pub(crate) fn message(&self, alloc: Global, into: &mut [u8]) -> Result<usize, MessageFault>
         ensures { Tells (message_of (held_rest self.now).knows.version (last_of self.now))
             into.old result into.new }

@@ -69,7 +69,7 @@ abbrev pub is_between : ℤ → ℤ → Tree → Bool
 is_between low high (int z) = int_le low z && int_le z high
 is_between low high t = true
 
--- a number in a field of this kind is in the range of the kind, where that has one
+-- a number in a field of this kind is in the range of the kind, if that has one
 abbrev pub in_range : Field → Tree → Bool
 in_range Nanosecond t = is_between (pos 0) (pos 999999999) t
 in_range DayNanosecond t = is_between (pos 0) (pos 86399999999999) t

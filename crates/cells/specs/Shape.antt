@@ -29,7 +29,7 @@ numbers_of zs = list (trees_of (map int zs))
 abbrev pub dict_of : List (String Global × Tree) → Tree
 dict_of es = dict (entries_of (map (λ e. (string_bytes e.0, e.1)) es))
 
--- the element id where it is there
+-- the element id if it is there
 abbrev pub element_of : Option (String Global) → Trees
 element_of None = no_trees
 element_of (Some s) = tree_then (text_of s) no_trees
@@ -40,21 +40,21 @@ elements_of None = no_trees
 elements_of (Some e) = tree_then (text_of e.own)
     (tree_then (text_of e.start) (tree_then (text_of e.end) no_trees))
 
--- a node: id, labels, properties, and the element id where it is there
+-- a node: id, labels, properties, and the element id if it is there
 abbrev pub node_step : Node-F Tree Tree Tree Tree Tree → Tree
 node_step n =
     structure node_tag (tree_then (int n.id)
     (tree_then (texts_of n.labels.items)
     (tree_then (dict_of n.properties.items) (element_of n.element_id))))
 
--- a relationship in a path: id, type, properties, and the element id where it is there
+-- a relationship in a path: id, type, properties, and the element id if it is there
 abbrev pub unbound_step : UnboundRelationship-F Tree Tree Tree Tree Tree → Tree
 unbound_step r =
     structure unbound_tag (tree_then (int r.id)
     (tree_then (text_of r.kind)
     (tree_then (dict_of r.properties.items) (element_of r.element_id))))
 
--- a relationship: id, those of its ends, type, properties, and the element ids where they are there
+-- a relationship: id, those of its ends, type, properties, and the element ids if they are there
 abbrev pub relationship_step : Relationship-F Tree Tree Tree Tree Tree → Tree
 relationship_step r =
     structure relationship_tag

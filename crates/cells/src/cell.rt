@@ -52,13 +52,13 @@ pub enum Cell {
         nanos: i64,
         offset: i64,
     },
-    /// Local seconds in a named zone, where a version has no UTC times.
+    /// Local seconds in a named zone, if a version has no UTC times.
     ZonedLocal {
         seconds: i64,
         nanos: i64,
         zone: String,
     },
-    /// UTC seconds in a named zone, where a version has UTC times.
+    /// UTC seconds in a named zone, if a version has UTC times.
     ZonedUtc {
         seconds: i64,
         nanos: i64,
@@ -118,7 +118,7 @@ pub struct UnboundRelationship {
     pub element_id: Option<String>,
 }
 
-/// A walk from node 0. `indices` has in turn the number of a relationship, from 1, negative where it is
+/// A walk from node 0. `indices` has in turn the number of a relationship, from 1, negative if it is
 /// walked against its direction, and the number of the node that it leads to, from 0.
 #[derive(Debug, Drop)]
 #[cycle(cells)]

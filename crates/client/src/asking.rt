@@ -19,7 +19,7 @@ const HEADER: usize = 2;
 /// The most bytes of a chunk, whose length is two bytes.
 const MAX_CHUNK: usize = u16::MAX as usize;
 
-/// Appends the written run of a request; or nothing, and why: C7 or C3, C1 where it is no message of the version, or want of memory.
+/// Appends the written run of a request; or nothing, and why: C7 or C3, C1 if it is no message of the version, or want of memory.
 /// Its text is spelled behind the place of a header, which is written when its length is known.
 pub(crate) fn append(
     version: Version,

@@ -73,7 +73,7 @@ impl Client {
         })
     }
 
-    /// Takes a request, and answers its ordinal, from 0: it waits, and its bytes are to be taken out. It is taken exactly where
+    /// Takes a request, and answers its ordinal, from 0: it waits, and its bytes are to be taken out. It is taken exactly if
     /// the client is open, the version is known, each phase that may follow the requests that wait allows it, fewer than 32 wait,
     /// an ordinal is left, and it can be written.
     ///
@@ -92,7 +92,7 @@ impl Client {
         Ok(self.pipeline.place(request))
     }
 
-    /// The next bytes that aren't taken out, the smaller of `max` and what waits, after the client's end too; where that is none, without
+    /// The next bytes that aren't taken out, the smaller of `max` and what waits, after the client's end too; if that is none, without
     /// memory. Or C5, and nothing has changed.
     pub fn take_out(&mut self, max: usize) -> Result<Bytes, ClientFault>
         ensures ok { IfOk result (λ bytes. (bytes ≡ take max (rest_of self.old).unsent)
@@ -126,8 +126,8 @@ impl Client {
     /// Uses a piece of the server's bytes to the end of the item begun (the version answer, a no-op, a message), else all of it,
     /// and tells what ended with the last byte used.
     ///
-    /// C4 where the client has ended; C6 at a bad answer, with which it has ended: one that can't be read or is past 65,536 bytes, a
-    /// row where the first waiting request is no PULL, a summary that isn't accepted, a version that wasn't offered. C5 for want
+    /// C4 if the client has ended; C6 at a bad answer, with which it has ended: one that can't be read or is past 65,536 bytes, a
+    /// row if the first waiting request is no PULL, a summary that isn't accepted, a version that wasn't offered. C5 for want
     /// of memory: nothing was used, nothing has changed. Memory is wanted where data of the piece is kept and where a message ends: never
     /// for the version answer, headers and no-ops, and never once the message that isn't whole is known to be bad.
     #[inline(always)]
@@ -223,7 +223,7 @@ impl Client {
         self.pipeline.waiting.len()
     }
 
-    /// The ordinal of the first request that waits; where none does, that of the next. Takes no memory.
+    /// The ordinal of the first request that waits; if none does, that of the next. Takes no memory.
     pub fn first_waiting(&self) -> u64
         ensures { result ≡ (rest_of self.now).knows.first }
     {

@@ -28,13 +28,13 @@ pub data Ask : Type 0 where
   ToServe : ℕ → ℕ → Ask
   ToShell : Text → ℕ → Ask
 
--- the first word that makes words no command: its number, of which 1 is the command's name, the word, where it is there, and what is wanted
+-- the first word that makes words no command: its number, of which 1 is the command's name, the word, if it is there, and what is wanted
 pub record WrongWord : Type 0 where
   pub number : ℕ
   pub word : Option Text
   pub wanted : Wanted
 
--- there is no word of this number, where this is wanted
+-- there is no word of this number, if this is wanted
 abbrev pub missing_at : ℕ → Wanted → WrongWord
 missing_at n x = record { number = n; word = None; wanted = x }
 
@@ -86,7 +86,7 @@ abbrev pub said_at : {A : Type 0} → ℕ → Wanted → Text → List Text → 
 said_at n x word rest (Some a) = Ok (a, rest)
 said_at n x word rest None = Err (wrong_at n x word)
 
--- the first of the words, which has this number, by what a word says; it is wrong where it isn't there, or says nothing
+-- the first of the words, which has this number, by what a word says; it is wrong if it isn't there, or says nothing
 abbrev pub word_at : {A : Type 0} → (Text → Option A) → ℕ → Wanted → List Text → Reading A
 word_at says n x [] = Err (missing_at n x)
 word_at says n x (word ∷ rest) = said_at n x word rest (says word)

@@ -37,7 +37,7 @@ edits word name = levenshtein_row nat_eq (chars word) (chars name) (length (char
 abbrev pub guess : Text → Text → List ℕ
 guess word name = if nat_le (edits word name) 2 then codes ", perhaps " ++ name else []
 
--- each such name, where a command is wanted
+-- each such name, if a command is wanted
 abbrev pub guesses : Wanted → Text → List ℕ
 guesses want.Command word = flat_map (guess word) names
 guesses _ word = []
@@ -46,7 +46,7 @@ guesses _ word = []
 abbrev pub asks_help : ℕ → Text → Bool
 asks_help n word = bytes_eq word (codes "--help") || bytes_eq word (codes "-h") || (n == 1 && bytes_eq word (codes "help"))
 
--- a line that says which word is missing, and what is wanted; nothing where there is no word at all, which asks for help
+-- a line that says which word is missing, and what is wanted; nothing if there is no word at all, which asks for help
 abbrev pub missing_line : ℕ → Wanted → List ℕ
 missing_line n x = if n == 1 then []
     else codes "error: word " ++ decimal n ++ codes " is missing, wanted is " ++ wanted_words x ++ codes "\n"

@@ -82,7 +82,7 @@ is_replay (Ok ask) = reads ask
 is_replay (Err w) = false
 
 -- What is said is put on both streams, unless they fail, and its status is answered; a stream that fails on the way makes the
--- status 1. Where standard output fails on the way, it took a beginning, and standard error tells so.
+-- status 1. If standard output fails on the way, it took a beginning, and standard error tells so.
 pub record IsPut (s : Said) (out err : Passage) (status : ℕ) : Type 0 where
   pub output : out.has_failed ≡ false → Appends out.before out.after (string_bytes s.out)
   pub errors : out.has_failed ≡ false → err.has_failed ≡ false

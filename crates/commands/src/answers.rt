@@ -30,12 +30,12 @@ pub enum AnswerFault {
 }
 
 /// What a server over an empty table, with the user `user` by `pass`, puts out for the bytes that the text spells in hex, of either case,
-/// and how its session stands then. I4 exactly where the text isn't hex of whole bytes; I3 for want of memory.
+/// and how its session stands then. I4 exactly if the text isn't hex of whole bytes; I3 for want of memory.
 pub fn answer(alloc: Global, text: &str) -> Result<Answered, AnswerFault>
-    // The text is refused exactly where it isn't hex of whole bytes ..
+    // The text is refused exactly if it isn't hex of whole bytes ..
     ensures hex { (result ≡ Err fault.BadHex) ↔ IsErr (decode_of text.now) }
 
-    // .. and else, where memory suffices, the answer is that of its bytes.
+    // .. and else, if memory suffices, the answer is that of its bytes.
     ensures answer { IfOk result (λ a. AnswersHex text.now (string_bytes a.out) a.last) }
 {
     if !is_hex(text) {

@@ -26,7 +26,7 @@ pub enum Checked {
 
 /// Reads the bytes that the text spells in hex as one value and as a cell of the version, and spells the cell again.
 pub fn check_text(alloc: Global, version: Version, text: &str) -> Result<Checked, AnswerFault>
-    // The text is refused exactly where it isn't hex of whole bytes.
+    // The text is refused exactly if it isn't hex of whole bytes.
     ensures hex { (result ≡ Err fault.BadHex) ↔ IsErr (decode_of text.now) }
     ensures checked { IfOk result (λ c. ChecksHex version text.now c) }
 {

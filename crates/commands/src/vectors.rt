@@ -135,7 +135,7 @@ fn is_no_value(
     }
 }
 
-/// The value of the bytes, where they are one.
+/// The value of the bytes, if they are one.
 fn value_in(alloc: Global, bytes: &[u8]) -> Result<Option<Packed>, AllocError> {
     match decode(alloc, bytes) {
         Ok(packed) => Ok(Some(packed)),

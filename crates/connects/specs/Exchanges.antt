@@ -17,7 +17,7 @@ pub record Hears (from to : Stand) (bytes : List ℕ) : Type 0 where
 abbrev pub IsWhole : List ℕ → Stand → Type 0
 IsWhole unheard to = (unheard ≡ []) ⊎ (to.rest.knows.over ≡ true)
 
--- it holds where nothing broke it off
+-- it holds if nothing broke it off
 abbrev pub Unbroken : Result (Unit {0}) Break → Type 0 → Type 0
 Unbroken (Ok u) So = So
 Unbroken (Err e) So = Unit {0}
@@ -31,7 +31,7 @@ pub record Feeds (from to : Stand) (piece : List ℕ) (result : Result (Unit {0}
   pub hears : Hears from to heard
   pub whole : Unbroken result (IsWhole unheard to)
 
--- Bytes were read and fed, but for those past the client's end, or where it broke off.
+-- Bytes were read and fed, but for those past the client's end, or if it broke off.
 pub record ReadsOn (from to : Stand) (left left_now : Option (List ℕ))
     (result : Result (Unit {0}) Break) : Type 0 where
   pub heard : List ℕ
@@ -40,7 +40,7 @@ pub record ReadsOn (from to : Stand) (left left_now : Option (List ℕ))
   pub hears : Hears from to heard
   pub whole : Unbroken result (IsWhole unheard to)
 
--- What was written of the output: all of it, or a beginning where the sink failed.
+-- What was written of the output: all of it, or a beginning if the sink failed.
 abbrev pub Writes : List ℕ → Result (Unit {0}) Break → Option (List ℕ) → Option (List ℕ) → Type 0
 Writes out (Err break.WriteFailed) before after = AppendsFront before after out
 Writes out result before after = Appends before after out
@@ -50,7 +50,7 @@ abbrev pub PutsOut : Stand → Stand → Option (List ℕ) → Option (List ℕ)
 PutsOut from to before after result =
     Writes from.rest.unsent result before after × (to ≡ emptied_stand from)
 
--- Without a fault all was answered: no answer is to come, and no request waits. Where the source has ended, it is at its end.
+-- Without a fault all was answered: no answer is to come, and no request waits. If the source has ended, it is at its end.
 abbrev pub Ends : Result (Unit {0}) Break → Stand → Option (List ℕ) → Type 0
 Ends (Ok u) to left_now = (awaits to.rest.knows ≡ false) × (to.rest.knows.waiting ≡ [])
 Ends (Err break.AtEnd) to left_now = IsAtEnd left_now

@@ -72,7 +72,7 @@ Told a first count broken (Err (fault.Broken why)) =
 Told a first count broken (Err fault.Memory) = Unit {0}
 Told a first count broken (Err (fault.NotSent rule)) = ⊥
 
--- what was told before is forgotten, where nothing waits
+-- what was told before is forgotten, if nothing waits
 abbrev pub fresh : Stand → Stand
 fresh s = record s { account = (if is_idle s.rest.knows then settled s.account else s.account) }
 
@@ -84,7 +84,7 @@ pub record Sent {A : Type 0} (from to : Place) (qs : List RequestView) (result :
   pub exchanged : Exchanges (place (asked_all (fresh from.stand) qs) from.left from.written) to broken
   pub told : Told to.stand.account (next_ordinal from.stand.rest) (length qs) broken result
 
--- Where requests wait that were accepted, the client is lost, so that their bytes never go out.
+-- If requests wait that were accepted, the client is lost, so that their bytes never go out.
 abbrev pub given_up : Stand → Stand
 given_up s = if is_idle s.rest.knows then s else lost_stand s
 
@@ -99,7 +99,7 @@ abbrev pub Says : {A : Type 0} → Place → Place → List RequestView → Resu
 Says from to qs (Err (fault.NotSent rule)) = IsNotSent from to qs rule
 Says from to qs result = Sent from to qs result
 
--- it holds where nothing was sent
+-- it holds if nothing was sent
 abbrev pub WhenNotSent : {A : Type 0} → Result A Fault → Type 0 → Type 0
 WhenNotSent (Err (fault.NotSent rule)) So = So
 WhenNotSent result So = Unit {0}

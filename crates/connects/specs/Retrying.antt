@@ -18,7 +18,7 @@ abbrev pub IsTry : AskedView → ℕ → Option (Streams × Streams) → Option 
 IsTry a conn None m = m ≡ None
 IsTry a conn (Some s) m = Attempts a conn s.0 s.1 m
 
--- Each of these was attempted over the connection of the same place, where they have these numbers from the nth on.
+-- Each of these was attempted over the connection of the same place, if they have these numbers from the nth on.
 abbrev pub AreTries : AskedView → (ℕ → ℕ) → ℕ → List (Option (Streams × Streams)) → List (Option Made) → Type 0
 AreTries a conns n [] [] = Unit {0}
 AreTries a conns n (o ∷ os) (m ∷ ms) = IsTry a (conns n) o m × AreTries a conns (suc n) os ms

@@ -26,7 +26,7 @@ fn named<'a>(entries: &'a [(String, Cell)], name: &str) -> Option<&'a Cell>
 }
 
 impl<S: Source + Drop, T: Sink + Drop> Connection<S, T> {
-    /// What became of a request; none where it wasn't asked since the last call began. Takes no memory.
+    /// What became of a request; none if it wasn't asked since the last call began. Takes no memory.
     pub fn outcome(&self, ordinal: u64) -> Option<Outcome>
         ensures { result ≡ outcome_of (account_of self.now.tracking) ordinal }
     {

@@ -22,7 +22,7 @@ use streams::{Sink, Source};
 use structures::Cell;
 use wire::{Version, Wish};
 
-/// Where the account has what came of a query: the ordinals of its RUN, and of the request for its rows.
+/// If the account has what came of a query: the ordinals of its RUN, and of the request for its rows.
 #[derive(Clone, Copy, Debug, PartialEq, Eq)]
 pub struct Answer {
     pub run: u64,
@@ -93,7 +93,7 @@ impl<S: Source + Drop, T: Sink + Drop> Connection<S, T> {
 
     /// Asks a request and those behind it as one pipeline. Answers the ordinal of the first; those behind it have the next.
     ///
-    /// NotSent where one isn't accepted: nothing was read or written. Else by the first that isn't done: Refused where the server refused it,
+    /// NotSent where one isn't accepted: nothing was read or written. Else by the first that isn't done: Refused if the server refused it,
     /// Broken where the exchange was broken off, or Memory for want of memory for the text of a refusal.
     pub fn ask(&mut self, first: Request, others: Vec<Request>) -> Result<u64, Fault>
         ensures says { Says
@@ -153,7 +153,7 @@ impl<S: Source + Drop, T: Sink + Drop> Connection<S, T> {
         self.ask_one(rows_request(rows))
     }
 
-    /// Begins a transaction, under a token where there is one, by `ask`.
+    /// Begins a transaction, under a token if there is one, by `ask`.
     pub fn begin(&mut self, mode: Mode, token: Option<String>) -> Result<u64, Fault>
         ensures says { Says
             (place (stand_of self.old.tracking) (S.left self.old.source) (T.taken self.old.sink))
@@ -197,7 +197,7 @@ impl<S: Source + Drop, T: Sink + Drop> Connection<S, T> {
         self.ask_one(Request::Reset)
     }
 
-    /// Runs queries in one transaction, under a token where there is one, as one pipeline, by `ask`: BEGIN, each query and the request for its
+    /// Runs queries in one transaction, under a token if there is one, as one pipeline, by `ask`: BEGIN, each query and the request for its
     /// rows, and COMMIT. More than 15 queries aren't sent (C2). Answers the ordinal of BEGIN; behind it each query has two.
     pub fn transact(
         &mut self,

@@ -134,7 +134,7 @@ fn converse<I: Source, O: Sink>(
 /// Writes all that waits, then reads pieces of at most 4,096 bytes and feeds each, until no answer is to come and no request waits. The account has
 /// what came of them.
 ///
-/// Else why not, and the client is lost: then each request that waited has its outcome in the account. I1 where the source fails, I2 where the sink
+/// Else why not, and the client is lost: then each request that waited has its outcome in the account. I1 if the source fails, I2 if the sink
 /// does, I3 for want of memory; a bad answer, rows past the limit, the source's end, or the client's, before all was answered.
 pub fn exchange<I: Source, O: Sink>(
     tracking: &mut TrackingClient,

@@ -119,7 +119,7 @@ fn give_up(tracking: &mut TrackingClient)
     }
 }
 
-/// Forgets what was told before, where nothing waits.
+/// Forgets what was told before, if nothing waits.
 fn refresh(tracking: &mut TrackingClient)
     ensures { stand_of tracking.new ≡ fresh (stand_of tracking.old) }
 {

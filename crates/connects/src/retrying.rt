@@ -18,12 +18,12 @@ pub trait Connects {
 
     ghost use Rattle.std.specs.Prelude.{Option};
 
-    /// The streams of one more, of which nothing was read or written yet; none where it can't be had. Before it the caller may wait.
+    /// The streams of one more, of which nothing was read or written yet; none if it can't be had. Before it the caller may wait.
     fn connect(&mut self) -> Option<(Self::In, Self::Out)>
         ensures { opens self.old result self.new };
 }
 
-/// One attempt over a connection that is opened for it, which tells nothing where that can't be had.
+/// One attempt over a connection that is opened for it, which tells nothing if that can't be had.
 fn try_once<C: Connects>(alloc: Global, asked: &Asked, connects: &mut C) -> Tells
     ensures { Tries C.opens (λ s. streams (C.In.left s.0) (C.Out.taken s.1) (C.Out.has_failed s.1))
         (asked_view asked.now) connects.old connects.new result }

@@ -84,7 +84,7 @@ fn is_text(cell: &Cell, text: &str) -> bool
     }
 }
 
-/// The member of a row that stands under a name, by the names of `fields` in the same order; none where no field has it, or the row ends before.
+/// The member of a row that stands under a name, by the names of `fields` in the same order; none if no field has it, or the row ends before.
 pub fn column<'a>(fields: &[Cell], row: &'a [Cell], name: &str) -> Option<&'a Cell>
     ensures { option_map (λ c. c.now) result ≡ column name.now fields.now row.now }
 {

@@ -63,7 +63,7 @@ with_note a (Row cells) = with_row a cells
 with_note a (Summary i p o x) = with_summary a i o x
 with_note a n = a
 
--- with the outcomes of those that waited when the client was lost; where none did, those of an earlier loss stay
+-- with the outcomes of those that waited when the client was lost; if none did, those of an earlier loss stay
 abbrev pub with_losses : Account → List (ℕ × Outcome) → Account
 with_losses a [] = a
 with_losses a ls = record a { lost = ls }
@@ -92,7 +92,7 @@ abbrev pub failure_in : ResponseView → Option (List ℕ × List ℕ)
 failure_in (ResponseView.Failure code message) = Some (code, message)
 failure_in x = None
 
--- the same of a response, where there is one
+-- the same of a response, if there is one
 abbrev pub failure_by : Option ResponseView → Option (List ℕ × List ℕ)
 failure_by None = None
 failure_by (Some x) = failure_in x

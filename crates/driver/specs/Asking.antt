@@ -16,7 +16,7 @@ Asks old new q (Ok n) = IsAccepted old q n × (new ≡ after_submit old q)
 Asks old new q (Err submit_fault.Memory) = new ≡ old
 Asks old new q (Err e) = (new ≡ old) × (refuses old.knows q ≡ Some e)
 
--- Two were asked, the second where the first is accepted; the first that is refused is told. Where that is the second, the first waits.
+-- Two were asked, the second if the first is accepted; the first that is refused is told. If that is the second, the first waits.
 abbrev pub AsksBoth : Rest → Rest → RequestView → RequestView → Result (ℕ × ℕ) SubmitFault → Type 0
 AsksBoth old new p q (Ok n) =
     IsAccepted old p n.0 × (IsAccepted (after_submit old p) q n.1

@@ -50,7 +50,7 @@ pub record Made : Type 0 where
 abbrev pub tells : Made → Tells
 tells m = tells_by (told_of m.attempt) m.commit m.clash m.final (length m.attempt.sent)
 
--- what an attempt tells: nothing, where no connection could be opened for it
+-- what an attempt tells: nothing, if no connection could be opened for it
 abbrev pub tells_in : Option Made → Tells
 tells_in None = tells_variant.Nothing
 tells_in (Some m) = tells m

@@ -52,7 +52,7 @@ Says tries told fate.Refused = EndsWith tries told tells.Refused AllNothing
 Says tries told fate.Open = (length told ≡ tries) × (HasDoubt told × AllOpen told)
 Says tries told fate.Absent = (length told ≡ tries) × AllNothing told
 
--- Where a fate is known by what was told, that is what was told.
+-- If a fate is known by what was told, that is what was told.
 abbrev pub FatesSay : Type 0
 FatesSay = (tries : ℕ) (told : List Tells) (f : Fate) → fate_of false tries told ≡ Some f
     → Says tries told f

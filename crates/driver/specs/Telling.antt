@@ -56,7 +56,7 @@ abbrev pub any_final : Account → ℕ → Bool
 any_final a zero = false
 any_final a (suc n) = is_final (failure_of a n) || any_final a n
 
--- the same by the account, where the FAILUREs say what they are for
+-- the same by the account, if the FAILUREs say what they are for
 abbrev pub tells_of : Account → ℕ → ℕ → Tells
 tells_of a commit n =
     tells_by (outcome_of a) commit (is_clash (failure_of a commit)) (any_final a n) n

@@ -36,7 +36,7 @@ fn reply_in(replies: &[Reply], ordinal: u64) -> Option<&Reply>
     None
 }
 
-/// Takes the rows of the reply to the request with this ordinal, where there is one.
+/// Takes the rows of the reply to the request with this ordinal, if there is one.
 fn take_rows_in(replies: &mut Vec<Reply>, alloc: Global, ordinal: u64) -> Option<Vec<Vec<Cell>>>
     ensures rows { option_map (λ rows. map row_view rows.items) result
         ≡ option_map (λ r. r.rows) (reply_in ordinal (map reply_view replies.old.items)) }

@@ -41,7 +41,7 @@ impl TrackingClient {
     }
 
     /// Asks by `ask` what opens a connection: HELLO, which carries the login below 5.1, and LOGON at 5.1. Answers the ordinals of HELLO and of the
-    /// request that carries the login. Where LOGON is refused, HELLO waits.
+    /// request that carries the login. If LOGON is refused, HELLO waits.
     pub fn ask_hello(&mut self, agent: String, auth: Auth) -> Result<(u64, u64), SubmitFault>
         ensures asks { AsksLogin (is_login_in_hello (rest_in self.old).knows.version)
             (rest_in self.old) (rest_in self.new) (string_bytes agent) (auth_view auth) result }
@@ -84,7 +84,7 @@ impl TrackingClient {
         Ok((run, last))
     }
 
-    /// Asks BEGIN by `ask`, of a transaction under a token, where there is one.
+    /// Asks BEGIN by `ask`, of a transaction under a token, if there is one.
     pub fn ask_begin(&mut self, mode: Mode, token: Option<String>) -> Result<u64, SubmitFault>
         ensures asks { Asks (rest_in self.old) (rest_in self.new)
             (RequestView.Begin mode (token_view token)) result }

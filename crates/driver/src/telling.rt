@@ -75,7 +75,7 @@ impl TrackingClient {
         }
     }
 
-    /// What an attempt of one transaction tells that asked so many requests, of which this is the COMMIT's ordinal: a doubt, where nothing else is
+    /// What an attempt of one transaction tells that asked so many requests, of which this is the COMMIT's ordinal: a doubt, if nothing else is
     /// sure. Of FAILUREs alone whose code begins with `Neo.ClientError.` it tells Refused; another may not come again, and adds nothing as well.
     /// Takes no memory.
     pub fn tells(&self, commit: u64, count: u64) -> Tells

@@ -21,7 +21,7 @@ use std::mem;
 use structures::Cell;
 use wire::{Version, Wish};
 
-/// Takes all rows. Where there are none, the room for them stays.
+/// Takes all rows. If there are none, the room for them stays.
 fn taken(rows: &mut Vec<Vec<Cell>>, alloc: Global) -> Vec<Vec<Cell>>
     ensures taken { result.items ≡ rows.old.items }
     ensures none { rows.new.items ≡ [] }
@@ -87,7 +87,7 @@ impl TrackingClient {
         self.client.submit(request)
     }
 
-    /// The next bytes for the server, the smaller of `max` and what waits; where that is none, without memory. Or C5, and nothing has changed.
+    /// The next bytes for the server, the smaller of `max` and what waits; if that is none, without memory. Or C5, and nothing has changed.
     /// The account stays.
     pub fn take_out(&mut self, max: usize) -> Result<Bytes, ClientFault>
         ensures ok { IfOk result (λ bytes. (bytes ≡ take max (rest_in self.old).unsent)
@@ -149,7 +149,7 @@ impl TrackingClient {
         self.left == 0 && 0 < self.rows.len() && self.limit <= self.rows.len()
     }
 
-    /// Feeds a piece where no request waits: then neither a row nor a summary can come, and the account stays.
+    /// Feeds a piece if no request waits: then neither a row nor a summary can come, and the account stays.
     fn feed_idle(&mut self, piece: &[u8]) -> Result<usize, FeedFault>
         requires { (rest_in self.old).knows.waiting ≡ [] }
         ensures fed { let f = feed_of (rest_in self.old) piece.now in
@@ -171,10 +171,10 @@ impl TrackingClient {
     /// Feeds a piece to the end of the item begun, else all of it, as `Client::feed` does, and answers how much; what is told is in the account.
     ///
     /// `Full` where `limit` rows of the one request that waits are held: nothing was used and nothing has changed, and it goes on once some are
-    /// taken. Where others wait behind it, or a row was left out before, rows past the limit are counted and not kept. So one who pulls n rows at
+    /// taken. If others wait behind it, or a row was left out before, rows past the limit are counted and not kept. So one who pulls n rows at
     /// a time names a limit above n.
     ///
-    /// C4 and C6 as there; C5 for want of memory, in an open client that isn't full, where a request waits or the piece wants room as in
+    /// C4 and C6 as there; C5 for want of memory, in an open client that isn't full, if a request waits or the piece wants room as in
     /// `Client::feed`: nothing was used, nothing has changed.
     #[tactic(auto, using(crate::proofs::Idle::idle_feed))]
     pub fn feed(&mut self, piece: &[u8]) -> Result<usize, FeedFault>
@@ -233,7 +233,7 @@ impl TrackingClient {
         }
     }
 
-    /// Forgets what was told, where nothing waits; answers whether it did. Takes no memory.
+    /// Forgets what was told, if nothing waits; answers whether it did. Takes no memory.
     pub fn settle(&mut self) -> bool
         ensures settles { result ≡ is_idle (rest_in self.old).knows }
         ensures client { rest_in self.new ≡ rest_in self.old }

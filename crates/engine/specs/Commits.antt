@@ -44,7 +44,7 @@ abbrev pub AnswersByToken : Type 0
 AnswersByToken = (es : List EntryView) (c : EntryView) (t : List ℕ) → TokensOnce es
     → c.token ≡ Some t → IsByToken es c t
 
--- Over commits in any order, from any ledger in which no two entries have one token: none come to have one; and where a commit with a token was answered Added or Repeat,
+-- Over commits in any order, from any ledger in which no two entries have one token: none come to have one; and if a commit with a token was answered Added or Repeat,
 -- exactly one entry has the token in the end, with equal writes, whatever was committed before it and after it.
 abbrev pub CommitsOnce : Type 0
 CommitsOnce = (brought : List EntryView) → TokensOnce brought

@@ -38,7 +38,7 @@ first_of places f = get nat_cmp places.firsts f
 abbrev pub other_of : Places → List ℕ → Option ℕ
 other_of places t = get_by_text places.others t
 
--- what these two tell of a token: nothing, where no token has its fingerprint; the first, where the entry there has the token
+-- what these two tell of a token: nothing, if no token has its fingerprint; the first, if the entry there has the token
 abbrev pub told_by : List EntryView → List ℕ → Option ℕ → Option ℕ → Option ℕ
 told_by es t None other = None
 told_by es t (Some p) other = if has_token_at es p t then Some p else other
@@ -61,7 +61,7 @@ abbrev pub kept_at : Token → ℕ → List ℕ → Option ℕ → Option ℕ
 kept_at None place q old = old
 kept_at (Some t) place q old = if bytes_eq t q then Some place else old
 
--- the one where nothing is there, and else the other
+-- the one if nothing is there, and else the other
 abbrev pub where_none : Option ℕ → Option ℕ → Option ℕ → Option ℕ
 where_none None free taken = free
 where_none (Some p) free taken = taken

@@ -10,4 +10,5 @@ pub use Rattle.engine.specs.Commits.{after_commit, answer_to, after_commits, is_
 pub use Rattle.engine.specs.Queries.{Defined, parameter, count_in, text_in, with, column_rows, column, reads, cells_found, numbers, fixed_answer}
 pub use Rattle.engine.specs.Fits.{reads_fit, with_reads}
 pub use Rattle.engine.specs.Cells.{IsCellPair, AreCellPairs, AreCellEntries, IsOfCells}
-pub use Rattle.engine.specs.Kept.{ledger_of, principal_of, credentials_of, is_user}
+pub use Rattle.engine.specs.Welcomes.{Welcome, own_name, under_own_name, IsNamed}
+pub use Rattle.engine.specs.Kept.{ledger_of, principal_of, credentials_of, is_user, user_welcome, named_welcome}

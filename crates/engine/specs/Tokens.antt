@@ -52,13 +52,13 @@ commit_by len Free = Added (len + 1)
 commit_by len (There n) = Repeat n
 commit_by len Other = Clash
 
--- the same where no entry is added
+-- the same if no entry is added
 abbrev pub known_by : Found → Option Commit
 known_by Free = None
 known_by (There n) = Some (Repeat n)
 known_by Other = Some Clash
 
--- the entry that a commit adds, where it adds one
+-- the entry that a commit adds, if it adds one
 abbrev pub added_by : EntryView → Found → List EntryView
 added_by e Free = e ∷ []
 added_by e (There n) = []

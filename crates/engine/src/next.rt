@@ -12,7 +12,7 @@ use structures::Cell;
 /// Ordinals of entries stay below 2^63, so the ledger does too.
 const MAX_ENTRIES: u64 = LEDGER_BOUND - 1;
 
-/// Makes room for one more entry of the ledger, and takes copies of its writes into the pairs. Where memory is refused, or the ledger would be too long,
+/// Makes room for one more entry of the ledger, and takes copies of its writes into the pairs. If memory is refused, or the ledger would be too long,
 /// entries and pairs are as they were.
 pub(crate) fn take_next(
     alloc: Global,

@@ -49,7 +49,7 @@ impl Places {
         self.others.get(token).copied()
     }
 
-    /// The place of a token's entry in the ledger. Where none has the token, takes what the next entry takes, and keeps that one's place; where memory is refused,
+    /// The place of a token's entry in the ledger. If none has the token, takes what the next entry takes, and keeps that one's place; if memory is refused,
     /// entries, places and pairs are as they were.
     ///
     /// It goes one way through the map of fingerprints, by its entry. `entry` fails only at a key that isn't there, so an occupied one can't want memory. A vacant one
@@ -97,7 +97,7 @@ impl Places {
 }
 
 /// As `find_or_keep`, of a token whose fingerprint another has. A place by its text wants a copy of it, so it is looked for first: if it is there, no memory is taken. Its
-/// place is given up again where the next entry finds none.
+/// place is given up again if the next entry finds none.
 #[tactic(auto, using(std::proofs::lemmas::Map::Text::text_keys))]
 fn find_or_keep_other(
     others: &mut BTreeMap<String, usize>,

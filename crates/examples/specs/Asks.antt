@@ -1,4 +1,4 @@
--- How a client is left where nothing is to be sent.
+-- How a client is left if nothing is to be sent.
 use Rattle.std.specs.Prelude.{◌≡◌}
 use Rattle.messages.specs.View.{RequestView}
 use Rattle.client.specs.Rest.{Rest, after_submit}

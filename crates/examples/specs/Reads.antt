@@ -10,7 +10,7 @@ abbrev pub int_of : Tree → Option ℤ
 int_of (int z) = Some z
 int_of t = None
 
--- the first cell of the first row, where that is an integer
+-- the first cell of the first row, if that is an integer
 abbrev pub first_int : List (List Tree) → Option ℤ
 first_int ((t ∷ ts) ∷ rows) = int_of t
 first_int rows = None

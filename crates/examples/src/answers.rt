@@ -15,7 +15,7 @@ pub fn answer<E: Engine, G: Gate>(
     piece: &[u8],
     max: usize,
 ) -> Result<Bytes, Refused>
-    ensures answers { IfOk result (λ bytes. Answers E.answer G.accepts conn piece.now max
+    ensures answers { IfOk result (λ bytes. Answers E.answer G.welcomes conn piece.now max
         (rest_of E.entries server.old) bytes (rest_of E.entries server.new)) }
     ensures fault { IfErr result RefusesCall }
 {

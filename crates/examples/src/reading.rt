@@ -13,14 +13,14 @@ use messages::{Count, Mode};
 use streams::{Sink, Source};
 use structures::Cell;
 
-/// The first cell of the first row, where that is an integer.
+/// The first cell of the first row, if that is an integer.
 fn first_int(rows: &[Vec<Cell>]) -> Option<i64>
     ensures { result ≡ first_int (map row_view rows.now) }
 {
     as_int(rows.first()?.first()?)
 }
 
-/// Runs a query that reads, and gives the first cell of its first row where that is an integer; or why not each request was answered SUCCESS.
+/// Runs a query that reads, and gives the first cell of its first row if that is an integer; or why not each request was answered SUCCESS.
 pub fn read_int<S: Source + Drop, T: Sink + Drop>(
     connection: &mut Connection<S, T>,
     query: &Query,

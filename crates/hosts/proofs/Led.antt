@@ -5,7 +5,7 @@ use Rattle.std.proofs.KnownBytes.{Appends-nil}
 use Rattle.std.proofs.lemmas.Bool.{eqb-true}
 use Rattle.std.specs.List.{AllByRecursion}
 use Rattle.engine.specs.declared.answer.Mode.{Mode as QueryMode}
-use Rattle.engine.specs.Prelude.{WriteView, ParameterView, EntryView, AnswerView, QueryFault}
+use Rattle.engine.specs.Prelude.{WriteView, ParameterView, EntryView, AnswerView, QueryFault, Welcome}
 use Rattle.server.specs.Prelude.{Rest, Live, find, is_full, opened, Event, opens, after_event}
 use Rattle.server.proofs.Runs.{find_other-push}
 use Rattle.lines.specs.declared.closing.Closing.{Closing}
@@ -21,38 +21,38 @@ use Rattle.hosts.proofs.Calls.{found_pushed, moves_next, gone_own, gone_both, he
 abbrev pub among : {G : Type 0} → List Held → List Owed → Rest G → (ℕ → Wire) → Option (List Told) → At G
 among hs cs r w t = record { seats = hs; closings = cs; rest = r; wire = w; told = t }
 
-module _ {G : Type 0} (answer : List EntryView → List WriteView → List ℕ → List ParameterView → QueryMode → Result AnswerView QueryFault) (accepts : G → List ℕ → List ℕ → Bool) where
-  pub leads_none : (a : At G) → Leads answer accepts 0 a a
+module _ {G : Type 0} (answer : List EntryView → List WriteView → List ℕ → List ParameterView → QueryMode → Result AnswerView QueryFault) (welcomes : G → Welcome) where
+  pub leads_none : (a : At G) → Leads answer welcomes 0 a a
   leads_none a = record {
     seated = λ s. s;
-    from = λ r before earlier calls s st. ([], omega arith, subst (λ (es : List Event). Stands answer accepts r before earlier es a) (sym (append-nil calls)) st);
+    from = λ r before earlier calls s st. ([], omega arith, subst (λ (es : List Event). Stands answer welcomes r before earlier es a) (sym (append-nil calls)) st);
   }
 
-  pub leads_then : {m n : ℕ} {a b c : At G} → Leads answer accepts m a b → Leads answer accepts n b c → Leads answer accepts (m + n) a c
+  pub leads_then : {m n : ℕ} {a b c : At G} → Leads answer welcomes m a b → Leads answer welcomes n b c → Leads answer welcomes (m + n) a c
   leads_then {m = m} {n = n} {c = c} p q = record {
     seated = λ s. q.seated (p.seated s);
     from = λ r before earlier calls s st.
         let x = p.from r before earlier calls s st in
         let y = q.from r before earlier (calls ++ x.0) (p.seated s) x.2 in
-        (x.0 ++ y.0, omega (arith, length-append x.0 y.0, x.1, y.1), subst (λ (es : List Event). Stands answer accepts r before earlier es c) (append_assoc calls x.0 y.0) y.2);
+        (x.0 ++ y.0, omega (arith, length-append x.0 y.0, x.1, y.1), subst (λ (es : List Event). Stands answer welcomes r before earlier es c) (append_assoc calls x.0 y.0) y.2);
   }
 
-  pub leads_within : {m n : ℕ} {a b : At G} → Leads answer accepts m a b → m ≤ n → Leads answer accepts n a b
+  pub leads_within : {m n : ℕ} {a b : At G} → Leads answer welcomes m a b → m ≤ n → Leads answer welcomes n a b
   leads_within p l = record {
     seated = p.seated;
     from = λ r before earlier calls s st. let x = p.from r before earlier calls s st in (x.0, omega (arith, x.1, l), x.2);
   }
 
   -- a move of one connection, of which something is told
-  stands_moved : {m asks : ℕ} {ends : List End} {r s : Rest G} {before : ℕ → Wire} {earlier : Option (List Told)} {calls : List Event} (a : At G) {y : Held} {v : ℕ → Wire} {told : Option (List Told)} (hs : List Held) (cs : List Owed) (conn : ℕ) (ts : List Told) (st : Stands answer accepts r before earlier calls a)
-      → (p : Moves answer accepts m asks ends a.rest s (st.held conn) y a.wire v) → ((k : ℕ) → a.rest.next ≤ k → holding st.held y k ≡ st.held k)
+  stands_moved : {m asks : ℕ} {ends : List End} {r s : Rest G} {before : ℕ → Wire} {earlier : Option (List Told)} {calls : List Event} (a : At G) {y : Held} {v : ℕ → Wire} {told : Option (List Told)} (hs : List Held) (cs : List Owed) (conn : ℕ) (ts : List Told) (st : Stands answer welcomes r before earlier calls a)
+      → (p : Moves answer welcomes m asks ends a.rest s (st.held conn) y a.wire v) → ((k : ℕ) → a.rest.next ≤ k → holding st.held y k ≡ st.held k)
       → AllByRecursion (λ h. holding st.held y h.conn ≡ h) hs → AllByRecursion (λ c. (holding st.held y c.conn).going ≡ c.bytes) cs
       → TellsMore a.told told ts → AreTold ts (gone_with conn ends)
-      → Stands answer accepts r before earlier (calls ++ p.calls) (among hs cs s v told)
+      → Stands answer welcomes r before earlier (calls ++ p.calls) (among hs cs s v told)
   stands_moved {ends = ends} {r = r} {s = s} {earlier = earlier} {calls = calls} a {y = y} {told = told} hs cs conn ts st p far seats closings tells ends_told =
-      let number : (st.held conn).conn ≡ conn = held_numbers answer accepts st.turns conn in
-      let next : s.next ≡ a.rest.next = moves_next answer accepts p in
-      let mine : gone_of answer accepts p.calls a.rest ≡ gone_with conn ends = gone_own answer accepts (st.held conn).conn p.calls a.rest p.own ∙ ap (λ (es : List End). gone_with (st.held conn).conn es) p.ended ∙ ap (λ (k : ℕ). gone_with k ends) number in
+      let number : (st.held conn).conn ≡ conn = held_numbers answer welcomes st.turns conn in
+      let next : s.next ≡ a.rest.next = moves_next answer welcomes p in
+      let mine : gone_of answer welcomes p.calls a.rest ≡ gone_with conn ends = gone_own answer welcomes (st.held conn).conn p.calls a.rest p.own ∙ ap (λ (es : List End). gone_with (st.held conn).conn es) p.ended ∙ ap (λ (k : ℕ). gone_with k ends) number in
       record {
         held = holding st.held y;
         turns = then_moves conn st.turns p;
@@ -61,7 +61,7 @@ module _ {G : Type 0} (answer : List EntryView → List WriteView → List ℕ �
         untouched = λ k l. let low : a.rest.next ≤ k = omega (arith, next, l) in far k low ∙ st.untouched k low;
         made = st.made ++ ts;
         told = tells_then earlier a.told told st.made ts st.told tells;
-        ends = subst (λ (gs : List Gone). AreTold (st.made ++ ts) gs) (sym (gone_both answer accepts calls p.calls r a.rest (turns_reach answer accepts st.turns) ∙ ap (λ (gs : List Gone). gone_of answer accepts calls r ++ gs) mine)) (told_both st.made (gone_of answer accepts calls r) ts (gone_with conn ends) st.ends ends_told);
+        ends = subst (λ (gs : List Gone). AreTold (st.made ++ ts) gs) (sym (gone_both answer welcomes calls p.calls r a.rest (turns_reach answer welcomes st.turns) ∙ ap (λ (gs : List Gone). gone_of answer welcomes calls r ++ gs) mine)) (told_both st.made (gone_of answer welcomes calls r) ts (gone_with conn ends) st.ends ends_told);
       }
 
   -- nothing of those from the next number on was held anew
@@ -89,31 +89,31 @@ module _ {G : Type 0} (answer : List EntryView → List WriteView → List ℕ �
       (omega (arith, e), omega (arith, e))
 
   -- others live on
-  others_live : {m asks : ℕ} {ends : List End} {r s : Rest G} {x y : Held} {u v : ℕ → Wire} → Moves answer accepts m asks ends r s x y u v → (hs : List Held) → seats_at x.conn hs ≡ 0 → AllByRecursion (IsLive r) hs → AllByRecursion (IsLive s) hs
+  others_live : {m asks : ℕ} {ends : List End} {r s : Rest G} {x y : Held} {u v : ℕ → Wire} → Moves answer welcomes m asks ends r s x y u v → (hs : List Held) → seats_at x.conn hs ≡ 0 → AllByRecursion (IsLive r) hs → AllByRecursion (IsLive s) hs
   others_live {r = r} {s = s} {x = x} p hs none all =
       seats_apart (IsLive r) (IsLive s) x.conn
-      (λ h d l. record { below = subst (λ (n : ℕ). h.conn < n) (sym (moves_next answer accepts p)) l.below; lives = subst (λ (o : Option Live). IsSome o) (sym (moves_leave answer accepts p h.conn d)) l.lives }) hs none all
+      (λ h d l. record { below = subst (λ (n : ℕ). h.conn < n) (sym (moves_next answer welcomes p)) l.below; lives = subst (λ (o : Option Live). IsSome o) (sym (moves_leave answer welcomes p h.conn d)) l.lives }) hs none all
 
-  below_moved : {m asks : ℕ} {ends : List End} {r s : Rest G} {x y : Held} {u v : ℕ → Wire} → Moves answer accepts m asks ends r s x y u v → (cs : List Owed) → AllByRecursion (λ c. c.conn < r.next) cs → AllByRecursion (λ c. c.conn < s.next) cs
-  below_moved {r = r} {s = s} p cs all = each_as (λ c. c.conn < r.next) (λ c. c.conn < s.next) (λ c l. subst (λ (n : ℕ). c.conn < n) (sym (moves_next answer accepts p)) l) cs all
+  below_moved : {m asks : ℕ} {ends : List End} {r s : Rest G} {x y : Held} {u v : ℕ → Wire} → Moves answer welcomes m asks ends r s x y u v → (cs : List Owed) → AllByRecursion (λ c. c.conn < r.next) cs → AllByRecursion (λ c. c.conn < s.next) cs
+  below_moved {r = r} {s = s} p cs all = each_as (λ c. c.conn < r.next) (λ c. c.conn < s.next) (λ c l. subst (λ (n : ℕ). c.conn < n) (sym (moves_next answer welcomes p)) l) cs all
 
-  unused_moved : {m asks : ℕ} {ends : List End} {r s : Rest G} {x y : Held} {u v : ℕ → Wire} → Moves answer accepts m asks ends r s x y u v → x.conn < r.next → ((k : ℕ) → r.next ≤ k → find k r.sessions ≡ None) → (k : ℕ) → s.next ≤ k → find k s.sessions ≡ None
+  unused_moved : {m asks : ℕ} {ends : List End} {r s : Rest G} {x y : Held} {u v : ℕ → Wire} → Moves answer welcomes m asks ends r s x y u v → x.conn < r.next → ((k : ℕ) → r.next ≤ k → find k r.sessions ≡ None) → (k : ℕ) → s.next ≤ k → find k s.sessions ≡ None
   unused_moved {r = r} {s = s} {x = x} p below unused k l =
-      let low : r.next ≤ k = subst (λ (n : ℕ). n ≤ k) (moves_next answer accepts p) l in
-      moves_leave answer accepts p k (λ e. absurd (omega (arith, below, low, e))) ∙ unused k low
+      let low : r.next ≤ k = subst (λ (n : ℕ). n ≤ k) (moves_next answer welcomes p) l in
+      moves_leave answer welcomes p k (λ e. absurd (omega (arith, below, low, e))) ∙ unused k low
 
   -- a turn of the first
-  pub leads_turned : {m asks : ℕ} {r s : Rest G} {u v : ℕ → Wire} {t : Option (List Told)} (h y : Held) (hs : List Held) (cs : List Owed) → Moves answer accepts m asks [] r s h y u v → IsSome (find h.conn s.sessions) → Leads answer accepts m (among (h ∷ hs) cs r u t) (among (y ∷ hs) cs s v t)
+  pub leads_turned : {m asks : ℕ} {r s : Rest G} {u v : ℕ → Wire} {t : Option (List Told)} (h y : Held) (hs : List Held) (cs : List Owed) → Moves answer welcomes m asks [] r s h y u v → IsSome (find h.conn s.sessions) → Leads answer welcomes m (among (h ∷ hs) cs r u t) (among (y ∷ hs) cs s v t)
   leads_turned {m = m} {asks = asks} {r = r} {s = s} {u = u} {v = v} {t = t} h y hs cs p lives = record {
     seated = λ q. let alone = alone_seat h hs cs q in record {
       once = λ k. subst (λ (n : ℕ). (if n == k then 1 else 0) + seats_at k hs + closings_at k cs ≤ 1) (sym p.same) (q.once k);
-      seats = (record { below = subst (λ (n : ℕ). n < s.next) (sym p.same) (subst (λ (n : ℕ). h.conn < n) (sym (moves_next answer accepts p)) q.seats.0.below); lives = subst (λ (n : ℕ). IsSome (find n s.sessions)) (sym p.same) lives }, others_live p hs alone.0 q.seats.1);
+      seats = (record { below = subst (λ (n : ℕ). n < s.next) (sym p.same) (subst (λ (n : ℕ). h.conn < n) (sym (moves_next answer welcomes p)) q.seats.0.below); lives = subst (λ (n : ℕ). IsSome (find n s.sessions)) (sym p.same) lives }, others_live p hs alone.0 q.seats.1);
       closings = below_moved p cs q.closings;
       unused = unused_moved p q.seats.0.below q.unused;
     };
     from = λ w before earlier calls q st.
         let alone = alone_seat h hs cs q in
-        let mine : Moves answer accepts m asks [] r s (st.held h.conn) y u v = subst (λ (x : Held). Moves answer accepts m asks [] r s x y u v) (sym st.seats.0) p in
+        let mine : Moves answer welcomes m asks [] r s (st.held h.conn) y u v = subst (λ (x : Held). Moves answer welcomes m asks [] r s x y u v) (sym st.seats.0) p in
         let low : y.conn < r.next = subst (λ (n : ℕ). n < r.next) (sym p.same) q.seats.0.below in (
           mine.calls,
           mine.few,
@@ -124,17 +124,17 @@ module _ {G : Type 0} (answer : List EntryView → List WriteView → List ℕ �
   }
 
   -- the session of the first was given up, and that is told
-  pub leads_parted : {m asks : ℕ} {r s : Rest G} {u v : ℕ → Wire} {t told : Option (List Told)} {e : End} (parting : Parting) (h y : Held) (hs : List Held) (cs : List Owed) → Moves answer accepts m asks (e ∷ []) r s h y u v → Tells parting e → TellsMore t told (record { conn = h.conn; parting = parting } ∷ []) → Leads answer accepts m (among (h ∷ hs) cs r u t) (among hs (record { conn = h.conn; bytes = y.going } ∷ cs) s v told)
+  pub leads_parted : {m asks : ℕ} {r s : Rest G} {u v : ℕ → Wire} {t told : Option (List Told)} {e : End} (parting : Parting) (h y : Held) (hs : List Held) (cs : List Owed) → Moves answer welcomes m asks (e ∷ []) r s h y u v → Tells parting e → TellsMore t told (record { conn = h.conn; parting = parting } ∷ []) → Leads answer welcomes m (among (h ∷ hs) cs r u t) (among hs (record { conn = h.conn; bytes = y.going } ∷ cs) s v told)
   leads_parted {m = m} {asks = asks} {r = r} {s = s} {u = u} {v = v} {t = t} {told = told} {e = e} parting h y hs cs p is tells = record {
     seated = λ q. let alone = alone_seat h hs cs q in record {
       once = λ k. let l = q.once k in omega (arith, l);
       seats = others_live p hs alone.0 q.seats.1;
-      closings = (subst (λ (n : ℕ). h.conn < n) (sym (moves_next answer accepts p)) q.seats.0.below, below_moved p cs q.closings);
+      closings = (subst (λ (n : ℕ). h.conn < n) (sym (moves_next answer welcomes p)) q.seats.0.below, below_moved p cs q.closings);
       unused = unused_moved p q.seats.0.below q.unused;
     };
     from = λ w before earlier calls q st.
         let alone = alone_seat h hs cs q in
-        let mine : Moves answer accepts m asks (e ∷ []) r s (st.held h.conn) y u v = subst (λ (x : Held). Moves answer accepts m asks (e ∷ []) r s x y u v) (sym st.seats.0) p in
+        let mine : Moves answer welcomes m asks (e ∷ []) r s (st.held h.conn) y u v = subst (λ (x : Held). Moves answer welcomes m asks (e ∷ []) r s x y u v) (sym st.seats.0) p in
         let low : y.conn < r.next = subst (λ (n : ℕ). n < r.next) (sym p.same) q.seats.0.below in (
           mine.calls,
           mine.few,
@@ -145,7 +145,7 @@ module _ {G : Type 0} (answer : List EntryView → List WriteView → List ℕ �
   }
 
   -- bytes of a connection whose session was given up, as a move without a call
-  lingers_moves : (r : Rest G) (x : Held) (c d : Closing) {u v : ℕ → Wire} → x.conn ≡ c.conn → x.going ≡ owed_of c → (l : Lingers c d u v) → Moves answer accepts 0 1 [] r r x (record { conn = x.conn; unfed = x.unfed ++ l.dropped; going = owed_of d }) u v
+  lingers_moves : (r : Rest G) (x : Held) (c d : Closing) {u v : ℕ → Wire} → x.conn ≡ c.conn → x.going ≡ owed_of c → (l : Lingers c d u v) → Moves answer welcomes 0 1 [] r r x (record { conn = x.conn; unfed = x.unfed ++ l.dropped; going = owed_of d }) u v
   lingers_moves r x c d {u = u} {v = v} e going l = record {
     calls = [];
     own = tt;
@@ -164,7 +164,7 @@ module _ {G : Type 0} (answer : List EntryView → List WriteView → List ℕ �
   }
 
   -- a turn of the first whose session was given up
-  pub leads_lingered : {r : Rest G} {u v : ℕ → Wire} {t : Option (List Told)} (c d : Closing) (hs : List Held) (cs : List Owed) → Lingers c d u v → Leads answer accepts 0 (among hs (closing_owed c ∷ cs) r u t) (among hs (closing_owed d ∷ cs) r v t)
+  pub leads_lingered : {r : Rest G} {u v : ℕ → Wire} {t : Option (List Told)} (c d : Closing) (hs : List Held) (cs : List Owed) → Lingers c d u v → Leads answer welcomes 0 (among hs (closing_owed c ∷ cs) r u t) (among hs (closing_owed d ∷ cs) r v t)
   leads_lingered {r = r} {u = u} {v = v} {t = t} c d hs cs l = record {
     seated = λ q. record {
       once = λ k. subst (λ (n : ℕ). seats_at k hs + ((if n == k then 1 else 0) + closings_at k cs) ≤ 1) (sym l.same) (q.once k);
@@ -175,7 +175,7 @@ module _ {G : Type 0} (answer : List EntryView → List WriteView → List ℕ �
     from = λ w before earlier calls q st.
         let alone = alone_closing (closing_owed c) hs cs q in
         let x = st.held c.conn in
-        let number : x.conn ≡ c.conn = held_numbers answer accepts st.turns c.conn in
+        let number : x.conn ≡ c.conn = held_numbers answer welcomes st.turns c.conn in
         let y : Held = record { conn = x.conn; unfed = x.unfed ++ l.dropped; going = owed_of d } in
         let p = lingers_moves r x c d number st.closings.0 l in (
           p.calls,
@@ -187,7 +187,7 @@ module _ {G : Type 0} (answer : List EntryView → List WriteView → List ℕ �
   }
 
   -- the first whose session was given up is closed
-  pub leads_closed : {r : Rest G} {u : ℕ → Wire} {t : Option (List Told)} (c : Owed) (hs : List Held) (cs : List Owed) → Leads answer accepts 0 (among hs (c ∷ cs) r u t) (among hs cs r u t)
+  pub leads_closed : {r : Rest G} {u : ℕ → Wire} {t : Option (List Told)} (c : Owed) (hs : List Held) (cs : List Owed) → Leads answer welcomes 0 (among hs (c ∷ cs) r u t) (among hs cs r u t)
   leads_closed {r = r} {u = u} {t = t} c hs cs = record {
     seated = λ q. record {
       once = λ k. let l = q.once k in omega (arith, l);
@@ -198,7 +198,7 @@ module _ {G : Type 0} (answer : List EntryView → List WriteView → List ℕ �
     from = λ w before earlier calls q st. (
       [],
       omega arith,
-      subst (λ (es : List Event). Stands answer accepts w before earlier es (among hs cs r u t)) (sym (append-nil calls)) (record {
+      subst (λ (es : List Event). Stands answer welcomes w before earlier es (among hs cs r u t)) (sym (append-nil calls)) (record {
         held = st.held;
         turns = st.turns;
         seats = st.seats;
@@ -212,7 +212,7 @@ module _ {G : Type 0} (answer : List EntryView → List WriteView → List ℕ �
   }
 
   -- the first is the last then
-  pub leads_back : {r : Rest G} {u : ℕ → Wire} {t : Option (List Told)} (h : Held) (hs : List Held) (cs : List Owed) → Leads answer accepts 0 (among (h ∷ hs) cs r u t) (among (hs ++ h ∷ []) cs r u t)
+  pub leads_back : {r : Rest G} {u : ℕ → Wire} {t : Option (List Told)} (h : Held) (hs : List Held) (cs : List Owed) → Leads answer welcomes 0 (among (h ∷ hs) cs r u t) (among (hs ++ h ∷ []) cs r u t)
   leads_back {r = r} {u = u} {t = t} h hs cs = record {
     seated = λ q. record {
       once = λ k. let l = q.once k in let e = seats_push k hs h in omega (arith, l, e);
@@ -223,7 +223,7 @@ module _ {G : Type 0} (answer : List EntryView → List WriteView → List ℕ �
     from = λ w before earlier calls q st. (
       [],
       omega arith,
-      subst (λ (es : List Event). Stands answer accepts w before earlier es (among (hs ++ h ∷ []) cs r u t)) (sym (append-nil calls)) (record {
+      subst (λ (es : List Event). Stands answer welcomes w before earlier es (among (hs ++ h ∷ []) cs r u t)) (sym (append-nil calls)) (record {
         held = st.held;
         turns = st.turns;
         seats = each_push (λ x. st.held x.conn ≡ x) hs h st.seats.1 st.seats.0;
@@ -236,7 +236,7 @@ module _ {G : Type 0} (answer : List EntryView → List WriteView → List ℕ �
     );
   }
 
-  pub leads_behind : {r : Rest G} {u : ℕ → Wire} {t : Option (List Told)} (c : Owed) (hs : List Held) (cs : List Owed) → Leads answer accepts 0 (among hs (c ∷ cs) r u t) (among hs (cs ++ c ∷ []) r u t)
+  pub leads_behind : {r : Rest G} {u : ℕ → Wire} {t : Option (List Told)} (c : Owed) (hs : List Held) (cs : List Owed) → Leads answer welcomes 0 (among hs (c ∷ cs) r u t) (among hs (cs ++ c ∷ []) r u t)
   leads_behind {r = r} {u = u} {t = t} c hs cs = record {
     seated = λ q. record {
       once = λ k. let l = q.once k in let e = closings_push k cs c in omega (arith, l, e);
@@ -247,7 +247,7 @@ module _ {G : Type 0} (answer : List EntryView → List WriteView → List ℕ �
     from = λ w before earlier calls q st. (
       [],
       omega arith,
-      subst (λ (es : List Event). Stands answer accepts w before earlier es (among hs (cs ++ c ∷ []) r u t)) (sym (append-nil calls)) (record {
+      subst (λ (es : List Event). Stands answer welcomes w before earlier es (among hs (cs ++ c ∷ []) r u t)) (sym (append-nil calls)) (record {
         held = st.held;
         turns = st.turns;
         seats = st.seats;
@@ -261,14 +261,14 @@ module _ {G : Type 0} (answer : List EntryView → List WriteView → List ℕ �
   }
 
   -- no byte moves
-  pub leads_heard : {r : Rest G} {u v : ℕ → Wire} {t : Option (List Told)} (hs : List Held) (cs : List Owed) → ((k : ℕ) → v k ≡ u k) → Leads answer accepts 0 (among hs cs r u t) (among hs cs r v t)
+  pub leads_heard : {r : Rest G} {u v : ℕ → Wire} {t : Option (List Told)} (hs : List Held) (cs : List Owed) → ((k : ℕ) → v k ≡ u k) → Leads answer welcomes 0 (among hs cs r u t) (among hs cs r v t)
   leads_heard {r = r} {u = u} {v = v} {t = t} hs cs same = record {
     seated = λ q. record { once = q.once; seats = q.seats; closings = q.closings; unused = q.unused };
     from = λ w before earlier calls q st.
         let x = st.held 0 in
-        let number : x.conn ≡ 0 = held_numbers answer accepts st.turns 0 in
+        let number : x.conn ≡ 0 = held_numbers answer welcomes st.turns 0 in
         let kept : (k : ℕ) → holding st.held x k ≡ st.held k = holding_same st.held 0 number in
-        let p : Moves answer accepts 0 0 [] r r x x u v = record {
+        let p : Moves answer welcomes 0 0 [] r r x x u v = record {
           calls = [];
           own = tt;
           few = omega arith;
@@ -293,9 +293,9 @@ module _ {G : Type 0} (answer : List EntryView → List WriteView → List ℕ �
   }
 
   -- a session is opened
-  pub leads_opened : {r : Rest G} {u : ℕ → Wire} {t : Option (List Told)} (hs : List Held) (cs : List Owed) → is_full r ≡ false → Leads answer accepts 1 (among hs cs r u t) (among (new_held r.next ∷ hs) cs (opened r) u t)
+  pub leads_opened : {r : Rest G} {u : ℕ → Wire} {t : Option (List Told)} (hs : List Held) (cs : List Owed) → is_full r ≡ false → Leads answer welcomes 1 (among hs cs r u t) (among (new_held r.next ∷ hs) cs (opened r) u t)
   leads_opened {r = r} {u = u} {t = t} hs cs room =
-      let is : after_event answer accepts opens r ≡ opened r = rw room refl in
+      let is : after_event answer welcomes opens r ≡ opened r = rw room refl in
       record {
         seated = λ q.
             let none = no_seats (IsLive r) r.next (λ h l. l.below) hs q.seats in
@@ -317,13 +317,13 @@ module _ {G : Type 0} (answer : List EntryView → List WriteView → List ℕ �
           omega arith,
           record {
             held = st.held;
-            turns = subst (λ (s : Rest G). Turns answer accepts w before (calls ++ opens ∷ []) s st.held u) is (then_opens st.turns);
+            turns = subst (λ (s : Rest G). Turns answer welcomes w before (calls ++ opens ∷ []) s st.held u) is (then_opens st.turns);
             seats = (st.untouched r.next (omega arith), st.seats);
             closings = st.closings;
             untouched = λ k l. st.untouched k (omega (arith, l));
             made = st.made;
             told = st.told;
-            ends = subst (λ (gs : List Gone). AreTold st.made gs) (sym (gone_both answer accepts calls (opens ∷ []) w r (turns_reach answer accepts st.turns) ∙ append-nil (gone_of answer accepts calls w))) st.ends;
+            ends = subst (λ (gs : List Gone). AreTold st.made gs) (sym (gone_both answer welcomes calls (opens ∷ []) w r (turns_reach answer welcomes st.turns) ∙ append-nil (gone_of answer welcomes calls w))) st.ends;
           },
         );
       }

@@ -1,12 +1,12 @@
 -- What is done with one connection, and with a list of them in turn.
-use Rattle.std.proofs.Common.{◌≡◌, ◌⊎◌, inl, inr, ◌<◌, ◌≤◌, ◌+◌, ◌-◌, ◌*◌, add-one, refl, sym, ap, subst, ◌∙◌, ℕ, arith, length, Bool, true, List, [], ◌∷◌, ◌++◌, map, append_assoc, IsSome, Option, Some, None, Result, Ok, Err}
+use Rattle.std.proofs.Common.{◌≡◌, ◌⊎◌, inl, inr, ◌<◌, ◌≤◌, ◌+◌, ◌-◌, ◌*◌, add-one, refl, sym, ap, subst, ◌∙◌, ℕ, arith, length, true, List, [], ◌∷◌, ◌++◌, map, append_assoc, IsSome, Option, Some, None, Result, Ok, Err}
 use Rattle.std.proofs.Math.Nat.{suc-mul, mul-le-mul_right}
 use Rattle.std.specs.Prelude.{unwrap_or}
 use Rattle.std.specs.List.{AllByRecursion}
 use Rattle.std.proofs.lemmas.Bool.{eq-eqb}
 use Rattle.std.proofs.lemmas.List.{map_push}
 use Rattle.engine.specs.declared.answer.Mode.{Mode as QueryMode}
-use Rattle.engine.specs.Prelude.{WriteView, ParameterView, EntryView, AnswerView, QueryFault}
+use Rattle.engine.specs.Prelude.{WriteView, ParameterView, EntryView, AnswerView, QueryFault, Welcome}
 use Rattle.session.specs.declared.kinds.Cause.{Cause}
 use Rattle.session.specs.declared.kinds.Cause.TheVariants as cause
 use Rattle.server.specs.Prelude.{Rest, Live, find, fresh, opened, lost_at, cause_or, Opens, loses}
@@ -86,24 +86,24 @@ not_opened refused.NoSuchConnection r s o = absurd o
 not_opened refused.SessionsFull r s o = o.1
 not_opened refused.Memory r s o = o.1
 
-module _ {G : Type 0} (answer : List EntryView → List WriteView → List ℕ → List ParameterView → QueryMode → Result AnswerView QueryFault) (accepts : G → List ℕ → List ℕ → Bool) where
+module _ {G : Type 0} (answer : List EntryView → List WriteView → List ℕ → List ParameterView → QueryMode → Result AnswerView QueryFault) (welcomes : G → Welcome) where
   -- the guest was sent away
-  pub leads_refused : {r s : Rest G} {u v : ℕ → Wire} {t : Option (List Told)} (hs : List Held) (cs : List Owed) → s ≡ r → ((k : ℕ) → v k ≡ u k) → Leads answer accepts 3 (among hs cs r u t) (among hs cs s v t)
-  leads_refused {r = r} {u = u} {v = v} {t = t} hs cs e same = subst (λ (x : Rest G). Leads answer accepts 3 (among hs cs r u t) (among hs cs x v t)) (sym e) (leads_within answer accepts (leads_heard answer accepts hs cs same) (omega arith))
+  pub leads_refused : {r s : Rest G} {u v : ℕ → Wire} {t : Option (List Told)} (hs : List Held) (cs : List Owed) → s ≡ r → ((k : ℕ) → v k ≡ u k) → Leads answer welcomes 3 (among hs cs r u t) (among hs cs s v t)
+  leads_refused {r = r} {u = u} {v = v} {t = t} hs cs e same = subst (λ (x : Rest G). Leads answer welcomes 3 (among hs cs r u t) (among hs cs x v t)) (sym e) (leads_within answer welcomes (leads_heard answer welcomes hs cs same) (omega arith))
 
   -- a session was opened for the guest, which has a seat
-  leads_guest : {r s : Rest G} {u v : ℕ → Wire} {t : Option (List Told)} (conn : ℕ) (h : Held) (hs : List Held) (cs : List Owed) → Opens (Ok conn) r s → h ≡ new_held conn → ((k : ℕ) → v k ≡ u k) → Leads answer accepts 1 (among hs cs r u t) (among (h ∷ hs) cs s v t)
+  leads_guest : {r s : Rest G} {u v : ℕ → Wire} {t : Option (List Told)} (conn : ℕ) (h : Held) (hs : List Held) (cs : List Owed) → Opens (Ok conn) r s → h ≡ new_held conn → ((k : ℕ) → v k ≡ u k) → Leads answer welcomes 1 (among hs cs r u t) (among (h ∷ hs) cs s v t)
   leads_guest {r = r} {s = s} {u = u} {v = v} {t = t} conn h hs cs o e same =
       let is : new_held r.next ≡ h = ap new_held (sym o.1) ∙ sym e in
-      subst (λ (x : Held). Leads answer accepts 1 (among hs cs r u t) (among (x ∷ hs) cs s v t)) is
-      (subst (λ (x : Rest G). Leads answer accepts 1 (among hs cs r u t) (among (new_held r.next ∷ hs) cs x v t)) (sym o.2)
-      (leads_within answer accepts (leads_then answer accepts (leads_opened answer accepts hs cs o.0) (leads_heard answer accepts (new_held r.next ∷ hs) cs same)) (omega arith)))
+      subst (λ (x : Held). Leads answer welcomes 1 (among hs cs r u t) (among (x ∷ hs) cs s v t)) is
+      (subst (λ (x : Rest G). Leads answer welcomes 1 (among hs cs r u t) (among (new_held r.next ∷ hs) cs x v t)) (sym o.2)
+      (leads_within answer welcomes (leads_then answer welcomes (leads_opened answer welcomes hs cs o.0) (leads_heard answer welcomes (new_held r.next ∷ hs) cs same)) (omega arith)))
 
   pub leads_let_in : {r s : Rest G} {u v : ℕ → Wire} {t : Option (List Told)} (conn : ℕ) (seat : Seat) (items new : List Seat) (cs : List Owed) → Opens (Ok conn) r s → seat_held seat ≡ new_held conn → ((k : ℕ) → v k ≡ u k) → new ≡ items ++ seat ∷ []
-      → Leads answer accepts 3 (among (map seat_held items) cs r u t) (among (map seat_held new) cs s v t)
+      → Leads answer welcomes 3 (among (map seat_held items) cs r u t) (among (map seat_held new) cs s v t)
   leads_let_in {r = r} {s = s} {u = u} {v = v} {t = t} conn seat items new cs o e same grown =
-      subst (λ (xs : List Held). Leads answer accepts 3 (among (map seat_held items) cs r u t) (among xs cs s v t)) (sym (seats_grown items new seat grown))
-      (leads_within answer accepts (leads_then answer accepts (leads_guest conn (seat_held seat) (map seat_held items) cs o e same) (leads_back answer accepts (seat_held seat) (map seat_held items) cs)) (omega arith))
+      subst (λ (xs : List Held). Leads answer welcomes 3 (among (map seat_held items) cs r u t) (among xs cs s v t)) (sym (seats_grown items new seat grown))
+      (leads_within answer welcomes (leads_then answer welcomes (leads_guest conn (seat_held seat) (map seat_held items) cs o e same) (leads_back answer welcomes (seat_held seat) (map seat_held items) cs)) (omega arith))
 
   -- the session of a guest lives
   pub guest_lives : (r s : Rest G) (conn : ℕ) (h : Held) → Opens (Ok conn) r s → h ≡ new_held conn → IsSome (find h.conn s.sessions)
@@ -112,63 +112,63 @@ module _ {G : Type 0} (answer : List EntryView → List WriteView → List ℕ �
       subst (λ (k : ℕ). IsSome (find k s.sessions)) (sym number) (subst (λ (x : Rest G). IsSome (find r.next x.sessions)) (sym o.2) (found_pushed r.next r.sessions))
 
   -- the session of the first was given up, and what is owed is the first of what is owed
-  leads_given : {r s : Rest G} {u : ℕ → Wire} {t told : Option (List Told)} (parting : Parting) (h : Held) (owed : List ℕ) (hs : List Held) (cs : List Owed) → Parts answer accepts parting r s h owed u → TellsMore t told (record { conn = h.conn; parting = parting } ∷ []) → Leads answer accepts 2 (among (h ∷ hs) cs r u t) (among hs (record { conn = h.conn; bytes = owed } ∷ cs) s u told)
-  leads_given (Whole cause) h owed hs cs p tells = leads_parted answer accepts (Whole cause) h (with_going owed h) hs cs p refl tells
-  leads_given (Cut cause) h owed hs cs p tells = leads_parted answer accepts (Cut cause) h (with_going owed h) hs cs p.2 (p.0, p.1, refl) tells
+  leads_given : {r s : Rest G} {u : ℕ → Wire} {t told : Option (List Told)} (parting : Parting) (h : Held) (owed : List ℕ) (hs : List Held) (cs : List Owed) → Parts answer welcomes parting r s h owed u → TellsMore t told (record { conn = h.conn; parting = parting } ∷ []) → Leads answer welcomes 2 (among (h ∷ hs) cs r u t) (among hs (record { conn = h.conn; bytes = owed } ∷ cs) s u told)
+  leads_given (Whole cause) h owed hs cs p tells = leads_parted answer welcomes (Whole cause) h (with_going owed h) hs cs p refl tells
+  leads_given (Cut cause) h owed hs cs p tells = leads_parted answer welcomes (Cut cause) h (with_going owed h) hs cs p.2 (p.0, p.1, refl) tells
 
   -- the guest had no seat, and its session was given up
-  pub leads_seatless : {r s after : Rest G} {u v : ℕ → Wire} {t told : Option (List Told)} (conn : ℕ) (parting : Parting) (h : Held) (owed : List ℕ) (hs : List Held) (cs : List Owed) → Opens (Ok conn) r s → h ≡ new_held conn → ((k : ℕ) → v k ≡ u k) → Parts answer accepts parting s after h owed v → TellsMore t told (record { conn = conn; parting = parting } ∷ []) → Leads answer accepts 3 (among hs cs r u t) (among hs cs after v told)
+  pub leads_seatless : {r s after : Rest G} {u v : ℕ → Wire} {t told : Option (List Told)} (conn : ℕ) (parting : Parting) (h : Held) (owed : List ℕ) (hs : List Held) (cs : List Owed) → Opens (Ok conn) r s → h ≡ new_held conn → ((k : ℕ) → v k ≡ u k) → Parts answer welcomes parting s after h owed v → TellsMore t told (record { conn = conn; parting = parting } ∷ []) → Leads answer welcomes 3 (among hs cs r u t) (among hs cs after v told)
   leads_seatless {t = t} {told = told} conn parting h owed hs cs o e same p tells =
       let number : h.conn ≡ conn = ap (λ (x : Held). x.conn) e in
       let mine : TellsMore t told (record { conn = h.conn; parting = parting } ∷ []) = subst (λ (k : ℕ). TellsMore t told (record { conn = k; parting = parting } ∷ [])) (sym number) tells in
-      leads_within answer accepts (leads_then answer accepts (leads_guest conn h hs cs o e same) (leads_then answer accepts (leads_given parting h owed hs cs p mine) (leads_closed answer accepts (record { conn = h.conn; bytes = owed }) hs cs))) (omega arith)
+      leads_within answer welcomes (leads_then answer welcomes (leads_guest conn h hs cs o e same) (leads_then answer welcomes (leads_given parting h owed hs cs p mine) (leads_closed answer welcomes (record { conn = h.conn; bytes = owed }) hs cs))) (omega arith)
 
   -- there was no memory for a seat
-  pub leads_memory : {r s after : Rest G} {u v : ℕ → Wire} {t told : Option (List Told)} (conn : ℕ) (was : Option Cause) (now : Cause) (hs : List Held) (cs : List Owed) → IsSeated (among hs cs r u t) → Opens (Ok conn) r s → ((k : ℕ) → v k ≡ u k) → lost_at conn s ≡ (was, after) → now ≡ unwrap_or was cause.Lost → TellsMore t told (record { conn = conn; parting = Whole now } ∷ []) → Leads answer accepts 3 (among hs cs r u t) (among hs cs after v told)
+  pub leads_memory : {r s after : Rest G} {u v : ℕ → Wire} {t told : Option (List Told)} (conn : ℕ) (was : Option Cause) (now : Cause) (hs : List Held) (cs : List Owed) → IsSeated (among hs cs r u t) → Opens (Ok conn) r s → ((k : ℕ) → v k ≡ u k) → lost_at conn s ≡ (was, after) → now ≡ unwrap_or was cause.Lost → TellsMore t told (record { conn = conn; parting = Whole now } ∷ []) → Leads answer welcomes 3 (among hs cs r u t) (among hs cs after v told)
   leads_memory {r = r} {s = s} {after = after} {u = u} {v = v} {t = t} {told = told} conn was now hs cs q o same lost is_now tells =
       let h : Held = new_held conn in
       let new : find conn s.sessions ≡ Some (fresh conn) = ap (λ (x : Rest G). find conn x.sessions) o.2 ∙ subst (λ (k : ℕ). find k (opened r).sessions ≡ Some (fresh k)) (sym o.1) (found_new r.next r.sessions (q.unused r.next (omega arith))) in
       let ends : ends_by conn (loses conn) s ≡ record { cause = cause.Lost; unsaid = [] } ∷ [] = rw (eq-eqb conn conn refl) (ap end_of new) in
       let gave : was ≡ Some cause.Lost = sym (ap (λ (p : Option Cause × Rest G). p.0) lost) ∙ ap (λ (x : Option Live). option_cause x) new in
       let told_so : TellsMore t told (record { conn = conn; parting = Whole cause.Lost } ∷ []) = subst (λ (c : Cause). TellsMore t told (record { conn = conn; parting = Whole c } ∷ [])) (is_now ∙ ap (λ (x : Option Cause). unwrap_or x cause.Lost) gave) tells in
-      let p : Moves answer accepts 1 0 (record { cause = cause.Lost; unsaid = [] } ∷ []) s after h h v v = moves_lost answer accepts s after h v (record { cause = cause.Lost; unsaid = [] } ∷ []) (ap (λ (p : Option Cause × Rest G). p.1) lost) ends in
-      leads_within answer accepts (leads_then answer accepts (leads_guest conn h hs cs o refl same) (leads_then answer accepts (leads_parted answer accepts (Whole cause.Lost) h h hs cs p refl told_so) (leads_closed answer accepts (record { conn = conn; bytes = [] }) hs cs))) (omega arith)
+      let p : Moves answer welcomes 1 0 (record { cause = cause.Lost; unsaid = [] } ∷ []) s after h h v v = moves_lost answer welcomes s after h v (record { cause = cause.Lost; unsaid = [] } ∷ []) (ap (λ (p : Option Cause × Rest G). p.1) lost) ends in
+      leads_within answer welcomes (leads_then answer welcomes (leads_guest conn h hs cs o refl same) (leads_then answer welcomes (leads_parted answer welcomes (Whole cause.Lost) h h hs cs p refl told_so) (leads_closed answer welcomes (record { conn = conn; bytes = [] }) hs cs))) (omega arith)
     where
       option_cause : Option Live → Option Cause
       option_cause None = None
       option_cause (Some s) = Some (cause_or s.kept.ended)
 
   -- the first lives on where its session wasn't given up
-  pub lives_on : {m asks : ℕ} {r s : Rest G} {u v : ℕ → Wire} {t : Option (List Told)} (h y : Held) (hs : List Held) (cs : List Owed) → IsSeated (among (h ∷ hs) cs r u t) → Moves answer accepts m asks [] r s h y u v → IsSome (find y.conn s.sessions)
-  lives_on {s = s} h y hs cs q p = subst (λ (k : ℕ). IsSome (find k s.sessions)) (sym p.same) (moves_live answer accepts p q.seats.0.lives)
+  pub lives_on : {m asks : ℕ} {r s : Rest G} {u v : ℕ → Wire} {t : Option (List Told)} (h y : Held) (hs : List Held) (cs : List Owed) → IsSeated (among (h ∷ hs) cs r u t) → Moves answer welcomes m asks [] r s h y u v → IsSome (find y.conn s.sessions)
+  lives_on {s = s} h y hs cs q p = subst (λ (k : ℕ). IsSome (find k s.sessions)) (sym p.same) (moves_live answer welcomes p q.seats.0.lives)
 
   -- the first had its turn, and its session lives on
-  pub leads_stays : {m asks : ℕ} {r s : Rest G} {u v : ℕ → Wire} {t : Option (List Told)} (h : Held) (seat : Seat) (items new : List Seat) (cs : List Owed) → IsSeated (among (h ∷ map seat_held items) cs r u t) → Moves answer accepts m asks [] r s h (seat_held seat) u v → new ≡ items ++ seat ∷ []
-      → Leads answer accepts (m + 2) (among (h ∷ map seat_held items) cs r u t) (among (map seat_held new) cs s v t)
+  pub leads_stays : {m asks : ℕ} {r s : Rest G} {u v : ℕ → Wire} {t : Option (List Told)} (h : Held) (seat : Seat) (items new : List Seat) (cs : List Owed) → IsSeated (among (h ∷ map seat_held items) cs r u t) → Moves answer welcomes m asks [] r s h (seat_held seat) u v → new ≡ items ++ seat ∷ []
+      → Leads answer welcomes (m + 2) (among (h ∷ map seat_held items) cs r u t) (among (map seat_held new) cs s v t)
   leads_stays {m = m} {r = r} {s = s} {u = u} {v = v} {t = t} h seat items new cs q p grown =
       let y = seat_held seat in
       let hs = map seat_held items in
-      subst (λ (xs : List Held). Leads answer accepts (m + 2) (among (h ∷ hs) cs r u t) (among xs cs s v t)) (sym (seats_grown items new seat grown))
-      (leads_within answer accepts (leads_then answer accepts (leads_turned answer accepts h y hs cs p (moves_live answer accepts p q.seats.0.lives)) (leads_back answer accepts y hs cs)) (omega arith))
+      subst (λ (xs : List Held). Leads answer welcomes (m + 2) (among (h ∷ hs) cs r u t) (among xs cs s v t)) (sym (seats_grown items new seat grown))
+      (leads_within answer welcomes (leads_then answer welcomes (leads_turned answer welcomes h y hs cs p (moves_live answer welcomes p q.seats.0.lives)) (leads_back answer welcomes y hs cs)) (omega arith))
 
   -- and it was given up
-  pub leads_ends : {m asks : ℕ} {r s after : Rest G} {u v : ℕ → Wire} {t told : Option (List Told)} (h y : Held) (items new : List Seat) (cs ds : List Owed) → IsSeated (among (h ∷ map seat_held items) cs r u t) → Moves answer accepts m asks [] r s h y u v → Ends answer accepts y cs ds s after t told → new ≡ items
-      → Leads answer accepts (m + 2) (among (h ∷ map seat_held items) cs r u t) (among (map seat_held new) ds after v told)
+  pub leads_ends : {m asks : ℕ} {r s after : Rest G} {u v : ℕ → Wire} {t told : Option (List Told)} (h y : Held) (items new : List Seat) (cs ds : List Owed) → IsSeated (among (h ∷ map seat_held items) cs r u t) → Moves answer welcomes m asks [] r s h y u v → Ends answer welcomes y cs ds s after t told → new ≡ items
+      → Leads answer welcomes (m + 2) (among (h ∷ map seat_held items) cs r u t) (among (map seat_held new) ds after v told)
   leads_ends {m = m} {r = r} {after = after} {u = u} {v = v} {t = t} {told = told} h y items new cs ds q p e same =
       let o : Owed = record { conn = y.conn; bytes = e.owed } in
       let hs = map seat_held items in
-      subst (λ (xs : List Seat). Leads answer accepts (m + 2) (among (h ∷ hs) cs r u t) (among (map seat_held xs) ds after v told)) (sym same)
-      (subst (λ (xs : List Owed). Leads answer accepts (m + 2) (among (h ∷ hs) cs r u t) (among hs xs after v told)) (sym e.closings)
-      (leads_within answer accepts (leads_then answer accepts (leads_turned answer accepts h y hs cs p (moves_live answer accepts p q.seats.0.lives)) (leads_then answer accepts (leads_given e.parting y e.owed hs cs (e.parts v) e.told) (leads_behind answer accepts o hs cs))) (omega arith)))
+      subst (λ (xs : List Seat). Leads answer welcomes (m + 2) (among (h ∷ hs) cs r u t) (among (map seat_held xs) ds after v told)) (sym same)
+      (subst (λ (xs : List Owed). Leads answer welcomes (m + 2) (among (h ∷ hs) cs r u t) (among hs xs after v told)) (sym e.closings)
+      (leads_within answer welcomes (leads_then answer welcomes (leads_turned answer welcomes h y hs cs p (moves_live answer welcomes p q.seats.0.lives)) (leads_then answer welcomes (leads_given e.parting y e.owed hs cs (e.parts v) e.told) (leads_behind answer welcomes o hs cs))) (omega arith)))
 
   -- a turn of the first whose session was given up
-  pub leads_faded : {r : Rest G} {u v : ℕ → Wire} {t : Option (List Told)} (limits : Limits) (now : ℕ) (hs : List Held) (cs ds : List Closing) → Fades limits now cs ds u v → Leads answer accepts 0 (among hs (map closing_owed cs) r u t) (among hs (map closing_owed ds) r v t)
+  pub leads_faded : {r : Rest G} {u v : ℕ → Wire} {t : Option (List Told)} (limits : Limits) (now : ℕ) (hs : List Held) (cs ds : List Closing) → Fades limits now cs ds u v → Leads answer welcomes 0 (among hs (map closing_owed cs) r u t) (among hs (map closing_owed ds) r v t)
   leads_faded {r = r} {u = u} {v = v} {t = t} limits now hs cs ds (nobody a b same) =
-      subst (λ (xs : List Closing). Leads answer accepts 0 (among hs (map closing_owed cs) r u t) (among hs (map closing_owed xs) r v t)) (a ∙ sym b) (leads_heard answer accepts hs (map closing_owed cs) same)
+      subst (λ (xs : List Closing). Leads answer welcomes 0 (among hs (map closing_owed cs) r u t) (among hs (map closing_owed xs) r v t)) (a ∙ sym b) (leads_heard answer welcomes hs (map closing_owed cs) same)
   leads_faded {r = r} {u = u} {v = v} {t = t} limits now hs cs ds (turned c d rest a b l on) =
-      subst (λ (xs : List Closing). Leads answer accepts 0 (among hs (map closing_owed xs) r u t) (among hs (map closing_owed ds) r v t)) (sym a)
-      (subst (λ (xs : List Owed). Leads answer accepts 0 (among hs (closing_owed c ∷ map closing_owed rest) r u t) (among hs xs r v t)) (sym (ap (λ (xs : List Closing). map closing_owed xs) b ∙ map_push closing_owed rest d))
-      (leads_then answer accepts (leads_lingered answer accepts c d hs (map closing_owed rest) l) (leads_behind answer accepts (closing_owed d) hs (map closing_owed rest))))
+      subst (λ (xs : List Closing). Leads answer welcomes 0 (among hs (map closing_owed xs) r u t) (among hs (map closing_owed ds) r v t)) (sym a)
+      (subst (λ (xs : List Owed). Leads answer welcomes 0 (among hs (closing_owed c ∷ map closing_owed rest) r u t) (among hs xs r v t)) (sym (ap (λ (xs : List Closing). map closing_owed xs) b ∙ map_push closing_owed rest d))
+      (leads_then answer welcomes (leads_lingered answer welcomes c d hs (map closing_owed rest) l) (leads_behind answer welcomes (closing_owed d) hs (map closing_owed rest))))
   leads_faded {r = r} {u = u} {v = v} {t = t} limits now hs cs ds (closed c d w a l same on) =
-      subst (λ (xs : List Closing). Leads answer accepts 0 (among hs (map closing_owed xs) r u t) (among hs (map closing_owed ds) r v t)) (sym a)
-      (leads_then answer accepts (leads_lingered answer accepts c d hs (map closing_owed ds) l) (leads_then answer accepts (leads_closed answer accepts (closing_owed d) hs (map closing_owed ds)) (leads_heard answer accepts hs (map closing_owed ds) same)))
+      subst (λ (xs : List Closing). Leads answer welcomes 0 (among hs (map closing_owed xs) r u t) (among hs (map closing_owed ds) r v t)) (sym a)
+      (leads_then answer welcomes (leads_lingered answer welcomes c d hs (map closing_owed ds) l) (leads_then answer welcomes (leads_closed answer welcomes (closing_owed d) hs (map closing_owed ds)) (leads_heard answer welcomes hs (map closing_owed ds) same)))

@@ -1,8 +1,9 @@
 -- What a server among its connections has done.
-use Rattle.std.specs.Prelude.{◌≡◌, ◌+◌, ◌*◌, ◌≤◌, ℕ, List, [], ◌∷◌, ◌++◌, map, length, Bool, Option, Some, None, Result, ◌==◌, if◌then◌else◌}
+use Rattle.std.specs.Prelude.{◌≡◌, ◌+◌, ◌*◌, ◌≤◌, ℕ, List, [], ◌∷◌, ◌++◌, map, length, Option, Some, None, Result, ◌==◌, if◌then◌else◌}
 use Rattle.std.specs.List.{AllByRecursion}
 use Rattle.engine.specs.declared.answer.Mode.{Mode as QueryMode}
 use Rattle.engine.specs.Views.{WriteView, ParameterView, EntryView, AnswerView, QueryFault}
+use Rattle.engine.specs.Welcomes.{Welcome}
 use Rattle.server.specs.Serving.{Rest, find}
 use Rattle.server.specs.Running.{Event, loses, after_event, after_events}
 use Rattle.lines.specs.declared.line.Parting.{Parting}
@@ -33,7 +34,7 @@ abbrev pub times_gone : ℕ → List Gone → ℕ
 times_gone conn [] = 0
 times_gone conn (g ∷ gs) = (if g.conn == conn then 1 else 0) + times_gone conn gs
 
--- An end is told as it was: with its cause, and as whole exactly where all that the session had said was taken out before.
+-- An end is told as it was: with its cause, and as whole exactly if all that the session had said was taken out before.
 abbrev pub Tells : Parting → End → Type 0
 Tells (Whole cause) e = e ≡ record { cause = cause; unsaid = [] }
 Tells (Cut cause) e = (x : ℕ) × (xs : List ℕ) × (e ≡ record { cause = cause; unsaid = x ∷ xs })
@@ -44,25 +45,25 @@ AreTold [] [] = Unit {0}
 AreTold (t ∷ ts) (g ∷ gs) = (t.conn ≡ g.conn) × Tells t.parting g.end × AreTold ts gs
 AreTold _ _ = ⊥
 
--- more was told, where that is known
+-- more was told, if that is known
 abbrev pub TellsMore : Option (List Told) → Option (List Told) → List Told → Type 0
 TellsMore None new more = Unit {0}
 TellsMore (Some xs) None more = ⊥
 TellsMore (Some xs) (Some ys) more = ys ≡ xs ++ more
 
 module _ {G : Type 0} (answer : List EntryView → List WriteView → List ℕ → List ParameterView
-    → QueryMode → Result AnswerView QueryFault) (accepts : G → List ℕ → List ℕ → Bool) where
+    → QueryMode → Result AnswerView QueryFault) (welcomes : G → Welcome) where
   -- over a list of calls, in order: the sessions that were given up
   abbrev pub gone_of : List Event → Rest G → List Gone
   gone_of [] r = []
-  gone_of (e ∷ es) r = gone_by e r ++ gone_of es (after_event answer accepts e r)
+  gone_of (e ∷ es) r = gone_by e r ++ gone_of es (after_event answer welcomes e r)
 
   -- From a server on, what had come and gone before, and what was told by then: by these calls, by opening sessions and by moves of their
   -- connections, it came to stand so. What is held of each connection is what those that have it hold, and each end was told.
   pub record Stands (r : Rest G) (before : ℕ → Wire) (earlier : Option (List Told))
       (calls : List Event) (a : At G) : Type 0 where
     pub held : ℕ → Held
-    pub turns : Turns answer accepts r before calls a.rest held a.wire
+    pub turns : Turns answer welcomes r before calls a.rest held a.wire
     pub seats : AllByRecursion (λ h. held h.conn ≡ h) a.seats
     pub closings : AllByRecursion (λ c. (held c.conn).going ≡ c.bytes) a.closings
     pub untouched : (k : ℕ) → a.rest.next ≤ k → held k ≡ new_held k
@@ -82,7 +83,7 @@ module _ {G : Type 0} (answer : List EntryView → List WriteView → List ℕ �
       : Type 0 where
     pub parting : Parting
     pub owed : List ℕ
-    pub parts : (w : ℕ → Wire) → Parts answer accepts parting r s h owed w
+    pub parts : (w : ℕ → Wire) → Parts answer welcomes parting r s h owed w
     pub told : TellsMore earlier later (record { conn = h.conn; parting = parting } ∷ [])
     pub closings : ds ≡ cs ++ record { conn = h.conn; bytes = owed } ∷ []
 
@@ -92,9 +93,9 @@ module _ {G : Type 0} (answer : List EntryView → List WriteView → List ℕ �
   pub record Runs (r s : Rest G) (before after : ℕ → Wire) (earlier later : Option (List Told))
       : Type 0 where
     pub calls : List Event
-    pub reaches : after_events answer accepts calls r ≡ s
+    pub reaches : after_events answer welcomes calls r ≡ s
     pub held : ℕ → Held
-    pub bytes : (conn : ℕ) → Along answer accepts conn calls r (held conn) (before conn) (after conn)
+    pub bytes : (conn : ℕ) → Along answer welcomes conn calls r (held conn) (before conn) (after conn)
     pub made : List Told
     pub told : TellsMore earlier later made
     pub ends : AreTold made (gone_of calls r)

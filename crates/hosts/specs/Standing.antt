@@ -23,7 +23,7 @@ pub record Owed : Type 0 where
   pub bytes : List ℕ
 
 -- A server among its connections: what is held of those whose sessions live, and what is owed to those whose sessions were given up; the
--- server; what came and went of each connection; and the ends that were told, where they are known.
+-- server; what came and went of each connection; and the ends that were told, if they are known.
 pub record At (G : Type 0) : Type 0 where
   pub seats : List Held
   pub closings : List Owed

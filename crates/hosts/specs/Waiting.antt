@@ -24,7 +24,7 @@ abbrev pub remains : Limits → ℕ → Closing → Bool
 remains limits now c =
     not (is_closed c.phase) && nat_lt now (closing_deadline c.phase c.since limits)
 
--- A turn of the first connection whose session was given up, where there is one: it is the last then, or it is closed, and the others stay.
+-- A turn of the first connection whose session was given up, if there is one: it is the last then, or it is closed, and the others stay.
 pub data Fades (limits : Limits) (now : ℕ) (cs ds : List Closing) (u v : ℕ → Wire) : Type 0 where
   nobody : cs ≡ [] → ds ≡ [] → ((k : ℕ) → v k ≡ u k) → Fades limits now cs ds u v
   turned :
@@ -57,7 +57,7 @@ abbrev pub has_room : {G : Type 0} → ℕ → ℕ → Rest G → Bool
 has_room seats closings r =
     nat_lt seats 16 && (nat_lt (seats + closings) 32 && not (is_full r))
 
--- from when on somebody is greeted: never where nobody waits, or where there is no room
+-- from when on somebody is greeted: never if nobody waits, or if there is no room
 abbrev pub greeting_time : Option ℕ → Bool → ℕ
 greeting_time None room = 2 ^ 64 - 1
 greeting_time (Some time) room = if room then time else 2 ^ 64 - 1

@@ -18,7 +18,7 @@ pub struct Host {
     pub(crate) alloc: Global,
     pub(crate) seats: VecDeque<Seat>,
     pub(crate) closings: VecDeque<Closing>,
-    /// From when on the next that waits is greeted; None where nobody does.
+    /// From when on the next that waits is greeted; None if nobody does.
     pub(crate) guest: Option<u64>,
     ghost few: { deque_len seats ≤ 16 },
     ghost all: { deque_len seats + deque_len closings ≤ 32 },
@@ -114,7 +114,7 @@ impl Host {
     }
 }
 
-/// Keeps what is ready of the connection with this number, where it is among these.
+/// Keeps what is ready of the connection with this number, if it is among these.
 fn wake_seats(seats: &mut VecDeque<Seat>, conn: u64, ready: Readiness)
     ensures items { seats.new.items ≡ map (woken_seat conn ready) seats.old.items }
     ensures len { deque_len seats.new ≡ deque_len seats.old }
@@ -133,7 +133,7 @@ fn wake_seat(seat: &mut Seat, conn: u64, ready: Readiness)
     }
 }
 
-/// Keeps what is ready of the connection with this number, where it is among these.
+/// Keeps what is ready of the connection with this number, if it is among these.
 fn wake_closings(closings: &mut VecDeque<Closing>, conn: u64, ready: Readiness)
     ensures items { closings.new.items ≡ map (woken_closing conn ready) closings.old.items }
     ensures len { deque_len closings.new ≡ deque_len closings.old }
@@ -152,7 +152,7 @@ fn wake_closing(closing: &mut Closing, conn: u64, ready: Readiness)
     }
 }
 
-/// From when on somebody is greeted: never where nobody waits, or where there is no room.
+/// From when on somebody is greeted: never if nobody waits, or if there is no room.
 fn greeting_time(guest: Option<u64>, room: bool) -> u64
     ensures { result ≡ greeting_time guest room }
 {

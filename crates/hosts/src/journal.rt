@@ -7,7 +7,7 @@ use lines::Parting;
 
 /// Who is told of each connection whose session was given up.
 pub trait Journal {
-    // The ends that were told, in order, where they are known.
+    // The ends that were told, in order, if they are known.
     ghost told: { Self → Option (List Told) };
 
     /// The session of the connection with this number was given up so.

@@ -11,7 +11,7 @@ use server::laws::keeps_limits;
 /// Over every list of calls on a server that was made empty, each session is given up once at most. So in a run no number is told twice.
 pub fn given_up_once<E: Engine, G: Gate>()
     ensures { (ledger : List EntryView) (gate : G) (calls : List Event) (conn : ℕ)
-        → times_gone conn (gone_of E.answer G.accepts calls (empty ledger gate)) ≤ 1 }
+        → times_gone conn (gone_of E.answer G.welcomes calls (empty ledger gate)) ≤ 1 }
 {
     keeps_limits::<E, G>();
 }

@@ -21,7 +21,7 @@ impl Host {
     ghost use Rattle.hosts.specs.Running.{Leads, Ends, turn_calls, round_calls};
     ghost use Rattle.hosts.specs.Waiting.{AddsInTime, Fades, InTime, remains};
 
-    /// A round at this time: lets in who waits, as far as there is room; then each connection has one turn, where that would do something;
+    /// A round at this time: lets in who waits, as far as there is room; then each connection has one turn, if that would do something;
     /// and each of which there are no further turns, or whose time is up, is given up, and at last closed.
     pub fn round<E: Engine, G: Gate, P: Peers, J: Journal>(
         &mut self,
@@ -33,7 +33,7 @@ impl Host {
     )
         requires { IsSeated (standing E.entries P.wire J.told self.old.seats.items self.old.closings.items
             server.old peers.old journal.old) }
-        ensures leads { Leads E.answer G.accepts (round_calls limits.now)
+        ensures leads { Leads E.answer G.welcomes (round_calls limits.now)
             (standing E.entries P.wire J.told self.old.seats.items self.old.closings.items
             server.old peers.old journal.old)
             (standing E.entries P.wire J.told self.new.seats.items self.new.closings.items
@@ -60,7 +60,7 @@ impl Host {
     )
         requires { IsSeated (standing E.entries P.wire J.told self.old.seats.items self.old.closings.items
             server.old peers.old journal.old) }
-        ensures { Leads E.answer G.accepts (16 * 3)
+        ensures { Leads E.answer G.welcomes (16 * 3)
             (standing E.entries P.wire J.told self.old.seats.items self.old.closings.items
             server.old peers.old journal.old)
             (standing E.entries P.wire J.told self.new.seats.items self.new.closings.items
@@ -95,7 +95,7 @@ impl Host {
         }
     }
 
-    /// Opens a session for the guest, and gives it a seat. Where that can't be, it is sent away; and its session is given up, where one
+    /// Opens a session for the guest, and gives it a seat. If that can't be, it is sent away; and its session is given up, if one
     /// was opened.
     fn let_in<E: Engine, G: Gate, P: Peers, J: Journal>(
         &mut self,
@@ -108,7 +108,7 @@ impl Host {
         requires places { length self.old.seats.items + length self.old.closings.items < 32 }
         requires seated { IsSeated (standing E.entries P.wire J.told
             self.old.seats.items self.old.closings.items server.old peers.old journal.old) }
-        ensures { Leads E.answer G.accepts 3
+        ensures { Leads E.answer G.welcomes 3
             (standing E.entries P.wire J.told self.old.seats.items self.old.closings.items
             server.old peers.old journal.old)
             (standing E.entries P.wire J.told self.new.seats.items self.new.closings.items
@@ -143,7 +143,7 @@ impl Host {
     )
         requires { IsSeated (standing E.entries P.wire J.told self.old.seats.items self.old.closings.items
             server.old peers.old journal.old) }
-        ensures leads { Leads E.answer G.accepts (16 * turn_calls limits.now)
+        ensures leads { Leads E.answer G.welcomes (16 * turn_calls limits.now)
             (standing E.entries P.wire J.told self.old.seats.items self.old.closings.items
             server.old peers.old journal.old)
             (standing E.entries P.wire J.told self.new.seats.items self.new.closings.items
@@ -173,7 +173,7 @@ impl Host {
         requires places { length self.old.seats.items + length self.old.closings.items < 32 }
         requires seated { IsSeated (standing E.entries P.wire J.told
             (seat ∷ self.old.seats.items) self.old.closings.items server.old peers.old journal.old) }
-        ensures leads { Leads E.answer G.accepts (turn_calls limits.now)
+        ensures leads { Leads E.answer G.welcomes (turn_calls limits.now)
             (standing E.entries P.wire J.told (seat ∷ self.old.seats.items) self.old.closings.items
             server.old peers.old journal.old)
             (standing E.entries P.wire J.told self.new.seats.items self.new.closings.items
@@ -198,7 +198,7 @@ impl Host {
         requires places { length self.old.seats.items + length self.old.closings.items < 32 }
         requires lives { IsSome (find (seat_held seat).conn (rest_of E.entries server.old).sessions) }
         ensures seats { self.new.seats.items ≡ self.old.seats.items }
-        ensures ends { Ends E.answer G.accepts (seat_held seat) (map closing_owed self.old.closings.items)
+        ensures ends { Ends E.answer G.welcomes (seat_held seat) (map closing_owed self.old.closings.items)
             (map closing_owed self.new.closings.items) (rest_of E.entries server.old)
             (rest_of E.entries server.new) (J.told journal.old) (J.told journal.new) }
     {

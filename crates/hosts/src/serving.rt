@@ -29,7 +29,7 @@ pub fn serve<E: Engine, G: Gate, P: Peers, J: Journal>(
     limits: &Limits,
 ) -> Stopped
     requires { (rest_of E.entries server.old).sessions ≡ [] }
-    ensures { Runs E.answer G.accepts (rest_of E.entries server.old) (rest_of E.entries server.new)
+    ensures { Runs E.answer G.welcomes (rest_of E.entries server.old) (rest_of E.entries server.new)
         (P.wire peers.old) (P.wire peers.new) (J.told journal.old) (J.told journal.new) }
 {
     let Ok(mut host) = Host::new(alloc) else {

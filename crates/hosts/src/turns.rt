@@ -10,7 +10,7 @@ use engine::{Engine, Gate};
 use lines::{Closing, Limits, Peers, Seat, Turned};
 use server::Server;
 
-/// A turn of a connection whose session lives, where it would do something; whether it goes on. Else it is to be given up: there are no
+/// A turn of a connection whose session lives, if it would do something; whether it goes on. Else it is to be given up: there are no
 /// further turns, or its time is up.
 pub(crate) fn goes_on<E: Engine, G: Gate, P: Peers>(
     seat: &mut Seat,
@@ -19,7 +19,7 @@ pub(crate) fn goes_on<E: Engine, G: Gate, P: Peers>(
     limits: &Limits,
     now: u64,
 ) -> bool
-    ensures moves { Moves E.answer G.accepts (limits.now.reads * (limits.now.steps * 2) + 1)
+    ensures moves { Moves E.answer G.welcomes (limits.now.reads * (limits.now.steps * 2) + 1)
         (limits.now.reads + 2) []
         (rest_of E.entries server.old) (rest_of E.entries server.new)
         (seat_held seat.old) (seat_held seat.new) (P.wire peers.old) (P.wire peers.new) }
@@ -34,7 +34,7 @@ pub(crate) fn goes_on<E: Engine, G: Gate, P: Peers>(
     }
 }
 
-/// A turn of a connection whose session was given up, where it would do something; whether it remains open. Else it is to be closed: nothing
+/// A turn of a connection whose session was given up, if it would do something; whether it remains open. Else it is to be closed: nothing
 /// more is done, or its time is up.
 pub(crate) fn remains<P: Peers>(
     closing: &mut Closing,

@@ -30,7 +30,7 @@ pub(crate) struct Stream {
 }
 
 impl Stream {
-    /// The position behind a piece, where that is data alone.
+    /// The position behind a piece, if that is data alone.
     pub(crate) fn behind_data(&self, piece: &[u8]) -> Option<Chunks>
         ensures { IfSome result
             (λ behind. (self.now.is_over ≡ false) × IsData self.now.chunks piece.now behind) }

@@ -27,7 +27,7 @@ pub(crate) fn read_bytes<M: Readable>(
     }
 }
 
-/// The message of which all data was read: of its bytes, or of its fault where the reader is bad. Takes no memory.
+/// The message of which all data was read: of its bytes, or of its fault if the reader is bad. Takes no memory.
 pub(crate) fn read_data<M: Readable>(
     alloc: Global,
     version: Version,

@@ -21,7 +21,7 @@ fault_line fault.ReadFailed = codes "fault I1" ++ 10 ∷ []
 fault_line fault.WriteFailed = codes "fault I2" ++ 10 ∷ []
 fault_line fault.Memory = codes "fault I3" ++ 10 ∷ []
 
--- The fault that broke a connection off was told, where one did.
+-- The fault that broke a connection off was told, if one did.
 abbrev pub TellsFault : Option StreamFault → Bool → Bool → Option (List ℕ) → Option (List ℕ) → Type 0
 TellsFault None had_failed has_failed before after = (has_failed ≡ had_failed) × (after ≡ before)
 TellsFault (Some f) had_failed has_failed before after = Gets had_failed has_failed before after (fault_line f)
@@ -61,7 +61,7 @@ module _ {G : Type 0} (r now : Rest G) where
   GoesOn Stops before after = Stops false × ServesAll before after
 
   -- How a server stands that has ended for this reason, where `Stops` says of its engine that it has stopped, or not. It ends for a disk that failed where its
-  -- engine has stopped, and for standard output where that has failed; then, and where memory has run out, the line of its last connection may be missing.
+  -- engine has stopped, and for standard output if that has failed; then, and if memory has run out, the line of its last connection may be missing.
   abbrev pub EndsFor : Reason → (Bool → Type 0) → Bool → Option (List ℕ) → Option (List ℕ) → Type 0
   EndsFor reason.DiskFailed Stops out_failed before after = Stops true × ServesAll before after
   EndsFor reason.NoConnection Stops out_failed before after = GoesOn Stops before after

@@ -41,7 +41,7 @@ fn fault_line(fault: StreamFault) -> &'static str
     }
 }
 
-/// Tells the fault that broke a connection off, where one did.
+/// Tells the fault that broke a connection off, if one did.
 fn tell_fault<W: Sink>(fault: Option<StreamFault>, err: &mut W)
     ensures { TellsFault fault (W.has_failed err.old) (W.has_failed err.new)
         (W.taken err.old) (W.taken err.new) }
@@ -51,7 +51,7 @@ fn tell_fault<W: Sink>(fault: Option<StreamFault>, err: &mut W)
     }
 }
 
-/// Serves one connection as `serve_next` does, and tells the fault that broke it off, where one did.
+/// Serves one connection as `serve_next` does, and tells the fault that broke it off, if one did.
 fn serve_told<E: Engine, G: Gate, I: Source, K: Sink, O: Sink, W: Sink>(
     alloc: Global,
     server: &mut Server<E, G>,
@@ -117,7 +117,7 @@ fn reason_of(fault: StreamFault) -> Reason
     }
 }
 
-/// Serves one connection, and answers why the server ends behind it, where it does.
+/// Serves one connection, and answers why the server ends behind it, if it does.
 fn serve_once<E: Engine + Drop, S: Alter + Drop, G: Gate, O: Sink, W: Sink>(
     alloc: Global,
     server: &mut Server<Lasting<E, S>, G>,

@@ -90,7 +90,7 @@ pub(crate) fn tell<W: Sink>(text: &[u8], err: &mut W)
     let _ = write_all(err, text);
 }
 
-/// Says on a line why the server of a file ends: `FILE: WHY`, the file's name escaped. Where no memory is left for that line, it is
+/// Says on a line why the server of a file ends: `FILE: WHY`, the file's name escaped. If no memory is left for that line, it is
 /// `out of memory`. What `err` doesn't take isn't said.
 pub fn put_reason<W: Sink>(alloc: Global, file: &str, reason: Reason, err: &mut W)
     ensures { (line : List ℕ) × IsLineOf file.now reason line

@@ -14,7 +14,7 @@ use Rattle.driver.specs.Attempts.{Made, tells, tells_in}
 use Rattle.known.specs.Attempts.{BeginsUnder, OthersStand}
 use Rattle.known.specs.Tied.{IsAt}
 
--- An attempt under the token is a connection of the world; and what it has as its COMMIT's ordinal is that of a COMMIT, where it tells that
+-- An attempt under the token is a connection of the world; and what it has as its COMMIT's ordinal is that of a COMMIT, if it tells that
 -- it stands.
 pub record IsMade (t : List ℕ) (w : World) (m : Made) : Type 0 where
   pub connection : Connection

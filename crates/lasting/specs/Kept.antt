@@ -26,7 +26,7 @@ kept_code {E} {S} inner store =
 abbrev pub ledger_of : {E S : Type 0} → (E → List EntryView) → Kept E S → List EntryView
 ledger_of entries l = take l.count (entries l.inner)
 
--- The database has the ledger that the engine shows. A crash leaves that or, where the engine has stopped, perhaps the one with the entry that it doesn't show.
+-- The database has the ledger that the engine shows. A crash leaves that or, if the engine has stopped, perhaps the one with the entry that it doesn't show.
 pub record Endures {E S : Type 0} (entries : E → List EntryView) (g : Ghosts S) (l : Kept E S) : Type 0 where
   pub has : HasLedger (state g l.conn) (ledger_of entries l)
   pub left : LeavesEither (state g l.conn) (ledger_of entries l) (entries l.inner)

@@ -67,7 +67,7 @@ abbrev pub values_of : ℤ → ℤ → ℤ → ℤ → Token → List ℕ → Ro
 values_of number opening conn ordinal token bytes =
     Int number ∷ Int opening ∷ Int conn ∷ Int ordinal ∷ or_null Text token ∷ Blob bytes ∷ []
 
--- the row of these values as the table has it: its rowid, then its columns, where the number is left to the rowid
+-- the row of these values as the table has it: its rowid, then its columns, if the number is left to the rowid
 abbrev pub row_of : ℤ → ℤ → ℤ → ℤ → Token → List ℕ → Row
 row_of number opening conn ordinal token bytes =
     Int number ∷ Null ∷ Int opening ∷ Int conn ∷ Int ordinal ∷ or_null Text token ∷ Blob bytes ∷ []

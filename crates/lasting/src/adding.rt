@@ -21,7 +21,7 @@ pub(crate) struct Unadded {
     pub(crate) refused: NoMemory,
 }
 
-/// The numbers of the row of an entry behind so many, where a row can have them.
+/// The numbers of the row of an entry behind so many, if a row can have them.
 pub(crate) fn row_key(len: usize, opening: i64, id: EntryId) -> Option<RowKey>
     ensures number { IfSome result (λ key. key.number ≡ pos (len + 1)) }
     ensures opening { IfSome result (λ key. key.opening ≡ opening) }

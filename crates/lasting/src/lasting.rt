@@ -21,7 +21,7 @@ use structures::Cell;
 
 /// An engine whose ledger is kept by a database. Queries are answered by the engine inside. What a commit adds is in the database before it is answered.
 ///
-/// Where the database fails as it is to commit, nobody knows whether it has the entry: the engine stops. It then shows the ledger without that entry, answers
+/// If the database fails as it is to commit, nobody knows whether it has the entry: the engine stops. It then shows the ledger without that entry, answers
 /// what is known of a token, and else want of memory to every commit and query. The next `open` of the database settles it.
 #[derive(Drop)]
 pub struct Lasting<E: Engine + Drop, S: Alter + Drop> {
@@ -111,7 +111,7 @@ impl<E: Engine + Drop, S: Alter + Drop> Lasting<E, S> {
     }
 
     /// What `commit` does as an engine, and what it leaves on the disk. It is on the disk before it is told. A want of memory is told too where the database
-    /// refuses the entry or fails, where a number of the entry is 2^63 or more, and where a value has no bytes.
+    /// refuses the entry or fails, if a number of the entry is 2^63 or more, and if a value has no bytes.
     pub fn add(
         &mut self,
         id: EntryId,

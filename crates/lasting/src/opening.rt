@@ -37,7 +37,7 @@ pub(crate) fn make_ready<S: Alter>(conn: &mut Connection<S>) -> Result<(), OpenF
     Ok(())
 }
 
-/// The value in a column of the row with this number, where it has the type of an entry's.
+/// The value in a column of the row with this number, if it has the type of an entry's.
 fn value_at<T: FromSql>(row: &Row, at: usize, number: u64) -> Result<T, OpenFault>
     ensures { IfOk result (T.FromSql.reads_as (column row.now at)) }
 {

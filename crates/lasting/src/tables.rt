@@ -71,7 +71,7 @@ fn has_columns(columns: &[Column]) -> bool
     columns.is_empty()
 }
 
-/// The columns behind the first, where that is the one of this name.
+/// The columns behind the first, if that is the one of this name.
 fn behind<'a>(
     columns: &'a [Column],
     name: &[u8],

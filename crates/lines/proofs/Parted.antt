@@ -1,10 +1,10 @@
 -- How a session that lives is given up.
-use Rattle.std.proofs.Common.{◌≡◌, ◌↔◌, refl, sym, ap, subst, ◌∙◌, ℕ, ◌<◌, arith, length, min, length-take, append-nil, IsSome, IfSome, option_map, List, [], ◌∷◌, ◌++◌, take, drop, Bool, Option, Some, None, Result, Err}
+use Rattle.std.proofs.Common.{◌≡◌, ◌↔◌, refl, sym, ap, subst, ◌∙◌, ℕ, ◌<◌, arith, length, min, length-take, append-nil, IsSome, IfSome, option_map, List, [], ◌∷◌, ◌++◌, take, drop, Option, Some, None, Result, Err}
 use Rattle.std.specs.Prelude.{unwrap_or, IsErrOf}
 use Rattle.std.proofs.lemmas.Bool.{eq-eqb}
 use Rattle.std.proofs.lemmas.List.{drop_all}
 use Rattle.engine.specs.declared.answer.Mode.{Mode as QueryMode}
-use Rattle.engine.specs.Prelude.{WriteView, ParameterView, EntryView, AnswerView, QueryFault}
+use Rattle.engine.specs.Prelude.{WriteView, ParameterView, EntryView, AnswerView, QueryFault, Welcome}
 use Rattle.session.specs.declared.kinds.Cause.{Cause}
 use Rattle.session.specs.declared.kinds.Cause.TheVariants as cause
 use Rattle.session.specs.Prelude.{take_kept}
@@ -62,32 +62,32 @@ module _ {G : Type 0} where
       let same : cause_or t.kept.ended ≡ why = ap (λ (o : Option Cause). unwrap_or o cause.Lost) kept ∙ sym is in
       rw (eq-eqb conn conn refl) (ap end_of f ∙ ap (λ (k : Cause). record { cause = k; unsaid = t.kept.unsent } ∷ []) same)
 
-module _ {G : Type 0} (answer : List EntryView → List WriteView → List ℕ → List ParameterView → QueryMode → Result AnswerView QueryFault) (accepts : G → List ℕ → List ℕ → Bool) where
+module _ {G : Type 0} (answer : List EntryView → List WriteView → List ℕ → List ParameterView → QueryMode → Result AnswerView QueryFault) (welcomes : G → Welcome) where
   -- all was taken out before
   pub parts_whole : (max : ℕ) (r s q : Rest G) (x : Held) (bytes : List ℕ) (told : Option Cause) (why : Cause) (u : ℕ → Wire) → IsSome (find x.conn r.sessions) → length bytes < max → take_out_at x.conn max r ≡ Some (bytes, s) → lost_at x.conn s ≡ (told, q) → why ≡ unwrap_or told cause.Lost
-      → Parts answer accepts (Whole why) r q x (x.going ++ bytes) u
+      → Parts answer welcomes (Whole why) r q x (x.going ++ bytes) u
   parts_whole max r s q x bytes told why u lives short e l is = go (find x.conn r.sessions) refl lives
     where
-      go : (o : Option Live) → find x.conn r.sessions ≡ o → IsSome o → Parts answer accepts (Whole why) r q x (x.going ++ bytes) u
+      go : (o : Option Live) → find x.conn r.sessions ≡ o → IsSome o → Parts answer welcomes (Whole why) r q x (x.going ++ bytes) u
       go None f h = cc
       go (Some t) f h =
           let y = with_going (x.going ++ bytes) x in
           let none : drop max t.kept.unsent ≡ [] = left_short max t.kept.unsent (subst (λ (b : List ℕ). length b < max) (sym (out_is x.conn max r s bytes t f e)) short) in
           let ends : ends_by x.conn (loses x.conn) s ≡ record { cause = why; unsaid = [] } ∷ [] = ended_by x.conn s q (with_kept t (take_kept max t.kept)) told why (after_out x.conn max r s bytes t f e) l is ∙ ap (λ (b : List ℕ). record { cause = why; unsaid = b } ∷ []) none in
-          moves_then answer accepts (moves_drawn answer accepts max r s x y bytes u e refl refl refl) (moves_lost answer accepts s q y u _ (ap (λ (p : Option Cause × Rest G). p.1) l) ends)
+          moves_then answer welcomes (moves_drawn answer welcomes max r s x y bytes u e refl refl refl) (moves_lost answer welcomes s q y u _ (ap (λ (p : Option Cause × Rest G). p.1) l) ends)
 
   -- it wasn't, for want of memory
   pub parts_cut : {T : Type 0} (max : ℕ) (r s q : Rest G) (x : Held) (e : Refused) (told : Option Cause) (why : Cause) (last : List ℕ) (u : ℕ → Wire) → last ≡ [] → IsSome (find x.conn r.sessions) → (IsErrOf {T = T} (Err e) refused.NoSuchConnection ↔ (find x.conn r.sessions ≡ None)) → RefusesCall e
-      → (IsErrOf {T = T} (Err e) refused.Memory → IfSome (find x.conn r.sessions) (MayTakeOut max)) → s ≡ r → lost_at x.conn s ≡ (told, q) → why ≡ unwrap_or told cause.Lost → Parts answer accepts (Cut why) r q x (x.going ++ last) u
+      → (IsErrOf {T = T} (Err e) refused.Memory → IfSome (find x.conn r.sessions) (MayTakeOut max)) → s ≡ r → lost_at x.conn s ≡ (told, q) → why ≡ unwrap_or told cause.Lost → Parts answer welcomes (Cut why) r q x (x.going ++ last) u
   parts_cut {T = T} max r s q x e told why last u nothing lives unknown refuses memory kept l is = go (find x.conn r.sessions) refl lives (memory (wants_memory {T = T} e (find x.conn r.sessions) lives unknown refuses))
     where
-      cut : (t : Live) → find x.conn r.sessions ≡ Some t → IsMade t.kept.unsent → Parts answer accepts (Cut why) r q x (x.going ++ last) u
+      cut : (t : Live) → find x.conn r.sessions ≡ Some t → IsMade t.kept.unsent → Parts answer welcomes (Cut why) r q x (x.going ++ last) u
       cut t f (made b bs m) =
           let ends : ends_by x.conn (loses x.conn) s ≡ record { cause = why; unsaid = b ∷ bs } ∷ [] = ended_by x.conn s q t told why (ap (λ (r : Rest G). find x.conn r.sessions) kept ∙ f) l is ∙ ap (λ (b : List ℕ). record { cause = why; unsaid = b } ∷ []) m in
-          let lost = moves_lost answer accepts s q x u _ (ap (λ (p : Option Cause × Rest G). p.1) l) ends in
-          let all = moves_then answer accepts (moves_kept answer accepts 1 r s x u kept) lost in
-          (b, bs, subst (λ (g : List ℕ). Moves answer accepts 2 0 (record { cause = why; unsaid = b ∷ bs } ∷ []) r q x (with_going g x) u u) (sym (append-nil x.going) ∙ ap (λ (l : List ℕ). x.going ++ l) (sym nothing)) all)
+          let lost = moves_lost answer welcomes s q x u _ (ap (λ (p : Option Cause × Rest G). p.1) l) ends in
+          let all = moves_then answer welcomes (moves_kept answer welcomes 1 r s x u kept) lost in
+          (b, bs, subst (λ (g : List ℕ). Moves answer welcomes 2 0 (record { cause = why; unsaid = b ∷ bs } ∷ []) r q x (with_going g x) u u) (sym (append-nil x.going) ∙ ap (λ (l : List ℕ). x.going ++ l) (sym nothing)) all)
 
-      go : (o : Option Live) → find x.conn r.sessions ≡ o → IsSome o → IfSome o (MayTakeOut max) → Parts answer accepts (Cut why) r q x (x.going ++ last) u
+      go : (o : Option Live) → find x.conn r.sessions ≡ o → IsSome o → IfSome o (MayTakeOut max) → Parts answer welcomes (Cut why) r q x (x.going ++ last) u
       go None f h m = cc
       go (Some t) f h m = cut t f (is_made t.kept.unsent (some_taken max t.kept.unsent m))

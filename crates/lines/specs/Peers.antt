@@ -5,7 +5,7 @@ use Rattle.lines.specs.declared.peers.Failed.{Failed}
 use Rattle.lines.specs.declared.peers.Got.{Got}
 use Rattle.lines.specs.declared.peers.Got.TheVariants.{Bytes}
 
--- the bytes that were read of a connection and those that were written to it, where they are known, and how often either was tried
+-- the bytes that were read of a connection and those that were written to it, if they are known, and how often either was tried
 pub record Wire : Type 0 where
   pub heard : Option (List ℕ)
   pub told : Option (List ℕ)

@@ -48,7 +48,7 @@ is_going s = not (length s.line.going == 0)
 abbrev pub is_seat_busy : Seat → Bool
 is_seat_busy s = goes_on s.want s.ready || (s.ready.writes && is_going s)
 
--- when its peer is given up: where it was let in, by its silence, and else by the time since it came
+-- when its peer is given up: if it was let in, by its silence, and else by the time since it came
 abbrev pub seat_deadline : Seat → Limits → ℕ
 seat_deadline s limits =
     if s.let_in then later s.moved limits.silence else later s.since limits.arrival

@@ -1,8 +1,9 @@
 -- What contracts see of a connection's bytes.
-use Rattle.std.specs.Prelude.{◌≡◌, ◌≢◌, ◌+◌, ◌≤◌, ℕ, Bool, List, [], ◌∷◌, ◌++◌, drop, take, length, Result}
+use Rattle.std.specs.Prelude.{◌≡◌, ◌≢◌, ◌+◌, ◌≤◌, ℕ, List, [], ◌∷◌, ◌++◌, drop, take, length, Result}
 use Rattle.std.specs.Io.KnownBytes.{Appends}
 use Rattle.engine.specs.declared.answer.Mode.{Mode as QueryMode}
 use Rattle.engine.specs.Views.{WriteView, ParameterView, EntryView, AnswerView, QueryFault}
+use Rattle.engine.specs.Welcomes.{Welcome}
 use Rattle.server.specs.Serving.{Rest}
 use Rattle.lines.specs.declared.line.Line.{Line}
 use Rattle.lines.specs.declared.line.Parting.{Parting}
@@ -37,16 +38,16 @@ abbrev pub with_going : List ℕ → Held → Held
 with_going going h = record { conn = h.conn; unfed = h.unfed; going = going }
 
 module _ {G : Type 0} (answer : List EntryView → List WriteView → List ℕ → List ParameterView
-    → QueryMode → Result AnswerView QueryFault) (accepts : G → List ℕ → List ℕ → Bool) where
+    → QueryMode → Result AnswerView QueryFault) (welcomes : G → Welcome) where
   -- The session was given up, at the end of a move, and its end had this cause: all that it had said was taken out before, and is owed to its
   -- peer behind what was going; or some of it is gone.
   abbrev pub Parts : Parting → Rest G → Rest G → Held → List ℕ → (ℕ → Wire) → Type 0
   Parts (Whole cause) r s held owed w =
-      Moves answer accepts 2 0 (record { cause = cause; unsaid = [] } ∷ []) r s held
+      Moves answer welcomes 2 0 (record { cause = cause; unsaid = [] } ∷ []) r s held
       (with_going owed held) w w
   Parts (Cut cause) r s held owed w =
       (x : ℕ) × (xs : List ℕ)
-      × Moves answer accepts 2 0 (record { cause = cause; unsaid = x ∷ xs } ∷ []) r s held
+      × Moves answer welcomes 2 0 (record { cause = cause; unsaid = x ∷ xs } ∷ []) r s held
       (with_going owed held) w w
 
 -- Bytes of a connection whose session was given up: of what is owed a front was sent; what came was dropped and counted. It was read or

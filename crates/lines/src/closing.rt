@@ -40,7 +40,7 @@ impl Closing {
     ghost use Rattle.lines.specs.Views.{owed_of, Lingers};
     ghost use Rattle.lines.specs.Turns.{joined, is_closed, is_closing_busy, closing_deadline};
 
-    /// A connection that is owed these bytes, the second behind the first, and that last came further then; closed where it has failed.
+    /// A connection that is owed these bytes, the second behind the first, and that last came further then; closed if it has failed.
     pub(crate) fn new(
         conn: u64,
         going: Bytes,
@@ -142,7 +142,7 @@ impl Closing {
         }
     }
 
-    /// What is behind is next, where the first went.
+    /// What is behind is next, if the first went.
     fn shift(&mut self)
         ensures owed { owed_of self.new ≡ owed_of self.old }
         ensures phase { self.new.phase ≡ self.old.phase }

@@ -14,21 +14,21 @@ use engine::{Engine, Gate};
 pub fn turns_are_one_run<E: Engine, G: Gate>()
     ensures reaches { (r : Rest G) (before : ℕ → Wire) (calls : List Event) (s : Rest G)
         (held : ℕ → Held) (after : ℕ → Wire)
-        → Turns E.answer G.accepts r before calls s held after
-        → after_events E.answer G.accepts calls r ≡ s }
+        → Turns E.answer G.welcomes r before calls s held after
+        → after_events E.answer G.welcomes calls r ≡ s }
     ensures bytes { (r : Rest G) (before : ℕ → Wire) (calls : List Event) (s : Rest G)
         (held : ℕ → Held) (after : ℕ → Wire) (conn : ℕ)
-        → Turns E.answer G.accepts r before calls s held after
-        → Along E.answer G.accepts conn calls r (held conn) (before conn) (after conn) }
+        → Turns E.answer G.welcomes r before calls s held after
+        → Along E.answer G.welcomes conn calls r (held conn) (before conn) (after conn) }
 {}
 
-/// A move leaves every other session as it was, and its own lives on where it isn't given up.
+/// A move leaves every other session as it was, and its own lives on if it isn't given up.
 pub fn moves_leave_others<E: Engine, G: Gate>()
     ensures others { (most asks : ℕ) (ends : List End) (r s : Rest G) (old new : Held)
         (before after : ℕ → Wire) (other : ℕ)
-        → Moves E.answer G.accepts most asks ends r s old new before after
+        → Moves E.answer G.welcomes most asks ends r s old new before after
         → other ≢ old.conn → find other s.sessions ≡ find other r.sessions }
     ensures lives { (most asks : ℕ) (r s : Rest G) (old new : Held) (before after : ℕ → Wire)
-        → Moves E.answer G.accepts most asks [] r s old new before after
+        → Moves E.answer G.welcomes most asks [] r s old new before after
         → IsSome (find old.conn r.sessions) → IsSome (find old.conn s.sessions) }
 {}

@@ -77,7 +77,7 @@ impl Line {
         server: &mut Server<E, G>,
         steps: u32,
     ) -> Stand
-        ensures { (w : ℕ → Wire) → Moves E.answer G.accepts (steps * 2) 0 [] (rest_of E.entries server.old)
+        ensures { (w : ℕ → Wire) → Moves E.answer G.welcomes (steps * 2) 0 [] (rest_of E.entries server.old)
             (rest_of E.entries server.new) (held_of self.old) (held_of self.new) w w }
     {
         for made in 0..steps {
@@ -89,9 +89,9 @@ impl Line {
         Stand::More
     }
 
-    /// Works, or where nothing is due feeds an item.
+    /// Works, or if nothing is due feeds an item.
     fn step<E: Engine, G: Gate>(&mut self, server: &mut Server<E, G>) -> Stand
-        ensures { (w : ℕ → Wire) → Moves E.answer G.accepts 2 0 [] (rest_of E.entries server.old)
+        ensures { (w : ℕ → Wire) → Moves E.answer G.welcomes 2 0 [] (rest_of E.entries server.old)
             (rest_of E.entries server.new) (held_of self.old) (held_of self.new) w w }
     {
         let Ok(worked) = server.work(self.conn) else {
@@ -105,9 +105,9 @@ impl Line {
         }
     }
 
-    /// Feeds an item at most of what was read. Where nothing is taken of it, no ordinal is left.
+    /// Feeds an item at most of what was read. If nothing is taken of it, no ordinal is left.
     fn feed<E: Engine, G: Gate>(&mut self, server: &mut Server<E, G>) -> Stand
-        ensures { (w : ℕ → Wire) → Moves E.answer G.accepts 1 0 [] (rest_of E.entries server.old)
+        ensures { (w : ℕ → Wire) → Moves E.answer G.welcomes 1 0 [] (rest_of E.entries server.old)
             (rest_of E.entries server.new) (held_of self.old) (held_of self.new) w w }
     {
         if self.fed == self.read {
@@ -125,7 +125,7 @@ impl Line {
         Stand::More
     }
 
-    /// Reads a piece, where all of the last was fed.
+    /// Reads a piece, if all of the last was fed.
     pub(crate) fn hear<P: Peers>(&mut self, peers: &mut P) -> Result<Got, Failed>
         ensures { Carries 1 (held_of self.old) (held_of self.new) (P.wire peers.old) (P.wire peers.new) }
     {
@@ -138,9 +138,9 @@ impl Line {
         got
     }
 
-    /// Takes out all that the session has said, where all that was taken out before is written; whether that could be.
+    /// Takes out all that the session has said, if all that was taken out before is written; whether that could be.
     pub(crate) fn draw<E: Engine, G: Gate>(&mut self, server: &mut Server<E, G>) -> bool
-        ensures { (w : ℕ → Wire) → Moves E.answer G.accepts 1 0 [] (rest_of E.entries server.old)
+        ensures { (w : ℕ → Wire) → Moves E.answer G.welcomes 1 0 [] (rest_of E.entries server.old)
             (rest_of E.entries server.new) (held_of self.old) (held_of self.new) w w }
     {
         if self.is_going() {
@@ -165,14 +165,14 @@ impl Line {
         Ok(count)
     }
 
-    /// Takes out all that the session has said, where there is memory, and gives the session up. It answers what was going, and what was
+    /// Takes out all that the session has said, if there is memory, and gives the session up. It answers what was going, and what was
     /// taken out behind it.
     pub(crate) fn give_up<E: Engine, G: Gate>(
         self,
         server: &mut Server<E, G>,
     ) -> (Parting, Bytes, Bytes)
         requires { IsSome (find self.conn (rest_of E.entries server.old).sessions) }
-        ensures { (w : ℕ → Wire) → Parts E.answer G.accepts result.0 (rest_of E.entries server.old)
+        ensures { (w : ℕ → Wire) → Parts E.answer G.welcomes result.0 (rest_of E.entries server.old)
             (rest_of E.entries server.new) (held_of self) (result.1 ++ result.2) w }
     {
         let drawn = server.take_out(self.conn, usize::MAX);

@@ -41,14 +41,14 @@ pub enum Ready {
 
 /// Peers by the numbers of their connections. Nothing here waits but `wait`.
 pub trait Peers {
-    // Of each connection by its number: its bytes that came and went, where they are known, and how often it was read or written.
+    // Of each connection by its number: its bytes that came and went, if they are known, and how often it was read or written.
     ghost wire: { Self → ℕ → Wire };
 
     /// Waits until something is ready, for so many milliseconds at most.
     fn wait(&mut self, most: u64) -> Result<(), Failed>
         ensures same { (k : ℕ) → wire self.new k ≡ wire self.old k };
 
-    /// The next of what is ready; None where that is all.
+    /// The next of what is ready; None if that is all.
     fn ready(&mut self) -> Option<Ready>
         ensures same { (k : ℕ) → wire self.new k ≡ wire self.old k };
 
@@ -60,7 +60,7 @@ pub trait Peers {
     fn greet(&mut self) -> Greeting
         ensures same { (k : ℕ) → wire self.new k ≡ wire self.old k };
 
-    /// Gives the guest this number, of a connection of which nothing has come or gone. Where that can't be, it is sent away, and false is answered.
+    /// Gives the guest this number, of a connection of which nothing has come or gone. If that can't be, it is sent away, and false is answered.
     fn seat(&mut self, conn: u64) -> bool
         ensures same { (k : ℕ) → wire self.new k ≡ wire self.old k };
 

@@ -102,7 +102,7 @@ impl Seat {
         goes_on || self.ready.writes && self.line.is_going()
     }
 
-    /// When its peer is given up, where nothing moves until then: one that was let in for its silence, any other for the time that it takes.
+    /// When its peer is given up, if nothing moves until then: one that was let in for its silence, any other for the time that it takes.
     pub fn deadline(&self, limits: &Limits) -> u64
         ensures { result ≡ seat_deadline self.now limits.now }
     {
@@ -113,7 +113,7 @@ impl Seat {
         }
     }
 
-    /// Writes some of what is going, where that may do something.
+    /// Writes some of what is going, if that may do something.
     fn utter<P: Peers>(&mut self, peers: &mut P, now: u64)
         ensures carries { Carries 1 (seat_held self.old) (seat_held self.new) (P.wire peers.old) (P.wire peers.new) }
         ensures times { IsAsOld self.old self.new }
@@ -148,7 +148,7 @@ impl Seat {
         peers: &mut P,
         now: u64,
     ) -> bool
-        ensures moves { Moves E.answer G.accepts 1 2 [] (rest_of E.entries server.old)
+        ensures moves { Moves E.answer G.welcomes 1 2 [] (rest_of E.entries server.old)
             (rest_of E.entries server.new) (seat_held self.old) (seat_held self.new)
             (P.wire peers.old) (P.wire peers.new) }
         ensures times { IsAsOld self.old self.new }
@@ -191,7 +191,7 @@ impl Seat {
         limits: &Limits,
         now: u64,
     ) -> Turned
-        ensures moves { Moves E.answer G.accepts (limits.now.reads * (limits.now.steps * 2)) limits.now.reads []
+        ensures moves { Moves E.answer G.welcomes (limits.now.reads * (limits.now.steps * 2)) limits.now.reads []
             (rest_of E.entries server.old) (rest_of E.entries server.new)
             (seat_held self.old) (seat_held self.new) (P.wire peers.old) (P.wire peers.new) }
         ensures times { IsAsOld self.old self.new }
@@ -229,7 +229,7 @@ impl Seat {
         limits: &Limits,
         now: u64,
     ) -> Turned
-        ensures moves { Moves E.answer G.accepts (limits.now.reads * (limits.now.steps * 2) + 1) (limits.now.reads + 2) []
+        ensures moves { Moves E.answer G.welcomes (limits.now.reads * (limits.now.steps * 2) + 1) (limits.now.reads + 2) []
             (rest_of E.entries server.old) (rest_of E.entries server.new)
             (seat_held self.old) (seat_held self.new) (P.wire peers.old) (P.wire peers.new) }
         ensures lives { IsSome (find (seat_held self.old).conn (rest_of E.entries server.old).sessions)
@@ -254,11 +254,11 @@ impl Seat {
         }
     }
 
-    /// Takes out all that the session has said, where there is memory, and gives the session up. What its peer is owed is with the answer.
+    /// Takes out all that the session has said, if there is memory, and gives the session up. What its peer is owed is with the answer.
     pub fn give_up<E: Engine, G: Gate>(self, server: &mut Server<E, G>) -> (Parting, Closing)
         requires { IsSome (find (seat_held self).conn (rest_of E.entries server.old).sessions) }
         ensures conn { result.1.conn ≡ (seat_held self).conn }
-        ensures parts { (w : ℕ → Wire) → Parts E.answer G.accepts result.0 (rest_of E.entries server.old)
+        ensures parts { (w : ℕ → Wire) → Parts E.answer G.welcomes result.0 (rest_of E.entries server.old)
             (rest_of E.entries server.new) (seat_held self) (owed_of result.1) w }
     {
         let conn = self.line.conn;

@@ -27,7 +27,7 @@ abbrev pub StandsIn : List EntryView → World → ℕ → ℕ → Change → To
 StandsIn all w c i its (Some t) = under_token t all ≡ its.writes ∷ []
 StandsIn all w c i its None = entries c i w.since ≡ its ∷ []
 
--- what holds of a connection of ours in one of the worlds, where the last left this ledger
+-- what holds of a connection of ours in one of the worlds, if the last left this ledger
 pub record Holds (S : Setting) (all : List EntryView) (w : World) (c : ℕ) (k : Connection) : Type 0 where
   -- in its own world
   pub good : Good S w c k

@@ -48,7 +48,7 @@ interruptible s = list_any (same_state s)
 abbrev pub states_of : Phase → List State
 states_of p = filter (λ s. same_phase (phase_of s) p) every_state
 
--- the states in which a request may be worked where the last summary told this phase: its own, and Interrupted where a RESET can interrupt
+-- the states in which a request may be worked if the last summary told this phase: its own, and Interrupted where a RESET can interrupt
 abbrev pub worked_in : Phase → List State
 worked_in p = states_of p
     ++ (if list_any interruptible (states_of p) then State.Interrupted ∷ [] else [])

@@ -79,7 +79,7 @@ abbrev pub AllowedIsValid : Type 0
 AllowedIsValid = (v : Version) (ps : List Phase) (s : State) (k : Kind) → allowed_in v ps k ≡ true
     → has (phase_of s) ps ≡ true → row_at v s k Verdict.Invalid ≡ None
 
--- what a row leads to is among what may follow, where no RESET has interrupted
+-- what a row leads to is among what may follow, if no RESET has interrupted
 abbrev pub RowsFollow : Type 0
 RowsFollow =
     (v : Version) (s t : State) (k : Kind) (d : Verdict) (part : Bool)

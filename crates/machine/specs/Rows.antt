@@ -66,7 +66,7 @@ abbrev pub covers : Line → Version → State → Kind → Bool
 covers x v s k = list_any (same_state s) x.states
     && (list_any (same_kind k) x.kinds && x.versions v)
 
--- the line of a request in a state, where there is one
+-- the line of a request in a state, if there is one
 abbrev pub line_of : Version → State → Kind → Option Line
 line_of v s k = find (λ x. covers x v s k) lines
 
@@ -119,7 +119,7 @@ abbrev pub stands : Other → Version → State → Kind → Verdict → Bool
 stands x v s k d = same_verdict d x.verdict
     && (list_any (same_state s) x.states && is_for x.requests v s k)
 
--- the other row of a request in a state at a verdict, where there is one
+-- the other row of a request in a state at a verdict, if there is one
 abbrev pub other_of : Version → State → Kind → Verdict → Option Other
 other_of v s k d = find (λ x. stands x v s k d) others
 

@@ -26,7 +26,7 @@ pub fn rows_follow()
     ensures { RowsFollow }
 {}
 
-/// So is what a row leads to from Interrupted, where a RESET has interrupted.
+/// So is what a row leads to from Interrupted, if a RESET has interrupted.
 pub fn interrupted_rows_follow()
     ensures { InterruptedRowsFollow }
 {}

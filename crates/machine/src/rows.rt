@@ -32,7 +32,7 @@ struct Rule {
     failure: Option<State>,
 }
 
-/// The state that a request with this verdict leads to, None where the version has no such row.
+/// The state that a request with this verdict leads to, None if the version has no such row.
 pub fn row(version: Version, state: State, kind: Kind, verdict: Verdict) -> Option<State>
     ensures { result ≡ row_at version state kind verdict }
 {

@@ -1,5 +1,5 @@
 -- The responses of a server that are neither rows nor the SUCCESS of a RUN: what they are written as, how long that is, and what it stands for.
-use Rattle.std.proofs.Common.{◌≡◌, ◌<◌, ◌≤◌, ◌+◌, ◌^◌, ℕ, List, ◌++◌, length, Bool, true, false, cond, nat_lt, None, Some, Result, Ok, Err, codes, refl, ap, sym, ◌∙◌, arith, IsUtf8, decimal}
+use Rattle.std.proofs.Common.{◌≡◌, ◌<◌, ◌≤◌, ◌+◌, ◌^◌, ℕ, List, [], ◌++◌, length, Bool, true, false, cond, nat_lt, None, Some, Result, Ok, Err, codes, refl, ap, sym, ◌∙◌, arith, IsUtf8, decimal}
 use Rattle.std.proofs.lemmas.List.{length-append}
 use Rattle.std.proofs.lemmas.Str.{IsUtf8-append, IsUtf8-from_ascii}
 use Rattle.std.proofs.lemmas.Fmt.{IsAscii-decimal, length-decimal-le}
@@ -77,9 +77,19 @@ mutual
 digits_le : (n : ℕ) → n < 2 ^ 64 → length (decimal n) ≤ 20
 digits_le n h = length-decimal-le 20 n (omega arith) (omega arith) h
 
+text_le : (s : List ℕ) → length (text_bytes s) ≤ 5 + length s
+text_le s = omega (arith, length-append (head 0x80 0xD0 (length s)) s, head_le 0x80 0xD0 (length s))
+
+-- the keys of a greeting have heads of one byte
+greeting_le : (agent : List ℕ) (n : ℕ) → length agent ≤ 40 → n < 2 ^ 64 → length (canon (form_of (Greeting agent n))) ≤ 100
+greeting_le agent n short h =
+    let id = codes "bolt-" ++ decimal n in
+    let last = canon_entries (entry_then (codes "connection_id") (text id) no_entries) in
+    omega (arith, short, length-append (text_bytes agent) last, text_le agent, length-append (text_bytes id) [], text_le id, digits_le n h)
+
 pub form_le : (s : Summary) → IsShort s → length (canon (form_of s)) ≤ room s
 unfolding int_bytes
-form_le (Greeting n) h = omega (arith, bound_le (form_of (Greeting n)), digits_le n h)
+form_le (Greeting agent n) h = greeting_le agent n h.0 h.1
 form_le (Closing None Read) h = omega (arith, bound_le (form_of (Closing None Read)))
 form_le (Closing (Some n) Read) h = omega (arith, bound_le (form_of (Closing (Some n) Read)), digits_le n h)
 form_le (Closing (Some n) Write) h = omega (arith, bound_le (form_of (Closing (Some n) Write)), digits_le n h)
@@ -112,13 +122,13 @@ unfolding lib.Utf8.encode
 mode_plain Read = ((codes "type", (refl, refl)), (codes "r", (refl, refl)), ((codes "t_last", (refl, refl)), fits_pos 0 (omega arith), tt))
 mode_plain Write = ((codes "type", (refl, refl)), (codes "w", (refl, refl)), ((codes "t_last", (refl, refl)), fits_pos 0 (omega arith), tt))
 
-greeting_plain : (n : ℕ) → n < 2 ^ 64 → HavePlain (entries_of (greeting n))
+greeting_plain : (agent : List ℕ) (n : ℕ) → IsUtf8 agent → n < 2 ^ 64 → HavePlain (entries_of (greeting agent n))
 unfolding lib.Utf8.encode
-greeting_plain n h = ((codes "server", (refl, refl)), (codes "BoltTable/1", (refl, refl)), ((codes "connection_id", (refl, refl)), numbered (codes "bolt-") n (codes "bolt-", (refl, refl)) h, tt))
+greeting_plain agent n u h = ((codes "server", (refl, refl)), u, ((codes "connection_id", (refl, refl)), numbered (codes "bolt-") n (codes "bolt-", (refl, refl)) h, tt))
 
 plain_form : (s : Summary) → IsShort s → HasTexts s → IsPlain (form_of s)
 unfolding lib.Utf8.encode
-plain_form (Greeting n) h u = (omega arith, (greeting_plain n h, tt))
+plain_form (Greeting agent n) h u = (omega arith, (greeting_plain agent n u h.1, tt))
 plain_form RowsLeft h u = (omega arith, (((codes "has_more", (refl, refl)), tt, tt), tt))
 plain_form (Closing None m) h u = (omega arith, (mode_plain m, tt))
 plain_form (Closing (Some n) m) h u = let b = bookmark_plain n h in (omega arith, ((b.0, b.1, mode_plain m), tt))

@@ -18,7 +18,7 @@ use Rattle.messages.specs.Writing.{request_spelling, response_spelling}
 
 -- How an end takes the whole items of its stream: M is a message that it reads, A what it takes an item as.
 pub record End (M A : Type 0) : Type 0 where
-  -- the bytes that open the stream, and the version by which messages are read after them, where any is
+  -- the bytes that open the stream, and the version by which messages are read after them, if any is
   pub opening : List ℕ → A
   pub version : A → Option Version
   -- a no-op
@@ -43,7 +43,7 @@ taken_in e v (Noop ∷ xs) = e.idle ∷ taken_in e v xs
 taken_in e v (Message b ∷ xs) = then_read e (e.read v b) (taken_in e v xs)
 taken_in e v (TooBig ∷ xs) = e.past ∷ []
 
--- messages are read by the version, and where there is none, nothing is
+-- messages are read by the version, and if there is none, nothing is
 abbrev pub taken_by : {M A : Type 0} → End M A → Option Version → List Item → List A
 taken_by e (Some v) xs = taken_in e v xs
 taken_by e None xs = []
@@ -93,7 +93,7 @@ then_request r rest = then_read server_end r rest
 abbrev pub requests_in : Version → List Item → List Arrival
 requests_in v xs = taken_in server_end v xs
 
--- requests are read by the version that was taken, and where none was, nothing is
+-- requests are read by the version that was taken, and if none was, nothing is
 abbrev pub after_shake : Arrival → List Item → List Arrival
 after_shake a xs = taken_by server_end (version_shaken a) xs
 
@@ -132,12 +132,12 @@ ArrivesWhole = (offer bytes : List ℕ) (v : Version) → length offer ≡ 20
     → without_idle (arrivals (offer ++ bytes))
     ≡ Shook (Some v) ∷ requests_of v (whole bytes) (items_of fresh bytes).rest.too_big
 
--- the chunks of what is written, empty where it can't be
+-- the chunks of what is written, empty if it can't be
 abbrev pub run_of_result : Result (List ℕ) MsgFault → List ℕ
 run_of_result (Ok b) = written_run b
 run_of_result (Err e) = []
 
--- the written run of a request at a version, no bytes where it can't be written
+-- the written run of a request at a version, no bytes if it can't be written
 abbrev pub request_bytes : Version → RequestView → List ℕ
 request_bytes v m = run_of_result (request_spelling v m)
 
@@ -174,7 +174,7 @@ IsLast (Asked m) = ⊥
 IsLast (Unread e) = Unit {0}
 IsLast TooLong = Unit {0}
 
--- Where nothing is read after one of the arrivals, more bytes bring none.
+-- If nothing is read after one of the arrivals, more bytes bring none.
 abbrev pub NothingFollows : Type 0
 NothingFollows = (bytes more : List ℕ) (before after : List Arrival) (last : Arrival) → IsLast last
     → arrivals bytes ≡ before ++ last ∷ after → arrivals (bytes ++ more) ≡ arrivals bytes
@@ -224,7 +224,7 @@ then_response r rest = then_read client_end r rest
 abbrev pub heard_in : Version → List Item → List Heard
 heard_in v xs = taken_in client_end v xs
 
--- responses are read by the version that was answered, and where none was, nothing is
+-- responses are read by the version that was answered, and if none was, nothing is
 abbrev pub after_version : Heard → List Item → List Heard
 after_version h xs = taken_by client_end (version_chosen h) xs
 
@@ -236,7 +236,7 @@ heard_of xs = taken client_end xs
 abbrev pub hears : List ℕ → List Heard
 hears bytes = reverse (heard_of (items_heard bytes))
 
--- the bytes with which a server says it, empty where it can't be said
+-- the bytes with which a server says it, empty if it can't be said
 abbrev pub heard_bytes : Version → Heard → List ℕ
 heard_bytes v (Chosen o) = version_answer o
 heard_bytes v Strange = []
@@ -295,7 +295,7 @@ IsLastHeard (Told m) = ⊥
 IsLastHeard (Unheard e) = Unit {0}
 IsLastHeard Over = Unit {0}
 
--- Where nothing is heard after one of these, more bytes tell nothing more.
+-- If nothing is heard after one of these, more bytes tell nothing more.
 abbrev pub NothingMoreHeard : Type 0
 NothingMoreHeard = (bytes more : List ℕ) (newer older : List Heard) (last : Heard)
     → IsLastHeard last → hears bytes ≡ newer ++ last ∷ older → hears (bytes ++ more) ≡ hears bytes

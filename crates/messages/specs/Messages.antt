@@ -97,17 +97,17 @@ abbrev pub list_members : Tree → List Tree
 list_members (list ts) = list_of ts
 list_members t = []
 
--- the first value, null where there is none
+-- the first value, null if there is none
 abbrev pub first : List Tree → Tree
 first [] = null
 first (t ∷ ts) = t
 
--- the second value, null where there is none
+-- the second value, null if there is none
 abbrev pub second : List Tree → Tree
 second [] = null
 second (t ∷ ts) = first ts
 
--- the third value, null where there is none
+-- the third value, null if there is none
 abbrev pub third : List Tree → Tree
 third [] = null
 third (t ∷ ts) = second ts
@@ -120,7 +120,7 @@ login_in ts = record {
   credentials = bytes_of (third ts);
 }
 
--- a HELLO by its values: the client's name, and where there are more, who the client is
+-- a HELLO by its values: the client's name, and if there are more, who the client is
 abbrev pub hello_in : List Tree → RequestView
 hello_in [] = Hello [] None
 hello_in (t ∷ []) = Hello (bytes_of t) None

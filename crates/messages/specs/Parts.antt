@@ -112,7 +112,7 @@ transaction_put m token = named_put V51 of_transaction (mode_tree m ∷ token_tr
 abbrev pub rows_put : Count → Result Entries MsgFault
 rows_put c = named_put V51 how_many (count_tree c ∷ [])
 
--- the entry of a mode, where it is written
+-- the entry of a mode, if it is written
 abbrev pub mode_pairs : Mode → List (List ℕ × Tree)
 mode_pairs Read = (codes "mode", text (codes "r")) ∷ []
 mode_pairs Write = []

@@ -88,7 +88,7 @@ contents_of_query o = Err fault.Extra
 abbrev pub is_token : List ℕ → Bool
 is_token s = nat_le 1 (length s) && nat_le (length s) max_token
 
--- what a token says: itself, and null where there is none
+-- what a token says: itself, and null if there is none
 abbrev pub contents_of_token : Option Tree → Result (List Tree) MsgFault
 contents_of_token None = Ok (null ∷ [])
 contents_of_token (Some (text s)) = if is_token s then Ok (text s ∷ []) else Err fault.Extra
@@ -100,7 +100,7 @@ contents_of_metadata None = Ok (null ∷ [])
 contents_of_metadata (Some (dict es)) = contents_of_token (lookup (codes "token") es)
 contents_of_metadata o = Err fault.Extra
 
--- what an entry says by what it holds, where it is there or absent
+-- what an entry says by what it holds, if it is there or absent
 abbrev pub contents_of_entry : Holds → Option Tree → Result (List Tree) MsgFault
 contents_of_entry a_text o = contents_of_text o
 contents_of_entry a_mode o = contents_of_mode o
@@ -125,7 +125,7 @@ abbrev pub all_named : List Named → Entries → Bool
 all_named ns no_entries = true
 all_named ns (entry_then k t es) = is_named k ns && all_named ns es
 
--- what the named entries say, where other entries are ignored or are a fault
+-- what the named entries say, if other entries are ignored or are a fault
 abbrev pub contents_of_extra : Version → Others → List Named → Entries → Result (List Tree) MsgFault
 contents_of_extra v ignored ns es = contents_of_named v ns es
 contents_of_extra v refused ns es =
@@ -193,7 +193,7 @@ abbrev pub count_tree : Count → Tree
 count_tree All = null
 count_tree (Of n) = int n
 
--- what a token says: its text, and null where there is none
+-- what a token says: its text, and null if there is none
 abbrev pub token_tree : Option (List ℕ) → Tree
 token_tree None = null
 token_tree (Some s) = text s

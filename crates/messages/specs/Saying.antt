@@ -16,7 +16,7 @@ pub data IsEntry (name : List ℕ) : Entries → Option Tree → Type 0 where
   further : (k : List ℕ) (t : Tree) (es : Entries) (o : Option Tree) → name ≢ k → IsEntry name es o
       → IsEntry name (entry_then k t es) o
 
--- what an entry says by what it holds, where it is there or absent
+-- what an entry says by what it holds, if it is there or absent
 pub data SaysEntry : Holds → Option Tree → List Tree → Type 0 where
   the_text : (s : List ℕ) → SaysEntry a_text (Some (text s)) (text s ∷ [])
   reads : SaysEntry a_mode (Some (text (codes "r"))) (text (codes "r") ∷ [])
@@ -63,7 +63,7 @@ pub data SaysFields (v : Version) : List Field → Trees → List Tree → List 
       → SaysField v k t f x → SaysFields v ks ts fs xs
       → SaysFields v (k ∷ ks) (tree_then t ts) (f ++ fs) (x ++ xs)
 
--- what a structure with the tag of a row says, where the version has the row
+-- what a structure with the tag of a row says, if the version has the row
 pub data SaysRow (v : Version) (r : Row) : Tree → Contents → Type 0 where
   of_row : (ts : Trees) (fs xs : List Tree) → r.stands v ≡ true → SaysFields v r.fields ts fs xs
       → SaysRow v r (structure r.tag ts) (contents r.name fs xs)

@@ -24,7 +24,7 @@ pub record HasTexts (l : AuthView) : Type 0 where
   pub principal : IsUtf8 l.principal
   pub credentials : IsUtf8 l.credentials
 
--- where it is said who a client is, it is in UTF-8
+-- if it is said who a client is, it is in UTF-8
 abbrev pub HasLogin : Option AuthView → Type 0
 HasLogin None = Unit {0}
 HasLogin (Some l) = HasTexts l

@@ -13,11 +13,11 @@ use Rattle.messages.specs.Writing.{response_spelling}
 
 -- a summary of a server of this product by what it tells, but for the SUCCESS of a RUN
 pub data Summary : Type 0 where
-  -- of a HELLO, by the number of the connection
-  Greeting : ℕ → Summary
+  -- of a HELLO, by the server's name and the number of the connection
+  Greeting : List ℕ → ℕ → Summary
   -- of a PULL after which rows are left
   RowsLeft : Summary
-  -- of the last PULL or DISCARD of a result, with the place of its entry in the ledger, from 1, where it committed, and what the result was for
+  -- of the last PULL or DISCARD of a result, with the place of its entry in the ledger, from 1, if it committed, and what the result was for
   Closing : Option ℕ → Mode → Summary
   -- of a COMMIT, with the place of its entry in the ledger, from 1
   Committed : ℕ → Summary
@@ -42,8 +42,8 @@ bookmark_of None = []
 bookmark_of (Some n) = bookmark n
 
 -- what the SUCCESS of a HELLO tells: the server's name, and the number of the connection
-abbrev pub greeting : ℕ → Metadata
-greeting n = (codes "server", text (codes "BoltTable/1"))
+abbrev pub greeting : List ℕ → ℕ → Metadata
+greeting agent n = (codes "server", text agent)
     ∷ (codes "connection_id", text (codes "bolt-" ++ decimal n)) ∷ []
 
 -- what the last SUCCESS of a result tells: what the result was for, and `t_last`, always 0
@@ -52,7 +52,7 @@ ending m = (codes "type", mode_tree m) ∷ (codes "t_last", int (pos 0)) ∷ []
 
 -- the response
 abbrev pub response_of_summary : Summary → ResponseView
-response_of_summary (Greeting n) = Success (greeting n)
+response_of_summary (Greeting agent n) = Success (greeting agent n)
 response_of_summary RowsLeft = Success ((codes "has_more", boolean true) ∷ [])
 response_of_summary (Closing bookmarked m) = Success (bookmark_of bookmarked ++ ending m)
 response_of_summary (Committed n) = Success (bookmark n)
@@ -73,7 +73,7 @@ failure code message =
 
 -- the structure that it is written as
 abbrev pub form_of : Summary → Tree
-form_of (Greeting n) = success (entries_of (greeting n))
+form_of (Greeting agent n) = success (entries_of (greeting agent n))
 form_of RowsLeft = success (entry_then (codes "has_more") (boolean true) no_entries)
 form_of (Closing bookmarked m) = success (entries_of (bookmark_of bookmarked ++ ending m))
 form_of (Committed n) = success (entries_of (bookmark n))
@@ -81,9 +81,9 @@ form_of Plain = success no_entries
 form_of (Refused code message) = failure code message
 form_of Passed = structure 0x7E no_trees
 
--- the numbers of connections and of the ledger's entries are in their ranges, and a failure's texts are short
+-- a server's name has at most 40 bytes, the numbers of connections and of the ledger's entries are in their ranges, and a failure's texts are short
 abbrev pub IsShort : Summary → Type 0
-IsShort (Greeting n) = n < 2 ^ 64
+IsShort (Greeting agent n) = (length agent ≤ 40) × (n < 2 ^ 64)
 IsShort (Closing (Some n) m) = n < 2 ^ 64
 IsShort (Committed n) = n < 2 ^ 64
 IsShort (Refused code message) = length code + length message ≤ 65000
@@ -92,10 +92,10 @@ IsShort (Closing None m) = Unit {0}
 IsShort Plain = Unit {0}
 IsShort Passed = Unit {0}
 
--- a failure's code and message are texts
+-- a server's name, and a failure's code and message, are texts
 abbrev pub HasTexts : Summary → Type 0
 HasTexts (Refused code message) = IsUtf8 code × IsUtf8 message
-HasTexts (Greeting n) = Unit {0}
+HasTexts (Greeting agent n) = IsUtf8 agent
 HasTexts RowsLeft = Unit {0}
 HasTexts (Closing bookmarked m) = Unit {0}
 HasTexts (Committed n) = Unit {0}
@@ -105,7 +105,7 @@ HasTexts Passed = Unit {0}
 -- how many bytes are enough for it
 abbrev pub room : Summary → ℕ
 room (Refused code message) = length code + length message + 38
-room (Greeting n) = 100
+room (Greeting agent n) = 100
 room RowsLeft = 100
 room (Closing bookmarked m) = 100
 room (Committed n) = 100

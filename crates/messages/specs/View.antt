@@ -46,12 +46,12 @@ auth_view a = record {
   credentials = string_bytes a.credentials;
 }
 
--- the view of who a client is, where it is said
+-- the view of who a client is, if it is said
 abbrev pub auth_in : Option Auth → Option AuthView
 auth_in None = None
 auth_in (Some a) = Some (auth_view a)
 
--- a token by its bytes, where there is one
+-- a token by its bytes, if there is one
 abbrev pub token_view : Option (String Global) → Option (List ℕ)
 token_view token = option_map string_bytes token
 

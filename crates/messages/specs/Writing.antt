@@ -88,7 +88,7 @@ fields_put v (cells ∷ ks) (x ∷ xs) es = then_put (cell_put v x) (fields_put 
 fields_put v (cell_list ∷ ks) (x ∷ xs) es = then_put (cell_put v x) (fields_put v ks xs es)
 fields_put v (k ∷ ks) [] es = Err fault.Fields
 
--- the structure of a row with these contents, where the version has the row; or why there is none
+-- the structure of a row with these contents, if the version has the row; or why there is none
 abbrev pub row_put : Version → Row → List Tree → List Tree → Result Tree MsgFault
 row_put v r fs xs =
     if r.stands v then

@@ -52,7 +52,7 @@ pub fn read_request(alloc: Global, version: Version, bytes: &[u8]) -> Result<Req
     ensures request { (m : RequestView)
         → UnlessMemory result (Gave request_view result m ↔ Req version m bytes.now) }
 
-    // .. and the first fault that they have, where they have one.
+    // .. and the first fault that they have, if they have one.
     ensures fault { (e : AnyFault)
         → UnlessMemory result ((result ≡ Err e) ↔ NoRequest version e bytes.now) }
 
@@ -69,7 +69,7 @@ pub fn read_response(alloc: Global, version: Version, bytes: &[u8]) -> Result<Re
     ensures response { (m : ResponseView)
         → UnlessMemory result (Gave response_view result m ↔ Resp version m bytes.now) }
 
-    // .. and the first fault that they have, where they have one.
+    // .. and the first fault that they have, if they have one.
     ensures fault { (e : AnyFault)
         → UnlessMemory result ((result ≡ Err e) ↔ NoResponse version e bytes.now) }
 

@@ -37,7 +37,7 @@ pub(crate) fn text_in(pairs: &[(String, Value)], name: &str) -> Result<String, M
     }
 }
 
-/// The mode, to write where it is absent.
+/// The mode, to write if it is absent.
 pub(crate) fn mode_in(pairs: &[(String, Value)]) -> Result<Mode, MsgFault>
     ensures { Answers (λ m. mode_tree m ∷ []) result
         (contents_of_mode (lookup (codes "mode") (entries_of (entries pairs.now)))) }
@@ -99,7 +99,7 @@ fn token_within(value: &Value) -> Result<Option<String>, MsgFault>
     }
 }
 
-/// The token of a transaction, none where it is absent.
+/// The token of a transaction, none if it is absent.
 pub(crate) fn token_in(pairs: &[(String, Value)]) -> Result<Option<String>, MsgFault>
     ensures { Answers (λ t. token_tree (token_view t) ∷ []) result
         (contents_of_metadata (lookup (codes "tx_metadata") (entries_of (entries pairs.now)))) }

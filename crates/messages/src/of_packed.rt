@@ -26,7 +26,7 @@ pub fn request_of(alloc: Global, version: Version, packed: &Packed) -> Result<Re
     ensures request { (b : List ℕ) (m : RequestView) → Spells packed.now b
         → UnlessMemory result (Gave request_view result m ↔ Req version m b) }
 
-    // .. and the first fault that they have, where they have one.
+    // .. and the first fault that they have, if they have one.
     ensures fault { (b : List ℕ) (e : AnyFault) → Spells packed.now b
         → UnlessMemory result ((result ≡ Err e) ↔ NoRequest version e b) }
 
@@ -48,7 +48,7 @@ pub fn response_of(alloc: Global, version: Version, packed: &Packed) -> Result<R
     ensures response { (b : List ℕ) (m : ResponseView) → Spells packed.now b
         → UnlessMemory result (Gave response_view result m ↔ Resp version m b) }
 
-    // .. and the first fault that they have, where they have one.
+    // .. and the first fault that they have, if they have one.
     ensures fault { (b : List ℕ) (e : AnyFault) → Spells packed.now b
         → UnlessMemory result ((result ≡ Err e) ↔ NoResponse version e b) }
 

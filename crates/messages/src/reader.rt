@@ -83,7 +83,7 @@ fn plain(request: Request, fields: &[Value]) -> Result<Request, MsgFault>
     Ok(request)
 }
 
-/// HELLO: the client's name, and who it is where the version tells that with it.
+/// HELLO: the client's name, and who it is if the version tells that with it.
 #[tactic(auto, using(crate::proofs::Fields::extra_row, crate::proofs::Fields::login_here))]
 fn hello_of(version: Version, fields: &[Value]) -> Result<Request, MsgFault>
     ensures { Answers (λ r. request_contents (request_view r)) result

@@ -212,7 +212,7 @@ fn put_response(out: &mut Adding, response: &Response) -> Result<(), Unspelled>
     }
 }
 
-/// Gives the output back with what was added, where that is no longer than a message may be, else as it was.
+/// Gives the output back with what was added, if that is no longer than a message may be, else as it was.
 fn keep_short(out: &mut BytesMut, adding: Adding) -> bool
     ensures kept { result ≡ true → out.new.items ≡ adding.before ++ adding.more }
     ensures short { result ≡ true → length adding.more ≤ max_size }

@@ -90,7 +90,7 @@ fn hello_alone(alloc: Global, agent: &String) -> Result<Value, MsgFault>
     Ok(of_dict(alloc, tags::HELLO, pairs)?)
 }
 
-/// HELLO, with who the client is where the version tells it there.
+/// HELLO, with who the client is if the version tells it there.
 fn hello_value(
     alloc: Global,
     version: Version,
@@ -108,7 +108,7 @@ fn hello_value(
     }
 }
 
-/// LOGON, where the version has it.
+/// LOGON, if the version has it.
 fn logon_value(alloc: Global, version: Version, auth: &Auth) -> Result<Value, MsgFault>
     ensures { Answers tree result
         (form_put version (request_contents (Logon (auth_view auth.now)))) }
@@ -167,7 +167,7 @@ fn with_token(alloc: Global, mode: Mode, token: &String) -> Result<Vec<(String, 
     Ok(pairs)
 }
 
-/// The entries of a transaction: its mode, and its token where it has one.
+/// The entries of a transaction: its mode, and its token if it has one.
 fn transaction_entries(
     alloc: Global,
     mode: Mode,

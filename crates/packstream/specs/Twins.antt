@@ -16,7 +16,7 @@ names es = map (λ e. string_bytes e.0) es
 abbrev pub stands_before : List Pair → ℕ → Bool
 stands_before es k = is_among (get_or (names es) k []) (names (take k es))
 
--- n is the index of the first such pair, or the number of pairs where there is none
+-- n is the index of the first such pair, or the number of pairs if there is none
 pub record IsFirstTwin (es : List Pair) (n : ℕ) : Type 0 where
   pub within : n ≤ length es
   pub fresh : (k : ℕ) → k < n → stands_before es k ≡ false

@@ -255,7 +255,7 @@ fn put_pair(out: &mut Adding, pair: &(String, Value)) -> Result<(), Unwritten>
     put_value(out, &pair.1)
 }
 
-/// Adds the shortest spelling, where it is not too long.
+/// Adds the shortest spelling, if it is not too long.
 #[tactic(auto, using(crate::proofs::Only::shortest, crate::proofs::Only::none_short))]
 fn spell(out: &mut Adding, packed: &Packed) -> Result<(), PackFault>
     requires { out.old.more ≡ [] }
@@ -276,14 +276,14 @@ fn spell(out: &mut Adding, packed: &Packed) -> Result<(), PackFault>
     Ok(())
 }
 
-/// How many bytes the shortest spelling of the value takes, or 65,537 where that is more. Takes no memory.
+/// How many bytes the shortest spelling of the value takes, or 65,537 if that is more. Takes no memory.
 pub fn size(packed: &Packed) -> usize
     ensures { result ≡ min (length (canon packed.now)) (max_size + 1) }
 {
     value_size(packed.value())
 }
 
-/// Appends the shortest spelling (PackStream version 1), or nothing: `Size` at 0 exactly where no spelling has at most
+/// Appends the shortest spelling (PackStream version 1), or nothing: `Size` at 0 exactly if no spelling has at most
 /// 65,536 bytes, or want of memory.
 pub fn encode(packed: &Packed, out: &mut BytesMut) -> Result<(), PackFault>
     ensures ok { OnOk result (out.new.items ≡ out.old.items ++ canon packed.now) }

@@ -27,7 +27,7 @@ pub(crate) fn first_twin(lookup: Lookup, pairs: &[(String, Value)]) -> usize
     }
 }
 
-/// Where there is no memory for the set, it does without.
+/// If there is no memory for the set, it does without.
 fn twin_looked_up(alloc: Global, pairs: &[(String, Value)]) -> usize
     ensures { IsFirstTwin pairs.now result }
 {

@@ -1,4 +1,4 @@
--- How far a loop has come, and what it has printed, where a fault breaks it off.
+-- How far a loop has come, and what it has printed, if a fault breaks it off.
 use Rattle.std.specs.Prelude.{◌≡◌, ◌⊎◌, ℕ, List, [], ◌∷◌, ◌++◌, Option, Result, Ok, Err}
 use Rattle.std.specs.Io.KnownBytes.{Appends}
 use Rattle.engine.specs.Views.{EntryView}
@@ -37,14 +37,14 @@ module _ {G : Type 0} (r : Rest G) (S : Setting) (lines : List (ℕ × ScriptReq
     pub front : IsFront begun (entries_text (whole_talk r S lines).ledger)
     pub printed : Appends start.out last.out ((end r S lines).text ++ begun)
 
-  -- Where a fault breaks a loop off, what was printed is a beginning of what a whole run prints, and what the client has heard by then is printed,
+  -- If a fault breaks a loop off, what was printed is a beginning of what a whole run prints, and what the client has heard by then is printed,
   -- unless the fault came while it was.
   pub record Breaks (start last : Ways) : Type 0 where
     pub begins : AppendsFront start.out last.out (all_text r S lines)
     pub printed : BreaksAt S r.next r.ledger start last (stages_of S r.next r.ledger lines)
         ⊎ BreaksBehind start last
 
-  -- It ran whole; or a fault broke it off, which is I1 only where a way breaks at its source, and I2 only where a sink has failed.
+  -- It ran whole; or a fault broke it off, which is I1 only if a way breaks at its source, and I2 only if a sink has failed.
   abbrev pub EndsAt : (Rest G → Type 0) → Ways → Ways → Result (Unit {0}) StreamFault → Type 0
   EndsAt Now start last (Ok x) = Loops r S lines Now start last
   EndsAt Now start last (Err fault) =

@@ -30,7 +30,7 @@ use Rattle.streams.specs.Fronts.{AppendsFront}
 use Rattle.streams.specs.Limits.{max_piece}
 use Rattle.serves.specs.Settling.{Grows, liveness_of, told_by}
 
--- what ends the line of an entry: its token in hex, where it has one
+-- what ends the line of an entry: its token in hex, if it has one
 abbrev pub token_ending : Token → List ℕ
 token_ending None = 10 ∷ []
 token_ending (Some t) = codes " token " ++ encode_lower t ++ 10 ∷ []
@@ -106,7 +106,7 @@ pub record IsHeardAll (p : Place) (bytes : List ℕ) (c : Caller) (before after 
   pub printed : Appends before after (text_of p bytes)
 
 module _ {G : Type 0} (r : Rest G) (conn : ℕ) where
-  -- A fault broke it off, which is I1 only where a way breaks at its source, and I2 only where a sink has failed: how far it had come is told.
+  -- A fault broke it off, which is I1 only if a way breaks at its source, and I2 only if a sink has failed: how far it had come is told.
   pub record Stops (fault : StreamFault) (start now : Ways) (Now : Rest G → Type 0) (There : Type 0)
       : Type 0 where
     pub lives : Grows r conn Now

@@ -43,7 +43,7 @@ module _ {G : Type 0} (r : Rest G) where
   abbrev pub MayHaveServed : (Rest G → Type 0) → Type 0
   MayHaveServed Now = Now r ⊎ HasServed Now
 
-  -- The connection was served as the conversation for what was read has it, whole or up to a fault, which is a stream's only where that has
+  -- The connection was served as the conversation for what was read has it, whole or up to a fault, which is a stream's only if that has
   -- failed; and this is told of it.
   abbrev pub ServesSo : ℕ → Setting → (Rest G → Type 0) → Connection → Connection → ServedOne → Type 0
   ServesSo conn S Now before after told =

@@ -141,7 +141,7 @@ abbrev pub Takes : Streams → Streams → List ℕ → List ℕ → Conversatio
 Takes start now script piece c (Ok x) = Progress start now (script ++ piece) c
 Takes start now script piece c (Err stop) = DoesAll (Some stop) start now (script ++ piece)
 
--- the input was read, to its end where nothing stops before, and its lines were done
+-- the input was read, to its end if nothing stops before, and its lines were done
 pub record Runs (stop : Option StopReason) (before after : Option (List ℕ)) (start now : Streams)
     : Type 0 where
   pub script : List ℕ
@@ -151,7 +151,7 @@ pub record Runs (stop : Option StopReason) (before after : Option (List ℕ)) (s
 
 -- How a shell went. Its status says whether it stopped, and why; standard error has why at last. Its lines are those of the bytes of the input
 -- that were read: all of them to the end; or those before the first that can't be read, which has the number that is told. The streams moved
--- as the conversation over these lines has it. A stream is told to have failed only where one of them has.
+-- as the conversation over these lines has it. A stream is told to have failed only if one of them has.
 pub record Shells (status : ℕ) (input_failed : Bool) (before after : Option (List ℕ))
     (start now : Streams) : Type 0 where
   pub stop : Option StopReason
@@ -173,7 +173,7 @@ pub record IsSound (before after : Streams) : Type 0 where
 abbrev pub IsAsked : Streams → Caller → Option (List ℕ) → Option (List ℕ) → Type 0
 IsAsked now c left taken = (p : Place) → IsAt c p → IsTurn p.rest now.left left now.written taken
 
--- the same where the sink took all before
+-- the same if the sink took all before
 abbrev pub IsHeard : Streams → Caller → Option (List ℕ) → Option (List ℕ) → Type 0
 IsHeard now c left taken =
     (p : Place) → IsAt c p → Appends now.written taken [] × IsAwaited p.rest now.left left

@@ -21,7 +21,7 @@ stop_text (Broken ReadFailed) = codes "fault I1" ++ 10 ∷ []
 stop_text (Broken WriteFailed) = codes "fault I2" ++ 10 ∷ []
 stop_text (Broken Memory) = codes "fault I3" ++ 10 ∷ []
 
--- A stream is told to have failed only where one of them has: the sources, and the sinks.
+-- A stream is told to have failed only if one of them has: the sources, and the sinks.
 abbrev pub IsStopOf : StopReason → Type 0 → Type 0 → Type 0
 IsStopOf (Unreadable n) read written = Unit {0}
 IsStopOf (Broken ReadFailed) read written = read

@@ -83,7 +83,7 @@ ending_by None ph = codes "the server took no version\n"
 ending_by (Some v) ph = if is_defunct ph then []
     else codes "the server's answer can't be: C6\n"
 
--- why no answer comes any more, where no fault says so: the server is gone while one is awaited, or the client has ended
+-- why no answer comes any more, if no fault says so: the server is gone while one is awaited, or the client has ended
 abbrev pub ending : Knows → List ℕ
 ending k = if awaits k then codes "the server is gone\n"
     else (if k.over then ending_by k.version k.phase else [])
@@ -109,7 +109,7 @@ and_then a b = record {
   told = a.told ++ b.told;
 }
 
--- what is printed and told, where nothing is sent or read
+-- what is printed and told, if nothing is sent or read
 abbrev pub said : List ℕ → List ℕ → Log
 said printed told = record { sent = []; read = []; printed = printed; told = told }
 
@@ -133,7 +133,7 @@ abbrev pub printed_text : {v : Version} {notes : List Note} {broken : Option Str
 printed_text {v = v} x = explained_all v x.shown ++ x.begun
 
 -- Bytes are read as long as an answer is still to come, and printed as they are heard. A fault may break it off, perhaps while a note is printed.
--- After a sink's failure, and where memory ran out, some of what was read wasn't fed or printed.
+-- After a sink's failure, and if memory ran out, some of what was read wasn't fed or printed.
 pub record HeardUpTo (fault : Option StreamFault) (p : Place) : Type 0 where
   pub fed : List ℕ
   pub unheard : List ℕ
@@ -144,7 +144,7 @@ pub record HeardUpTo (fault : Option StreamFault) (p : Place) : Type 0 where
   pub whole : is_printed fault ≡ true
       → (printed.unshown ≡ []) × ((unheard ≡ []) ⊎ ((hears_all p.rest fed).knows.over ≡ true))
 
--- what is read, printed and told so, where this was sent
+-- what is read, printed and told so, if this was sent
 abbrev pub heard_log : {fault : Option StreamFault} {p : Place} → List ℕ → HeardUpTo fault p → Log
 heard_log sent h = record {
   sent = sent;
@@ -157,7 +157,7 @@ heard_log sent h = record {
 abbrev pub parting : Option StreamFault → Knows → List ℕ
 parting fault k = losses_text (lost_of k) ++ why_text fault k
 
--- What waits to be sent is sent, and answers are heard. It ends where none is still to come, or where the server is gone, or by a fault. Then the
+-- What waits to be sent is sent, and answers are heard. It ends if none is still to come, or if the server is gone, or by a fault. Then the
 -- client is given up, unless all was answered, and what became of the requests that waited is told, and why no answer comes.
 pub record Exchanges (Gone : Type 0) (fault : Option StreamFault) (p : Place) (log : Log) (q : Place)
     : Type 0 where
@@ -194,7 +194,7 @@ pub data TalksLine (Gone : Type 0) (fault : Option StreamFault) (p : Place) (l :
       → Exchanges Gone fault (submitted p (meant p.version q)) log r → TalksLine Gone fault p l log r
 
 -- A client's conversation, after these lines: the version is heard, and then the lines follow. A fault may break the last of it off. What holds
--- where the server is gone is told beside.
+-- if the server is gone is told beside.
 pub data Talked (Gone : Type 0) : Option StreamFault → List (ℕ × Text) → Log → Place → Type 0 where
   opens : (fault : Option StreamFault) (log : Log) (p : Place)
       → Exchanges Gone fault first_place log p
@@ -229,7 +229,7 @@ IsUsedUp None after = Unit {0}
 IsUsedUp (Some bytes) after = IsAtEnd after
 
 -- What a conversation did after these lines: it moved the streams so, and the client stands there. A fault came in the last exchange, or
--- behind it. The server is gone only where nothing is left of its bytes.
+-- behind it. The server is gone only if nothing is left of its bytes.
 pub record Stands (fault : Option StreamFault) (start now : Streams) (lines : List (ℕ × Text))
     (Now : Place → Type 0) : Type 0 where
   pub log : Log

@@ -21,7 +21,7 @@ pub record Ways : Type 0 where
   pub out_failed : Bool
 
 -- The streams of a shell: the bytes left of its server's, and how many more reads may give some; those that were written to it, printed and
--- told; and what has failed. Where standard error has (`deaf`), nothing is known of what it took.
+-- told; and what has failed. If standard error has (`deaf`), nothing is known of what it took.
 pub record Streams : Type 0 where
   pub left : Option (List ℕ)
   pub reads : ℕ

@@ -77,8 +77,8 @@ impl Caller {
         }
     }
 
-    /// Why no answer comes any more, where no stream has failed: the input has ended while one is awaited, or the client has ended by an answer
-    /// that takes no version or can't be. Nothing where all was answered, or a summary has ended it.
+    /// Why no answer comes any more, if no stream has failed: the input has ended while one is awaited, or the client has ended by an answer
+    /// that takes no version or can't be. Nothing if all was answered, or a summary has ended it.
     fn ending(&self) -> &'static [u8]
         ensures { (r : Rest) → Fits self.now.client r → result.now ≡ ending r.knows }
     {

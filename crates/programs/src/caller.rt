@@ -23,7 +23,7 @@ use wire::{Version, Wish};
 #[derive(Drop)]
 pub(crate) struct Caller {
     pub client: Client,
-    /// The version that was taken; the newest where none was, when the client has ended.
+    /// The version that was taken; the newest if none was, when the client has ended.
     pub version: Version,
     pub alloc: Global,
 }
@@ -43,7 +43,7 @@ impl Caller {
         })
     }
 
-    /// Keeps the version, where one was heard.
+    /// Keeps the version, if one was heard.
     pub fn keep_version(&mut self, heard: &Heard)
         ensures version { self.new.version ≡ version_after self.old.version (note heard.now) }
         ensures client { self.new.client ≡ self.old.client }

@@ -20,7 +20,7 @@ use streams::{Sink, Source, StreamFault};
 pub struct ServedOne {
     /// The cause of its session's end; `Lost` where a fault came, and where the input ended first.
     pub cause: Cause,
-    /// What broke the conversation off: a stream that failed, or want of memory. None where the peer or the session ended it.
+    /// What broke the conversation off: a stream that failed, or want of memory. None if the peer or the session ended it.
     pub fault: Option<StreamFault>,
 }
 
@@ -40,7 +40,7 @@ pub fn serve_next<E: Engine, G: Gate, I: Source, O: Sink, P: Sink>(
     // The session is given up, the next number is one more, and the ledger has at most grown ..
     ensures ok { (r : Rest G) → Fits E.entries server.old r → r.sessions ≡ []
         → OnOk result (HasServed r (Fits E.entries server.new)) }
-    // .. also after a fault, where a session was opened.
+    // .. also after a fault, if a session was opened.
     ensures err { (r : Rest G) → Fits E.entries server.old r → r.sessions ≡ []
         → OnErr result (MayHaveServed r (Fits E.entries server.new)) }
     // What is printed is the connection's number and its cause.
@@ -49,7 +49,7 @@ pub fn serve_next<E: Engine, G: Gate, I: Source, O: Sink, P: Sink>(
         (conn_line r.next told.cause)) }
     // What the client was answered, the ledger, the cause and the fault are those of its conversation, for the bytes that were read.
     ensures serves { (r : Rest G) → Fits E.entries server.old r → r.sessions ≡ []
-        → IfOk result (ServesSo (opened r) r.next (setting E.answer G.accepts r)
+        → IfOk result (ServesSo (opened r) r.next (setting E.answer G.welcomes r)
         (Fits E.entries server.new) streams.old.at streams.new.at) }
     ensures read { IsErrOf result StreamFault.ReadFailed → ⊥ }
     ensures written { IsErrOf result StreamFault.WriteFailed → P.has_failed out.new ≡ true }
@@ -80,7 +80,7 @@ pub(crate) fn open_session<E: Engine, G: Gate>(
     }
 }
 
-/// Serves a session, and gives it up. Where a stream fails, or memory runs out, it was lost, by that fault.
+/// Serves a session, and gives it up. If a stream fails, or memory runs out, it was lost, by that fault.
 fn serve_opened<E: Engine, G: Gate, I: Source, O: Sink>(
     alloc: Global,
     server: &mut Server<E, G>,
@@ -92,7 +92,7 @@ fn serve_opened<E: Engine, G: Gate, I: Source, O: Sink>(
         → LeavesOthers r conn (Fits E.entries server.new) }
     ensures serves { (r : Rest G) → Fits E.entries server.old r
         → find conn r.sessions ≡ Some (fresh conn)
-        → ServesSo r conn (setting E.answer G.accepts r) (Fits E.entries server.new)
+        → ServesSo r conn (setting E.answer G.welcomes r) (Fits E.entries server.new)
         streams.old.at streams.new.at result }
 {
     let served = serve_one(alloc, server, conn, &mut streams.source, &mut streams.sink);

@@ -19,7 +19,7 @@ pub fn escape(alloc: Global, text: &str) -> Result<String, AllocError>
     Ok(out)
 }
 
-/// Adds a character, escaped where it has to be.
+/// Adds a character, escaped if it has to be.
 #[tactic(auto, using(crate::proofs::Escapings::encoded_escape))]
 fn push_shown(out: &mut String, c: char) -> Result<(), AllocError>
     ensures { OnOk result (string_bytes out.new ≡ string_bytes out.old ++ encode_utf8_all (shown c)) }

@@ -70,7 +70,7 @@ fn read_known<T: Sink, S: PeerSource>(
     Ok(())
 }
 
-/// Writes a part, and reads it at the other end, where it is known to wait then. I1 also where other bytes come.
+/// Writes a part, and reads it at the other end, if it is known to wait then. I1 also if other bytes come.
 fn pass<T: Sink, S: PeerSource>(
     alloc: Global,
     bytes: &[u8],
@@ -95,7 +95,7 @@ fn pass<T: Sink, S: PeerSource>(
     Ok(())
 }
 
-/// Feeds a part to the client, and prints what it tells, also where memory runs out while it is fed.
+/// Feeds a part to the client, and prints what it tells, also if memory runs out while it is fed.
 fn hear<O: Sink>(caller: &mut Caller, part: &[u8], out: &mut O) -> Result<(), StreamFault>
     ensures hears { (p : Place) → StandsAt caller.old p
         → MatchResult result
@@ -187,9 +187,9 @@ fn give<E: Engine, G: Gate>(
     ensures live { IsLive E.entries conn server.new }
     ensures grows { LivesOn conn (Fits E.entries server.old) (Fits E.entries server.new) }
     ensures sits { (r : Rest G) (sent : List ℕ) → IsSome (find conn r.sessions)
-        → Sits r conn (setting E.answer G.accepts r) (Fits E.entries server.old) sent
+        → Sits r conn (setting E.answer G.welcomes r) (Fits E.entries server.old) sent
         said.old.bytes.items liveness.old
-        → OnOk result (Sits r conn (setting E.answer G.accepts r) (Fits E.entries server.new)
+        → OnOk result (Sits r conn (setting E.answer G.welcomes r) (Fits E.entries server.new)
         (sent ++ piece.now) said.new.bytes.items liveness.new) }
     ensures fault { IfErr result (λ e. e ≡ StreamFault.Memory) }
 {
@@ -225,16 +225,16 @@ fn turn<E: Engine, G: Gate, A: PeerSource, B: Sink, C: PeerSource, D: Sink, O: S
     ways: &mut BothWays<A, B, C, D, O>,
 ) -> Result<(), StreamFault>
     requires { IsOn (LetsReadWaiting A.left A.may_read) (LetsReadWaiting C.left C.may_read)
-        (setting E.answer G.accepts) conn (Fits E.entries server.old) ways.old.at pair.old }
+        (setting E.answer G.welcomes) conn (Fits E.entries server.old) ways.old.at pair.old }
     ensures { (r : Rest G) (start : Ways) (t : Turns) → IsSome (find conn r.sessions)
-        → Comes r conn (setting E.answer G.accepts r) start ways.old.at t pair.old
+        → Comes r conn (setting E.answer G.welcomes r) start ways.old.at t pair.old
         (Fits E.entries server.old)
         → Goes r conn start ways.new.at (Fits E.entries server.new)
-        (Comes r conn (setting E.answer G.accepts r) start ways.new.at
-        (given (setting E.answer G.accepts r) conn r.ledger t piece.now) pair.new
+        (Comes r conn (setting E.answer G.welcomes r) start ways.new.at
+        (given (setting E.answer G.welcomes r) conn r.ledger t piece.now) pair.new
         (Fits E.entries server.new))
-        (BreaksIn (setting E.answer G.accepts r) conn r.ledger start ways.new.at
-        (t, answer_to (setting E.answer G.accepts r) conn r.ledger t.sent piece.now))
+        (BreaksIn (setting E.answer G.welcomes r) conn r.ledger start ways.new.at
+        (t, answer_to (setting E.answer G.welcomes r) conn r.ledger t.sent piece.now))
         result }
 {
     match pass(pair.caller.alloc, piece, &mut ways.up) {
@@ -254,7 +254,7 @@ fn turn<E: Engine, G: Gate, A: PeerSource, B: Sink, C: PeerSource, D: Sink, O: S
     Ok(())
 }
 
-/// The client writes all that it has to say, in pieces, a turn for each. Where an answer is still to come then, the session has none: I3.
+/// The client writes all that it has to say, in pieces, a turn for each. If an answer is still to come then, the session has none: I3.
 fn exchange<E: Engine, G: Gate, A: PeerSource, B: Sink, C: PeerSource, D: Sink, O: Sink>(
     pair: &mut Pair,
     server: &mut Server<E, G>,
@@ -262,17 +262,17 @@ fn exchange<E: Engine, G: Gate, A: PeerSource, B: Sink, C: PeerSource, D: Sink, 
     ways: &mut BothWays<A, B, C, D, O>,
 ) -> Result<(), StreamFault>
     requires { IsOn (LetsReadWaiting A.left A.may_read) (LetsReadWaiting C.left C.may_read)
-        (setting E.answer G.accepts) conn (Fits E.entries server.old) ways.old.at pair.old }
+        (setting E.answer G.welcomes) conn (Fits E.entries server.old) ways.old.at pair.old }
     ensures { (r : Rest G) (start : Ways) (t : Turns) → IsSome (find conn r.sessions)
-        → Comes r conn (setting E.answer G.accepts r) start ways.old.at t pair.old
+        → Comes r conn (setting E.answer G.welcomes r) start ways.old.at t pair.old
         (Fits E.entries server.old)
         → Goes r conn start ways.new.at (Fits E.entries server.new)
-        (Comes r conn (setting E.answer G.accepts r) start ways.new.at
-        (exchanged (setting E.answer G.accepts r) conn r.ledger t) pair.new
+        (Comes r conn (setting E.answer G.welcomes r) start ways.new.at
+        (exchanged (setting E.answer G.welcomes r) conn r.ledger t) pair.new
         (Fits E.entries server.new)
-        × IsQuiet (exchanged (setting E.answer G.accepts r) conn r.ledger t))
-        (BreaksIn (setting E.answer G.accepts r) conn r.ledger start ways.new.at
-        (t, due (setting E.answer G.accepts r) conn r.ledger t))
+        × IsQuiet (exchanged (setting E.answer G.welcomes r) conn r.ledger t))
+        (BreaksIn (setting E.answer G.welcomes r) conn r.ledger start ways.new.at
+        (t, due (setting E.answer G.welcomes r) conn r.ledger t))
         result }
 {
     let Ok(bytes) = pair.caller.client.take_out(usize::MAX) else {
@@ -293,7 +293,7 @@ fn exchange<E: Engine, G: Gate, A: PeerSource, B: Sink, C: PeerSource, D: Sink, 
     Ok(())
 }
 
-/// Submits a line; where it isn't refused, its request is written and its answers are heard.
+/// Submits a line; if it isn't refused, its request is written and its answers are heard.
 fn run_line<E: Engine, G: Gate, A: PeerSource, B: Sink, C: PeerSource, D: Sink, O: Sink>(
     pair: &mut Pair,
     server: &mut Server<E, G>,
@@ -302,15 +302,15 @@ fn run_line<E: Engine, G: Gate, A: PeerSource, B: Sink, C: PeerSource, D: Sink, 
     ways: &mut BothWays<A, B, C, D, O>,
 ) -> Result<(), StreamFault>
     requires { IsOn (LetsReadWaiting A.left A.may_read) (LetsReadWaiting C.left C.may_read)
-        (setting E.answer G.accepts) conn (Fits E.entries server.old) ways.old.at pair.old }
+        (setting E.answer G.welcomes) conn (Fits E.entries server.old) ways.old.at pair.old }
     ensures { (r : Rest G) (start : Ways) (t : Turns) → IsSome (find conn r.sessions)
-        → Comes r conn (setting E.answer G.accepts r) start ways.old.at t pair.old
+        → Comes r conn (setting E.answer G.welcomes r) start ways.old.at t pair.old
         (Fits E.entries server.old)
         → Goes r conn start ways.new.at (Fits E.entries server.new)
-        (ComesOn r conn (setting E.answer G.accepts r) start ways.new.at t
+        (ComesOn r conn (setting E.answer G.welcomes r) start ways.new.at t
         (line.number, script_request_view line.said) pair.new (Fits E.entries server.new))
-        (BreaksIn (setting E.answer G.accepts r) conn r.ledger start ways.new.at
-        (stage (setting E.answer G.accepts r) conn r.ledger t
+        (BreaksIn (setting E.answer G.welcomes r) conn r.ledger start ways.new.at
+        (stage (setting E.answer G.welcomes r) conn r.ledger t
         (line.number, script_request_view line.said)))
         result }
 {
@@ -335,20 +335,20 @@ fn run_lines<E: Engine, G: Gate, A: PeerSource, B: Sink, C: PeerSource, D: Sink,
     ways: &mut BothWays<A, B, C, D, O>,
 ) -> Result<(), StreamFault>
     requires { IsOn (LetsReadWaiting A.left A.may_read) (LetsReadWaiting C.left C.may_read)
-        (setting E.answer G.accepts) conn (Fits E.entries server.old) ways.old.at pair.old }
+        (setting E.answer G.welcomes) conn (Fits E.entries server.old) ways.old.at pair.old }
     ensures { (r : Rest G) (start : Ways) (t : Turns) → IsSome (find conn r.sessions)
-        → Comes r conn (setting E.answer G.accepts r) start ways.old.at t pair.old
+        → Comes r conn (setting E.answer G.welcomes r) start ways.old.at t pair.old
         (Fits E.entries server.old)
         → Goes r conn start ways.new.at (Fits E.entries server.new)
-        (Comes r conn (setting E.answer G.accepts r) start ways.new.at
-        (after_lines (setting E.answer G.accepts r) conn r.ledger
-        (exchanged (setting E.answer G.accepts r) conn r.ledger t) (said_requests lines.items)) pair.new
+        (Comes r conn (setting E.answer G.welcomes r) start ways.new.at
+        (after_lines (setting E.answer G.welcomes r) conn r.ledger
+        (exchanged (setting E.answer G.welcomes r) conn r.ledger t) (said_requests lines.items)) pair.new
         (Fits E.entries server.new)
-        × AreQuiet (setting E.answer G.accepts r) conn r.ledger
-        (exchanged (setting E.answer G.accepts r) conn r.ledger t) (said_requests lines.items))
-        (BreaksAt (setting E.answer G.accepts r) conn r.ledger start ways.new.at
-        ((t, due (setting E.answer G.accepts r) conn r.ledger t) ∷ stages (setting E.answer G.accepts r) conn r.ledger
-        (exchanged (setting E.answer G.accepts r) conn r.ledger t) (said_requests lines.items)))
+        × AreQuiet (setting E.answer G.welcomes r) conn r.ledger
+        (exchanged (setting E.answer G.welcomes r) conn r.ledger t) (said_requests lines.items))
+        (BreaksAt (setting E.answer G.welcomes r) conn r.ledger start ways.new.at
+        ((t, due (setting E.answer G.welcomes r) conn r.ledger t) ∷ stages (setting E.answer G.welcomes r) conn r.ledger
+        (exchanged (setting E.answer G.welcomes r) conn r.ledger t) (said_requests lines.items)))
         result }
 {
     match exchange(pair, server, conn, ways) {
@@ -375,7 +375,7 @@ fn run_opened<E: Engine, G: Gate, A: PeerSource, B: Sink, C: PeerSource, D: Sink
     requires near { LetsReadWaiting A.left A.may_read ways.old.at.down }
     requires far { LetsReadWaiting C.left C.may_read ways.old.at.up }
     ensures { (r : Rest G) → Fits E.entries server.old r → r.sessions ≡ []
-        → HasLooped r (Fits E.entries server.new) × EndsAt r (setting E.answer G.accepts r)
+        → HasLooped r (Fits E.entries server.new) × EndsAt r (setting E.answer G.welcomes r)
         (said_requests lines.items) (Fits E.entries server.new) ways.old.at ways.new.at result }
 {
     let caller = match Caller::new(alloc) {
@@ -421,11 +421,11 @@ fn run<E: Engine, G: Gate, A: PeerSource, B: Sink, C: PeerSource, D: Sink, O: Si
     ensures number { IfErr result (λ stop. Numbers script.now stop) }
     ensures readable { OnOk result (unreadable request_line_of (filled_lines script.now) ≡ None) }
     ensures loops { (r : Rest G) → Fits E.entries server.old r → r.sessions ≡ []
-        → MatchResult result (λ _. Loops r (setting E.answer G.accepts r)
+        → MatchResult result (λ _. Loops r (setting E.answer G.welcomes r)
         (lines_read request_line_of (filled_lines script.now)) (Fits E.entries server.new)
         ways.old.at ways.new.at)
         (λ stop. IsStopOf stop (FailsToRead ways.old.at ways.new.at) (FailsToWrite ways.new.at)
-        × ((stop_status stop ≡ 2 → ⊥) → Breaks r (setting E.answer G.accepts r)
+        × ((stop_status stop ≡ 2 → ⊥) → Breaks r (setting E.answer G.welcomes r)
         (lines_read request_line_of (filled_lines script.now)) ways.old.at ways.new.at)) }
 {
     let lines = match read_requests(alloc, script) {
@@ -442,10 +442,10 @@ fn run<E: Engine, G: Gate, A: PeerSource, B: Sink, C: PeerSource, D: Sink, O: Si
 /// Runs the request lines of a script through a client, which takes the newest version, and a session of the server, on which none lives,
 /// over both ways of a connection. The client hears the version, and then submits one line after another. After each it writes what it has
 /// to say, at most 4,096 bytes at once; the server reads just those, feeds them and works, and writes what it put out in parts of at most
-/// 4,096 bytes, each read by the client before the next is written. So neither reads where nothing is known to wait.
+/// 4,096 bytes, each read by the client before the next is written. So neither reads if nothing is known to wait.
 ///
 /// It prints on `ways.out` each `row HEX` and `heard ORDINAL OUTCOME PHASE`, and `line I C1` for a request that the client refuses; at last
-/// `entry CONN ORDINAL COUNT` for each entry of the ledger, with ` token HEX` behind it where it has a token. The exit status is 0; 1 for a
+/// `entry CONN ORDINAL COUNT` for each entry of the ledger, with ` token HEX` behind it if it has a token. The exit status is 0; 1 for a
 /// stream that has failed (`fault I1` for a source, also where it ends before the bytes that were written came, or gives others; `fault I2`
 /// for a sink), 3 for want of memory (`fault I3`); 2 for a line that can't be read: then nothing was run, and `line I unreadable` stands on
 /// `err`, and on the next line what is expected there.
@@ -470,8 +470,8 @@ pub fn run_loop<
     // and they weren't read. No other read is made.
     requires near { LetsReadWaiting A.left A.may_read ways.old.at.down }
     requires far { LetsReadWaiting C.left C.may_read ways.old.at.up }
-    // The status and the text on standard error are those of why it stops; I1 only where a source gives no more or other bytes than were
-    // written, I2 only where a sink has failed.
+    // The status and the text on standard error are those of why it stops; I1 only if a source gives no more or other bytes than were
+    // written, I2 only if a sink has failed.
     ensures ends { Ends result (FailsToRead ways.old.at ways.new.at) (FailsToWrite ways.new.at)
         (F.has_failed err.new) (F.taken err.old) (F.taken err.new) }
     // 0 is only for a script of which each line can be read, and 2 only for one of which one can't: nothing is run then.
@@ -484,13 +484,13 @@ pub fn run_loop<
     // With 0 what is printed, what passes over the streams, and what the session and its ledger are then, are functions of the lines, the
     // engine, the gate, the ledger before and the session's number.
     ensures loops { result ≡ 0 → (r : Rest G) → Fits E.entries server.old r → r.sessions ≡ []
-        → Loops r (setting E.answer G.accepts r)
+        → Loops r (setting E.answer G.welcomes r)
         (lines_read request_line_of (filled_lines script.now)) (Fits E.entries server.new)
         ways.old.at ways.new.at }
     // With 1 and 3 what was printed is a beginning of that, and what the client has heard by then is printed, unless the fault came while it was.
     ensures breaks { (result ≡ 1) ⊎ (result ≡ 3) → (r : Rest G) → Fits E.entries server.old r
         → r.sessions ≡ []
-        → Breaks r (setting E.answer G.accepts r)
+        → Breaks r (setting E.answer G.welcomes r)
         (lines_read request_line_of (filled_lines script.now)) ways.old.at ways.new.at }
     // With 2 the number that is told is that of the first line that can't be read.
     ensures number { result ≡ 2

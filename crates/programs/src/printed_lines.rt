@@ -110,7 +110,7 @@ pub(crate) fn put_row<O: Sink>(
     put(line.as_bytes(), out)
 }
 
-/// Prints `heard ORDINAL OUTCOME PHASE`, and behind that of a FAILURE `fault CODE MESSAGE`. The first line takes no memory; where it isn't taken
+/// Prints `heard ORDINAL OUTCOME PHASE`, and behind that of a FAILURE `fault CODE MESSAGE`. The first line takes no memory; if it isn't taken
 /// whole it is told on standard error.
 pub(crate) fn put_summary<S: PeerSource, T: Sink, O: Sink, E: Sink>(
     alloc: Global,

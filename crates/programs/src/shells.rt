@@ -233,7 +233,7 @@ fn run<I: Source, S: PeerSource, T: Sink, O: Sink, E: Sink>(
 /// gone, a bad answer, a stream that fails, want of memory), each request that waited for an answer is told as `lost ORDINAL OUTCOME`
 /// there, before the fault.
 ///
-/// The exit status is 0; 1 for a stream that has failed (`fault I1` where it is a source, `fault I2` where it is a sink), 2 for an
+/// The exit status is 0; 1 for a stream that has failed (`fault I1` if it is a source, `fault I2` if it is a sink), 2 for an
 /// unreadable line, 3 for want of memory (`fault I3`).
 pub fn shell<I: Source, S: PeerSource, T: Sink, O: Sink, E: Sink>(
     alloc: Global,

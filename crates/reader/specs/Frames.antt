@@ -26,7 +26,7 @@ pub record Frame : Type 0 where
 abbrev pub waits : Opened → ℕ → ℕ → Frame
 waits f n first = record { opened = f; lacks = n; first = first }
 
--- b is the head of a list, and the members so far: good ones where so many heads are open. The head announces as many as
+-- b is the head of a list, and the members so far: good ones if so many heads are open. The head announces as many as
 -- there are and as are lacking.
 pub record IsListFrame (heads : ℕ) (ts : Trees) (lacks : ℕ) (b : List ℕ) : Type 0 where
   pub size : Size
@@ -74,7 +74,7 @@ pub record IsPairFrame (heads : ℕ) (es : Entries) (k : List ℕ) (lacks : ℕ)
   pub new_key : is_among k (keys_of es) ≡ false
   pub begins : Begins (announces.Dict size) (field ++ (body ++ key)) b
 
--- b is the head, and the members so far: good ones, where so many heads are open; it announces as many as there are and
+-- b is the head, and the members so far: good ones, if so many heads are open; it announces as many as there are and
 -- as are lacking.
 abbrev pub IsFrame : ℕ → Opened → ℕ → List ℕ → Type 0
 IsFrame heads (in_list ts) lacks b = IsListFrame heads ts lacks b
@@ -139,7 +139,7 @@ abbrev pub AreNames : List Name → List ℕ → ℕ → List (List ℕ) → Typ
 AreNames names store first keys = (s : List ℕ)
     → (is_among s keys ≡ true) ↔ IsNamed names store first s
 
--- an open dictionary's keys are its names, that of a waiting value too; where it has none, they begin behind all
+-- an open dictionary's keys are its names, that of a waiting value too; if it has none, they begin behind all
 abbrev pub HasNames : Opened → ℕ → List Name → List ℕ → Type 0
 HasNames (in_list ts) first names store = Unit {0}
 HasNames (in_struct tag ts) first names store = Unit {0}

@@ -61,7 +61,7 @@ at_mark m h = record {
 abbrev pub with_fault : Reason → ℕ → Holds → Holds
 with_fault r o h = record h { cursor = record h.cursor { bad = Some (r, o) } }
 
--- the item that was begun is whole, and ends where the bytes do
+-- the item that was begun is whole, and ends if the bytes do
 abbrev pub with_item : Holds → Holds
 with_item h = record h {
   cursor = record h.cursor { part = part.Nothing; read = length h.store };
@@ -90,7 +90,7 @@ IsPart p part.Nothing tail = tail ≡ []
 IsPart p (part.Head m number has) tail = IsHeadPart p m number has tail
 IsPart p (part.Body m number lacks) tail = IsBodyPart p m number lacks tail
 
--- bytes are missing from the part, where one was begun
+-- bytes are missing from the part, if one was begun
 abbrev pub IsLacking : Part → Type 0
 IsLacking part.Nothing = Unit {0}
 IsLacking (part.Head m number has) = has < field (marker m)
@@ -166,7 +166,7 @@ abbrev pub IsFaultOf : ReadFault → List ℕ → Type 0
 IsFaultOf stop.Memory b = Unit {0}
 IsFaultOf (stop.Fault r o) b = Bad b o r × (r ≡ reason.Short → ⊥)
 
--- what is answered to these bytes: those that rest, by `view`, where it took the others; or their fault
+-- what is answered to these bytes: those that rest, by `view`, if it took the others; or their fault
 abbrev pub Answers : {X : Type 0} → (X → List ℕ) → Result X ReadFault → List ℕ → Holds → Type 0
 Answers view (Ok x) b new = HasTaken b new (view x)
 Answers view (Err e) b new = IsFaultOf e b

@@ -67,7 +67,7 @@ digest_of s = digest_from 0 s
 abbrev pub bit_in : ℕ → ℕ → Bool
 bit_in n i = bit_at n i == 1
 
--- a bit of a number is 1, where there is a number
+-- a bit of a number is 1, if there is a number
 abbrev pub bit_of : Option ℕ → ℕ → Bool
 bit_of None i = false
 bit_of (Some b) i = bit_in b i

@@ -62,11 +62,11 @@ Takes old piece new = MatchOption old.bad (Joins old piece new ⊎ TurnsBad old 
 abbrev pub Reads : Point → List ℕ → Type 0
 Reads p b = AreBytes b × MatchOption p.bad (p.bytes ≡ b) (λ f. IsBadAlways b f.0 f.1)
 
--- apart from memory, the good value that the bytes spell, where they spell one
+-- apart from memory, the good value that the bytes spell, if they spell one
 abbrev pub TellsValue : List ℕ → Result Tree PackFault → Type 0
 TellsValue b told = (t : Tree) → UnlessMemory told ((told ≡ Ok t) ↔ (IsGood t × Spells t b))
 
--- apart from memory, the fault at its place, where the bytes have one
+-- apart from memory, the fault at its place, if the bytes have one
 abbrev pub TellsFault : List ℕ → Result Tree PackFault → Type 0
 TellsFault b told = (r : Reason) (o : ℕ)
     → UnlessMemory told ((told ≡ Err (fault.Refused r o)) ↔ Bad b o r)

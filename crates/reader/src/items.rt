@@ -82,7 +82,7 @@ impl Reading {
         self.take_body(announced, marker, number, body_len(announced, number), rest)
     }
 
-    /// Takes what follows a head, where so many bytes of its text or byte string are missing.
+    /// Takes what follows a head, if so many bytes of its text or byte string are missing.
     #[inline]
     pub(crate) fn take_body<'a>(
         &mut self,
@@ -292,7 +292,7 @@ impl Reading {
         Ok(rest)
     }
 
-    /// The item that was begun is whole, and ends where the bytes do.
+    /// The item that was begun is whole, and ends if the bytes do.
     #[inline]
     pub(crate) fn end_here(&mut self)
         ensures item { holds self.new ≡ with_item (holds self.old) }

@@ -15,11 +15,11 @@ use std::alloc::Global;
 /// What `decode` tells of the bytes, by a reader that is fed them as one piece: its contract is that of `decode`, and
 /// follows from what a reader's calls ensure.
 pub fn read_piece(alloc: Global, bytes: &[u8]) -> Result<Packed, PackFault>
-    // Apart from memory, it is the good value that the bytes spell, where they spell one ..
+    // Apart from memory, it is the good value that the bytes spell, if they spell one ..
     ensures value { (t : Tree)
         → UnlessMemory result ((result ≡ Ok t) ↔ (IsGood t × Spells t bytes.now)) }
 
-    // .. and the fault at its place, where they have one.
+    // .. and the fault at its place, if they have one.
     ensures fault { (r : Reason) (o : ℕ)
         → UnlessMemory result ((result ≡ Err (fault.Refused r o)) ↔ Bad bytes.now o r) }
 {

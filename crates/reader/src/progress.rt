@@ -100,7 +100,7 @@ impl Reading {
         self.cursor = mark.cursor;
     }
 
-    /// The fault that every continuation has, where that is known.
+    /// The fault that every continuation has, if that is known.
     pub(crate) fn bad(&self) -> Option<(Reason, usize)>
         ensures { result ≡ (holds self.now).cursor.bad }
     {
@@ -122,7 +122,7 @@ impl Reading {
     }
 
     /// Takes a piece of the text or the byte string that isn't whole, where bytes of it are missing behind the piece too; or of
-    /// members of a list or a structure that are integers of one byte each, where others are missing behind them; and
+    /// members of a list or a structure that are integers of one byte each, if others are missing behind them; and
     /// answers whether it did. Else nothing changes.
     #[inline]
     #[tactic(auto, using(crate::proofs::Taking::part_of))]
@@ -150,7 +150,7 @@ impl Reading {
         }
     }
 
-    /// Takes a piece of integers of one byte each, where they are members of which others are missing behind them.
+    /// Takes a piece of integers of one byte each, if they are members of which others are missing behind them.
     #[inline]
     fn take_members(&mut self, piece: &[u8]) -> Result<bool, AllocError>
         requires stands { IsStanding (holds self.old) }
@@ -218,7 +218,7 @@ impl Reading {
         Ok(())
     }
 
-    /// Takes the piece; or, where a fault is in it, turns bad where the mark is. For want of memory it goes back there.
+    /// Takes the piece; or, if a fault is in it, turns bad where the mark is. For want of memory it goes back there.
     #[inline]
     pub(crate) fn feed(&mut self, before: &Mark, piece: &[u8]) -> Result<(), AllocError>
         requires before { IsMark (holds self.old) before.now }

@@ -57,7 +57,7 @@ impl Reader {
         }
     }
 
-    /// Joins the piece to the bytes, where they then have no fault but missing bytes. Else each continuation of them has
+    /// Joins the piece to the bytes, if they then have no fault but missing bytes. Else each continuation of them has
     /// one fault at one place: the reader is bad from then on, keeps the bytes that it had, and takes no more. The held
     /// point stays. For want of memory nothing changes; a bad reader takes no memory.
     pub fn feed(&mut self, piece: &[u8]) -> Result<(), AllocError>
@@ -110,13 +110,13 @@ impl Reader {
         }
     }
 
-    /// What `decode` tells of the bytes; or the fault, where the reader is bad.
+    /// What `decode` tells of the bytes; or the fault, if the reader is bad.
     pub fn finish(&self) -> Result<Packed, PackFault>
-        // Apart from memory, it is the good value that the bytes spell, where they spell one ..
+        // Apart from memory, it is the good value that the bytes spell, if they spell one ..
         ensures value { self.now.here.bad ≡ None → (t : Tree)
             → UnlessMemory result ((result ≡ Ok t) ↔ (IsGood t × Spells t self.now.here.bytes)) }
 
-        // .. and the fault at its place, where they have one.
+        // .. and the fault at its place, if they have one.
         ensures fault { self.now.here.bad ≡ None → (r : Reason) (o : ℕ)
             → UnlessMemory result ((result ≡ Err (fault.Refused r o))
             ↔ Bad self.now.here.bytes o r) }

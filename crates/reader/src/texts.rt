@@ -19,7 +19,7 @@ pub(crate) struct Key {
     first: usize,
     /// The link that it hangs on; the first key of a dictionary hangs on none.
     above: Option<Link>,
-    /// The keys last hung below it on either side: they are below it only where they hang on its link.
+    /// The keys last hung below it on either side: they are below it only if they hang on its link.
     left: usize,
     right: usize,
 }
@@ -170,7 +170,7 @@ fn is_right(digest: u64, text: &[u8], above: usize) -> bool
     }
 }
 
-/// Where a key is to hang, or that it stands there already.
+/// If a key is to hang, or that it stands there already.
 pub(crate) enum Found {
     Again,
     Free(Option<Link>),

@@ -1,7 +1,7 @@
 -- What a world's answer means for an event, what is done for a line, and what is said of the lines that a server for one user runs.
 use Rattle.std.proofs.Common.{◌≡◌, refl, sym, ◌∙◌, subst, Result, Ok, Err, List, inl, inr, ap, Bool, [], ◌++◌, ℕ, string_bytes, Option, ◌&&◌, codes, bytes_eq}
 use Rattle.std.specs.declared.alloc.AllocError.{AllocError}
-use Rattle.engine.specs.Prelude.{EntryView, ledger_of, is_user, principal_of, credentials_of, fixed_answer}
+use Rattle.engine.specs.Prelude.{EntryView, ledger_of, user_welcome, principal_of, credentials_of, fixed_answer, under_own_name}
 use Rattle.session.specs.Prelude.{Setting}
 use Rattle.world.specs.declared.kinds.Refused.{Refused}
 use Rattle.world.specs.declared.kinds.Refused.TheVariants.{NoSuchConnection, WrongPeer, SessionsFull, Memory}
@@ -64,14 +64,14 @@ line_done entries S gate brought t view w l b e (Err f) is same h = h
 
 -- a server that lets in one user
 abbrev setting_by : List ℕ → List ℕ → Setting
-setting_by principal credentials = record { run = fixed_answer; check = λ p c. bytes_eq p principal && bytes_eq c credentials }
+setting_by principal credentials = record { run = fixed_answer; welcome = under_own_name (λ p c. bytes_eq p principal && bytes_eq c credentials) }
 
-pub serving_is : (gate : OneUser) → principal_of gate ≡ codes "user" → credentials_of gate ≡ codes "pass" → setting_of fixed_answer is_user gate ≡ serving
+pub serving_is : (gate : OneUser) → principal_of gate ≡ codes "user" → credentials_of gate ≡ codes "pass" → setting_of fixed_answer user_welcome gate ≡ serving
 serving_is gate p c = ap (λ x. setting_by x (credentials_of gate)) p ∙ ap (λ x. setting_by (codes "user") x) c
 
 pub lines_said : (gate : OneUser) → principal_of gate ≡ codes "user" → credentials_of gate ≡ codes "pass" → (ls : List (ℕ × LineView)) (text told : List ℕ) (t : WorldHeld FixedTable OneUser)
-    → Leads ledger_of (setting_of fixed_answer is_user gate) gate [] (Runs (setting_of fixed_answer is_user gate) (empty []) ls text) t
-    → ((w : World) → Reached (setting_of fixed_answer is_user gate) [] w → FitsWorld ledger_of t gate w → told ≡ report_text w)
+    → Leads ledger_of (setting_of fixed_answer user_welcome gate) gate [] (Runs (setting_of fixed_answer user_welcome gate) (empty []) ls text) t
+    → ((w : World) → Reached (setting_of fixed_answer user_welcome gate) [] w → FitsWorld ledger_of t gate w → told ≡ report_text w)
     → (r : Replayed) → string_bytes r.out ≡ text ++ told → string_bytes r.err ≡ [] → r.status ≡ 0
     → (text : List ℕ) × (w : World) × Runs serving (empty []) ls text w × Says (text ++ report_text w) [] 0 r
 lines_said gate p c ls text told t h reports r out err status = (

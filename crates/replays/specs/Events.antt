@@ -22,7 +22,7 @@ use Rattle.world.specs.Connections.{Connection, Peer, Ours, Foreign, wish_of}
 use Rattle.world.specs.World.{World, Event, Opens, Submit, ToServer, ToClient, Work, PutsNoop, Cut, ClientLost, ServerLost, Feeds, Seen, Opened, Submitted, Fed, Gave, SawWork, SawNoop, SawNothing, Refusal, V1, V2, V3}
 use Rattle.wire.specs.Limits.{max_message}
 
--- the version of the requests of a connection: the one that its client wishes, and the newest where it has none
+-- the version of the requests of a connection: the one that its client wishes, and the newest if it has none
 abbrev pub version_of : Option Connection → Version
 version_of None = V51
 version_of (Some k) = wish_version (wish_of k.peer)
@@ -121,12 +121,12 @@ abbrev pub moves : Came → Bool
 moves (Ok seen) = moves_seen seen
 moves (Err refusal) = false
 
--- the code of a request that was submitted: None where it was taken
+-- the code of a request that was submitted: None if it was taken
 abbrev pub submit_code : Result ℕ SubmitFault → Option (List ℕ)
 submit_code (Ok ordinal) = None
 submit_code (Err fault) = refusal_code fault
 
--- the code of bytes at a session: Full, where no place or no ordinal is left
+-- the code of bytes at a session: Full, if no place or no ordinal is left
 abbrev pub fed_code : What → Option (List ℕ)
 fed_code what.Part = None
 fed_code (what.Handshake v) = None
@@ -145,7 +145,7 @@ worked_code worked.Row = None
 worked_code (worked.Wrote ordinal kind state entry) = None
 worked_code (worked.Ended cause) = None
 
--- the code of what is seen of an event, None where nothing is noted
+-- the code of what is seen of an event, None if nothing is noted
 abbrev pub seen_code : Seen → Option (List ℕ)
 seen_code (Opened c) = None
 seen_code (Submitted answer) = submit_code answer
@@ -155,7 +155,7 @@ seen_code (SawWork w) = worked_code w
 seen_code (SawNoop put) = None
 seen_code SawNothing = None
 
--- the code of what an event comes to, None where nothing is noted
+-- the code of what an event comes to, None if nothing is noted
 abbrev pub code_of : Came → Option (List ℕ)
 code_of (Ok seen) = seen_code seen
 code_of (Err V1) = Some (codes "V1")

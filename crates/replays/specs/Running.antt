@@ -4,6 +4,7 @@ use Rattle.std.specs.Str.{bytes_eq}
 use Rattle.std.specs.declared.alloc.AllocError.{AllocError}
 use Rattle.engine.specs.Queries.{fixed_answer}
 use Rattle.engine.specs.Views.{EntryView}
+use Rattle.engine.specs.Welcomes.{under_own_name}
 use Rattle.session.specs.Session.{Setting}
 use Rattle.scripts.specs.Views.{LineView}
 use Rattle.programs.specs.Telling.{refused_line}
@@ -24,7 +25,7 @@ lets_in principal credentials =
 
 -- over a fixed table
 abbrev pub serving : Setting
-serving = record { run = fixed_answer; check = lets_in }
+serving = record { run = fixed_answer; welcome = under_own_name lets_in }
 
 -- an event of a world: a step, or a refusal that leaves all as it was
 abbrev pub Takes : Setting → World → Event → Came → World → Type 0
@@ -87,7 +88,7 @@ abbrev pub LeadsBy : {A E G : Type 0} → (E → List EntryView) → Setting →
 LeadsBy entries S gate brought Way (Ok x) s = Leads entries S gate brought (Way x) s
 LeadsBy entries S gate brought Way (Err e) s = Leads entries S gate brought (λ w. Unit {0}) s
 
--- the code in a step, where one is noted
+-- the code in a step, if one is noted
 abbrev pub code_in : Step → Option (List ℕ)
 code_in s = option_map (λ t. t.now) s.code
 
@@ -95,7 +96,7 @@ code_in s = option_map (λ t. t.now) s.code
 abbrev pub IsStep : Came → Step → Type 0
 IsStep a s = (code_in s ≡ code_of a) × (s.goes_on ≡ moves a)
 
--- the same, where a world answered so
+-- the same, if a world answered so
 abbrev pub Settles : Result SeenTold Refused → Step → Type 0
 Settles (Ok seen) s = IsStep (Ok (seen_of seen)) s
 Settles (Err NoSuchConnection) s = IsStep (Err V1) s
@@ -103,7 +104,7 @@ Settles (Err WrongPeer) s = IsStep (Err V2) s
 Settles (Err SessionsFull) s = IsStep (Err V3) s
 Settles (Err Memory) s = ⊥
 
--- the same of a step that may want memory, where the world did
+-- the same of a step that may want memory, if the world did
 abbrev pub SettlesBy : Result SeenTold Refused → Result Step AllocError → Type 0
 SettlesBy answer (Ok s) = Settles answer s
 SettlesBy answer (Err e) = answer ≡ Err Memory

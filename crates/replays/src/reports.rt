@@ -25,7 +25,7 @@ use world::{Connection, Read, Standing, World};
 /// where the entry has a token. Or want of memory.
 pub fn report<E: Engine, G: Gate>(alloc: Global, world: &World<E, G>) -> Result<String, AllocError>
     ensures { (gate : G) (brought : List EntryView) (w : WorldSeen)
-        → Reached (setting_of E.answer G.accepts gate) brought w
+        → Reached (setting_of E.answer G.welcomes gate) brought w
         → FitsWorld E.entries world.now gate w
         → IfOk result (λ text. string_bytes text ≡ report_text w) }
 {
@@ -50,7 +50,7 @@ fn push_connections<E: Engine, G: Gate>(
     world: &World<E, G>,
 ) -> Result<(), AllocError>
     ensures { (gate : G) (brought : List EntryView) (w : WorldSeen)
-        → Reached (setting_of E.answer G.accepts gate) brought w
+        → Reached (setting_of E.answer G.welcomes gate) brought w
         → FitsWorld E.entries world.now gate w
         → OnOk result (string_bytes text.new ≡ string_bytes text.old ++ connections_text 0 w.conns) }
 {

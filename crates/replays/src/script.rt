@@ -29,13 +29,13 @@ pub struct Replayed {
 
 /// Reads a script to its end, and only then runs it, by a world without connections over an empty `FixedTable` and the gate of
 /// `user` with `pass`. What is noted of its lines is said, and then the report. Of a script with a line that can't be read nothing is
-/// run: `line 3 unreadable` is said on standard error, and on the next line what is expected there, with status 2. Where the source fails,
+/// run: `line 3 unreadable` is said on standard error, and on the next line what is expected there, with status 2. If the source fails,
 /// `fault I1` is, with status 1. Else the status is 0. Or want of memory, of which nothing is said.
 pub fn replay<S: Source>(alloc: Global, source: &mut S) -> Result<Replayed, AllocError>
     ensures says { IfOk result
         (λ r. SaysSource (S.has_failed source.new) (S.left source.old) (S.left source.new) r) }
     ensures status { IfOk result (λ r. r.status ≤ 2) }
-    // What was read is a beginning of what the source held, also where memory is wanting.
+    // What was read is a beginning of what the source held, also if memory is wanting.
     ensures bytes { (front : List ℕ) × Consumes (S.left source.old) (S.left source.new) front }
 {
     match read_all(alloc, source) {

@@ -30,10 +30,10 @@ pub fn run<E: Engine, G: Gate>(
     lines: Vec<Numbered<Line>>,
 ) -> Result<String, AllocError>
     ensures { (gate : G) (brought : List EntryView) (w : WorldSeen)
-        → Reached (setting_of E.answer G.accepts gate) brought w
+        → Reached (setting_of E.answer G.welcomes gate) brought w
         → FitsWorld E.entries world.old gate w
-        → LeadsBy E.entries (setting_of E.answer G.accepts gate) gate brought
-        (λ text. Runs (setting_of E.answer G.accepts gate) w (said_lines lines.items) (string_bytes text)) result world.new }
+        → LeadsBy E.entries (setting_of E.answer G.welcomes gate) gate brought
+        (λ text. Runs (setting_of E.answer G.welcomes gate) w (said_lines lines.items) (string_bytes text)) result world.new }
 {
     let mut text = String::new(alloc);
     for line in lines {
@@ -75,10 +75,10 @@ fn do_line<E: Engine, G: Gate>(
     line: Line,
 ) -> Result<Option<&'static str>, AllocError>
     ensures { (gate : G) (brought : List EntryView) (w : WorldSeen)
-        → Reached (setting_of E.answer G.accepts gate) brought w
+        → Reached (setting_of E.answer G.welcomes gate) brought w
         → FitsWorld E.entries world.old gate w
-        → LeadsBy E.entries (setting_of E.answer G.accepts gate) gate brought
-        (λ code. Does (setting_of E.answer G.accepts gate) w (line_view line) (option_map (λ t. t.now) code)) result world.new }
+        → LeadsBy E.entries (setting_of E.answer G.welcomes gate) gate brought
+        (λ code. Does (setting_of E.answer G.welcomes gate) w (line_view line) (option_map (λ t. t.now) code)) result world.new }
 {
     let version = version_at(world, conn_of(&line));
     let again = repeats(&line);
@@ -89,10 +89,10 @@ fn do_line<E: Engine, G: Gate>(
     once(world, event)
 }
 
-/// The version of the requests of a connection: the one that its client wishes, and the newest where it has none.
+/// The version of the requests of a connection: the one that its client wishes, and the newest if it has none.
 fn version_at<E: Engine, G: Gate>(world: &World<E, G>, conn: u64) -> Version
     ensures { (gate : G) (brought : List EntryView) (w : WorldSeen)
-        → Reached (setting_of E.answer G.accepts gate) brought w
+        → Reached (setting_of E.answer G.welcomes gate) brought w
         → FitsWorld E.entries world.now gate w
         → result ≡ version_at w conn }
 {
@@ -108,7 +108,7 @@ pub(crate) fn connection_at<E: Engine, G: Gate>(
     conn: u64,
 ) -> Option<Connection<'_>>
     ensures { (gate : G) (brought : List EntryView) (w : WorldSeen)
-        → Reached (setting_of E.answer G.accepts gate) brought w
+        → Reached (setting_of E.answer G.welcomes gate) brought w
         → FitsWorld E.entries world.now gate w → Reports w conn result }
 {
     world.report().connection(conn)
@@ -130,10 +130,10 @@ fn once<E: Engine, G: Gate>(
     event: Event,
 ) -> Result<Option<&'static str>, AllocError>
     ensures { (gate : G) (brought : List EntryView) (w : WorldSeen)
-        → Reached (setting_of E.answer G.accepts gate) brought w
+        → Reached (setting_of E.answer G.welcomes gate) brought w
         → FitsWorld E.entries world.old gate w
-        → LeadsBy E.entries (setting_of E.answer G.accepts gate) gate brought
-        (λ code. Once (setting_of E.answer G.accepts gate) w (event_of event) (option_map (λ t. t.now) code)) result world.new }
+        → LeadsBy E.entries (setting_of E.answer G.welcomes gate) gate brought
+        (λ code. Once (setting_of E.answer G.welcomes gate) w (event_of event) (option_map (λ t. t.now) code)) result world.new }
 {
     let done = take_step(world, event)?;
     Ok(done.code)
@@ -145,10 +145,10 @@ fn repeat<E: Engine, G: Gate>(
     event: &Event,
 ) -> Result<Option<&'static str>, AllocError>
     ensures { (gate : G) (brought : List EntryView) (w : WorldSeen)
-        → Reached (setting_of E.answer G.accepts gate) brought w
+        → Reached (setting_of E.answer G.welcomes gate) brought w
         → FitsWorld E.entries world.old gate w
-        → LeadsBy E.entries (setting_of E.answer G.accepts gate) gate brought
-        (λ code. Repeats (setting_of E.answer G.accepts gate) w (event_of event.now) (option_map (λ t. t.now) code)) result world.new }
+        → LeadsBy E.entries (setting_of E.answer G.welcomes gate) gate brought
+        (λ code. Repeats (setting_of E.answer G.welcomes gate) w (event_of event.now) (option_map (λ t. t.now) code)) result world.new }
 {
     for _time in 0..u64::MAX {
         let again = event.clone()?;

@@ -5,9 +5,9 @@ ghost use Rattle.std.specs.Io.KnownBytes.{Consumes, IsAtEnd};
 use std::alloc::Global;
 use streams::{MAX_PIECE, Source, StreamFault};
 
-/// The bytes of a source, to its end. I1 exactly where the source has failed by then; else I3 for want of memory.
+/// The bytes of a source, to its end. I1 exactly if the source has failed by then; else I3 for want of memory.
 pub fn read_all<S: Source>(alloc: Global, source: &mut S) -> Result<Vec<u8>, StreamFault>
-    // What was read is a beginning of the source's bytes; all of them where they are answered.
+    // What was read is a beginning of the source's bytes; all of them if they are answered.
     ensures bytes { (front : List ℕ) × Consumes (S.left source.old) (S.left source.new) front
         × IfOk result (λ v. (v.items ≡ front) × IsAtEnd (S.left source.new)) }
     ensures failed { (result ≡ Err StreamFault.ReadFailed) ↔ (S.has_failed source.new ≡ true) }

@@ -33,10 +33,10 @@ pub(crate) fn take_step<E: Engine, G: Gate>(
     event: Event,
 ) -> Result<Step, AllocError>
     ensures { (gate : G) (brought : List EntryView) (w : WorldSeen)
-        → Reached (setting_of E.answer G.accepts gate) brought w
+        → Reached (setting_of E.answer G.welcomes gate) brought w
         → FitsWorld E.entries world.old gate w
-        → LeadsBy E.entries (setting_of E.answer G.accepts gate) gate brought
-        (λ s. Stepped (setting_of E.answer G.accepts gate) w (event_of event) s) result world.new }
+        → LeadsBy E.entries (setting_of E.answer G.welcomes gate) gate brought
+        (λ s. Stepped (setting_of E.answer G.welcomes gate) w (event_of event) s) result world.new }
 {
     settled(world.step(event))
 }

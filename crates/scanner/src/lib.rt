@@ -1,7 +1,7 @@
 //! Cells without structures, read straight from bytes, in one walk and without a value of them.
 //!
 //! What is promised is promised one way: where a function says yes, the front of the bytes spells the cell, which is good and has no
-//! structure, and what is left is what follows it. Where it says no, nothing is said of why: the way over a value tells that.
+//! structure, and what is left is what follows it. If it says no, nothing is said of why: the way over a value tells that.
 #![tactic(auto)]
 
 mod fault;

@@ -158,8 +158,8 @@ fn list_of(
     Ok((members, rest))
 }
 
-/// A member joins those before it. Integers are put there by this function itself, where there is room: a cell that a call answers is
-/// moved from where it was answered.
+/// A member joins those before it. Integers are put there by this function itself, if there is room: a cell that a call answers is
+/// moved from if it was answered.
 #[cycle(scanner)]
 fn push_member<'a>(
     members: &mut Vec<Cell>,
@@ -182,7 +182,7 @@ fn push_member<'a>(
     push_other(members, alloc, room, bytes)
 }
 
-/// A member of any kind joins those before it. Where this stands in its caller, each member pays for its locals.
+/// A member of any kind joins those before it. If this stands in its caller, each member pays for its locals.
 #[cycle(scanner)]
 #[inline(never)]
 fn push_other<'a>(
@@ -249,7 +249,7 @@ fn dict_of(
     Ok((pairs, rest))
 }
 
-/// A text joins the entries before it; room was made for each entry. Where this stands in its caller, each entry pays for the locals
+/// A text joins the entries before it; room was made for each entry. If this stands in its caller, each entry pays for the locals
 /// of every kind.
 #[inline(never)]
 fn push_text(

@@ -3,7 +3,7 @@ use Rattle.std.specs.Prelude.{◌≡◌, Option, Some, None, Result, Ok, Err}
 use Rattle.scripts.specs.declared.fault.LineFault.{LineFault}
 use Rattle.scripts.specs.declared.fault.LineFault.TheVariants.{Unreadable, Memory}
 
--- the words say nothing where they are unreadable; nothing is known where memory ran out
+-- the words say nothing if they are unreadable; nothing is known if memory ran out
 abbrev pub Refused : {Y : Type 0} → LineFault → Option Y → Type 0
 Refused Unreadable o = o ≡ None
 Refused Memory o = Unit {0}

@@ -14,7 +14,7 @@ login credentials = record {
   credentials = credentials;
 }
 
--- the login of a HELLO, where the version has one there
+-- the login of a HELLO, if the version has one there
 abbrev pub login_at : Version → Option AuthView
 login_at v = if hello_has_login v then Some (login (codes "pass")) else None
 

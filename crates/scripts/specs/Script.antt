@@ -45,7 +45,7 @@ said_lines ls = map (λ l. (l.number, line_view l.said)) ls
 abbrev pub said_requests : List (Numbered ScriptRequest) → List (ℕ × ScriptRequestView)
 said_requests ls = map (λ l. (l.number, script_request_view l.said)) ls
 
--- the number of the first line that can't be read; nothing is known where memory ran out
+-- the number of the first line that can't be read; nothing is known if memory ran out
 abbrev pub IsRefused : {V : Type 0} → (Text → Option V) → List ℕ → ScriptFault → Type 0
 IsRefused read b (Unreadable n) = option_map (λ l. l.0) (unreadable read (filled_lines b)) ≡ Some n
 IsRefused read b Memory = Unit {0}

@@ -39,7 +39,7 @@ number_below limit word =
 abbrev pub number_of : Text → Option ℕ
 number_of word = number_below 18446744073709551616 word
 
--- what follows the minus, where there is one
+-- what follows the minus, if there is one
 abbrev pub without_minus : Text → Text
 without_minus word = if starts_with_minus word then drop 1 word else word
 

@@ -11,7 +11,7 @@ pub fn words_are_joined()
     ensures { (line : AnyText) (ws : List AnyText) → (words_of line ≡ Some ws) ↔ AreWords line ws }
 {}
 
-/// Bytes spell parameters exactly where they spell a dictionary that is a cell at some version, with just these entries.
+/// Bytes spell parameters exactly if they spell a dictionary that is a cell at some version, with just these entries.
 pub fn params_are_cells()
     ensures { (b : List ℕ) (ps : AnyParams) → AreBytes b → (params_of b ≡ Some ps) ↔ IsParams b ps }
 {}

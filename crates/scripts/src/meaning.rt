@@ -11,7 +11,7 @@ use wire::Version;
 
 impl ScriptRequest {
     /// The request at a version: the agent is `t/1`, the scheme `basic`, the user `user` and the credentials `pass`, or
-    /// `bad` for `logon bad`. A HELLO has the login where the version has one there. Or want of memory.
+    /// `bad` for `logon bad`. A HELLO has the login if the version has one there. Or want of memory.
     pub fn into_request(self, alloc: Global, version: Version) -> Result<Request, AllocError>
         ensures { IfOk result (λ r. request_view r ≡ meant version (script_request_view self)) }
     {
@@ -50,7 +50,7 @@ fn hello(alloc: Global, version: Version) -> Result<Request, AllocError>
     Ok(Request::Hello { agent, auth })
 }
 
-/// The login of a HELLO, where the version has one there.
+/// The login of a HELLO, if the version has one there.
 fn login_at(alloc: Global, version: Version) -> Result<Option<Auth>, AllocError>
     ensures { IfOk result (λ a. auth_in a ≡ login_at version) }
 {

@@ -11,7 +11,7 @@ use crate::requests::request_of;
 use crate::words::words_of;
 use std::alloc::Global;
 
-/// A line of a script of a world: its words are parted by one blank each. `Unreadable` where they are no form of a line; or want of memory.
+/// A line of a script of a world: its words are parted by one blank each. `Unreadable` if they are no form of a line; or want of memory.
 pub fn read_line(alloc: Global, line: &[u8]) -> Result<Line, LineFault>
     ensures { Gives line_view result (line_of line.now) }
 {
@@ -19,7 +19,7 @@ pub fn read_line(alloc: Global, line: &[u8]) -> Result<Line, LineFault>
     event_of(alloc, words.as_slice())
 }
 
-/// A line that is a request alone, as a shell's. `Unreadable` where it is none; or want of memory.
+/// A line that is a request alone, as a shell's. `Unreadable` if it is none; or want of memory.
 pub fn read_request(alloc: Global, line: &[u8]) -> Result<ScriptRequest, LineFault>
     ensures { Gives script_request_view result (request_line_of line.now) }
 {

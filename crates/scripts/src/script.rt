@@ -18,7 +18,7 @@ pub struct Numbered<T> {
     pub said: T,
 }
 
-/// The lines of a script of a world, parted by newlines; empty ones are skipped. Where a line can't be read, the number of the first such line;
+/// The lines of a script of a world, parted by newlines; empty ones are skipped. If a line can't be read, the number of the first such line;
 /// or want of memory.
 pub fn read_script(alloc: Global, bytes: &[u8]) -> Result<Vec<Numbered<Line>>, ScriptFault>
     ensures { GivesAll line_of (λ v. said_lines v.items) bytes.now result }
@@ -46,7 +46,7 @@ pub fn read_script(alloc: Global, bytes: &[u8]) -> Result<Vec<Numbered<Line>>, S
     Ok(said)
 }
 
-/// The lines of a script that are requests alone, parted by newlines; empty ones are skipped. Where a line can't be read, the number of the
+/// The lines of a script that are requests alone, parted by newlines; empty ones are skipped. If a line can't be read, the number of the
 /// first such line; or want of memory.
 pub fn read_requests(
     alloc: Global,

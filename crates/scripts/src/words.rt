@@ -63,7 +63,7 @@ pub(crate) fn whole_of(word: &str) -> Option<i64>
     word.parse::<i64>().ok()
 }
 
-/// What follows the minus, where there is one.
+/// What follows the minus, if there is one.
 fn without_minus(word: &[u8]) -> &[u8]
     ensures { result.now ≡ without_minus word.entry.now }
 {

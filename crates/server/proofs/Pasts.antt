@@ -8,7 +8,7 @@ use Rattle.messages.specs.Prelude.{RequestView, request_of, Arrival, Asked, Unre
 use Rattle.messages.specs.declared.fault.MsgFault.{MsgFault}
 use Rattle.messages.proofs.Arriving.{arrives_whole}
 use Rattle.engine.specs.declared.answer.Mode.{Mode as QueryMode}
-use Rattle.engine.specs.Prelude.{WriteView, ParameterView, EntryView, AnswerView, QueryFault}
+use Rattle.engine.specs.Prelude.{WriteView, ParameterView, EntryView, AnswerView, QueryFault, Welcome}
 use Rattle.session.specs.Prelude.{Step, take_kept, work_kept}
 use Rattle.server.specs.declared.kinds.Took.{Took}
 use Rattle.server.specs.Prelude.{Live, Rest, after_step, empty, fed_live, find, fresh, is_full, noop_put, opened, replace, setting, taken_from, with_kept, with_session, without, AreBelow, Event, opens, feeds, works, takes, noops, loses, after_call, after_event, after_events, Asks, Follows, bytes_taken, call_answered, places_of, requests_answered, step_answered, took_by, used_of}
@@ -64,7 +64,7 @@ traced_same r taken more answered later b a h = record {
   none = λ conn l. (b conn ∙ (h.none conn l).0, a conn ∙ (h.none conn l).1);
 }
 
-module _ {G : Type 0} (answer : List EntryView → List WriteView → List ℕ → List ParameterView → QueryMode → Result AnswerView QueryFault) (few : (ledger : List EntryView) (own : List WriteView) (query : List ℕ) (params : List ParameterView) (m : QueryMode) → FewRows (answer ledger own query params m)) (accepts : G → List ℕ → List ℕ → Bool) where
+module _ {G : Type 0} (answer : List EntryView → List WriteView → List ℕ → List ParameterView → QueryMode → Result AnswerView QueryFault) (few : (ledger : List EntryView) (own : List WriteView) (query : List ℕ) (params : List ParameterView) (m : QueryMode) → FewRows (answer ledger own query params m)) (welcomes : G → Welcome) where
   module _ (r : Rest G) (taken : ℕ → List ℕ) (answered : ℕ → List RequestView) (numbers : AreBelow r.next r.sessions) (h : Traced r taken answered) where
     still : (conn : ℕ) (s : Live) (b : List ℕ) (a : List RequestView) → b ≡ [] → a ≡ [] → find conn r.sessions ≡ Some s → Follows (taken conn ++ b) (answered conn ++ a) s
     still conn s b a none_taken none_answered f =
@@ -110,16 +110,16 @@ module _ {G : Type 0} (answer : List EntryView → List WriteView → List ℕ �
         (λ t k. follows_same (taken c) (taken c ++ []) (answered c) (answered c ++ []) _ (append-nil (taken c)) (append-nil (answered c)) (follows (taken c) (answered c) t k))
         (find c r.sessions) refl (sym (if_none (eqb c conn))) (sym (if_none (eqb c conn))) g
 
-    traced_live : (e : Event) (conn : ℕ) (s : Live) → find conn (after_event answer accepts e r).sessions ≡ Some s → Follows (taken conn ++ took_by conn e r) (answered conn ++ call_answered answer accepts conn e r) s
+    traced_live : (e : Event) (conn : ℕ) (s : Live) → find conn (after_event answer welcomes e r).sessions ≡ Some s → Follows (taken conn ++ took_by conn e r) (answered conn ++ call_answered answer welcomes conn e r) s
     traced_live opens conn s f = pushed conn s (is_full r) f
     traced_live (feeds c piece) conn s f =
         let fed : Live → Took × Rest G = λ t. ((fed_live t piece).0, with_session (fed_live t piece).1 r) in
         on_call c conn fed (λ t. (fed_live t piece).1) (λ o. used_of piece (option_map fed o)) (λ o. []) s _ [] refl refl (λ t. refl) (λ t. refl)
         (λ t k. follows_same _ _ (answered c) (answered c ++ []) _ refl (append-nil (answered c)) (follows_feed (taken c) (answered c) t k piece)) (find c r.sessions) refl refl (sym (if_none (eqb c conn))) f
     traced_live (works c) conn s f =
-        let step : Live → Step = λ t. work_kept (setting answer accepts r) t.conn r.ledger t.kept t.kept.ended in
-        on_call c conn (λ t. after_step t (step t) r) (λ t. with_kept t (step t).kept) (λ o. []) (λ o. step_answered answer accepts o r) s [] _ refl refl (λ t. refl) (λ t. refl)
-        (λ t k. follows_same (taken c) (taken c ++ []) _ _ _ (append-nil (taken c)) refl (follows_work (setting answer accepts r) r.ledger (taken c) (answered c) t k)) (find c r.sessions) refl (sym (if_none (eqb c conn))) refl f
+        let step : Live → Step = λ t. work_kept (setting answer welcomes r) t.conn r.ledger t.kept t.kept.ended in
+        on_call c conn (λ t. after_step t (step t) r) (λ t. with_kept t (step t).kept) (λ o. []) (λ o. step_answered answer welcomes o r) s [] _ refl refl (λ t. refl) (λ t. refl)
+        (λ t k. follows_same (taken c) (taken c ++ []) _ _ _ (append-nil (taken c)) refl (follows_work (setting answer welcomes r) r.ledger (taken c) (answered c) t k)) (find c r.sessions) refl (sym (if_none (eqb c conn))) refl f
     traced_live (takes c max) conn s f = kept_call c conn (taken_from max) s (λ t. refl) (λ b a t k. follows_unsent b a t (take_kept max t.kept).unsent k) f
     traced_live (noops c) conn s f = kept_call c conn noop_put s (λ t. refl) follows_noop f
     traced_live (loses c) conn s f = still conn s [] [] refl refl (find_kept r.next c conn r.sessions s numbers f)
@@ -132,10 +132,10 @@ module _ {G : Type 0} (answer : List EntryView → List WriteView → List ℕ �
     next_open true = omega arith
     next_open false = omega arith
 
-    next_grows : (e : Event) → r.next ≤ (after_event answer accepts e r).next
+    next_grows : (e : Event) → r.next ≤ (after_event answer welcomes e r).next
     next_grows opens = next_open (is_full r)
     next_grows (feeds c piece) = let n = next_call (λ t. ((fed_live t piece).0, with_session (fed_live t piece).1 r)) (λ t. refl) (find c r.sessions) in omega (arith, n)
-    next_grows (works c) = let n = next_call (λ t. after_step t (work_kept (setting answer accepts r) t.conn r.ledger t.kept t.kept.ended) r) (λ t. refl) (find c r.sessions) in omega (arith, n)
+    next_grows (works c) = let n = next_call (λ t. after_step t (work_kept (setting answer welcomes r) t.conn r.ledger t.kept t.kept.ended) r) (λ t. refl) (find c r.sessions) in omega (arith, n)
     next_grows (takes c max) = let n = next_call (λ t. ((taken_from max t).0, with_session (taken_from max t).1 r)) (λ t. refl) (find c r.sessions) in omega (arith, n)
     next_grows (noops c) = let n = next_call (λ t. ((noop_put t).0, with_session (noop_put t).1 r)) (λ t. refl) (find c r.sessions) in omega (arith, n)
     next_grows (loses c) = omega arith
@@ -144,36 +144,36 @@ module _ {G : Type 0} (answer : List EntryView → List WriteView → List ℕ �
     if_found : {A : Type 0} (c conn : ℕ) (f : Option Live → List A) → f None ≡ [] → find conn r.sessions ≡ None → cond (eqb c conn) (f (find c r.sessions)) [] ≡ []
     if_found c conn f e none = grind (arith, nat_tests)
 
-    nothing : (e : Event) (conn : ℕ) → find conn r.sessions ≡ None → (took_by conn e r ≡ []) × (call_answered answer accepts conn e r ≡ [])
+    nothing : (e : Event) (conn : ℕ) → find conn r.sessions ≡ None → (took_by conn e r ≡ []) × (call_answered answer welcomes conn e r ≡ [])
     nothing (feeds c piece) conn f = (if_found c conn (λ o. used_of piece (option_map (λ t. ((fed_live t piece).0, with_session (fed_live t piece).1 r)) o)) refl f, refl)
-    nothing (works c) conn f = (refl, if_found c conn (λ o. step_answered answer accepts o r) refl f)
+    nothing (works c) conn f = (refl, if_found c conn (λ o. step_answered answer welcomes o r) refl f)
     nothing _ conn f = (refl, refl)
 
-    traced_event : (e : Event) → Traced (after_event answer accepts e r) (λ n. taken n ++ took_by n e r) (λ n. answered n ++ call_answered answer accepts n e r)
+    traced_event : (e : Event) → Traced (after_event answer welcomes e r) (λ n. taken n ++ took_by n e r) (λ n. answered n ++ call_answered answer welcomes n e r)
     traced_event e = record {
       live = traced_live e;
       none = λ conn l.
           let below : r.next ≤ conn = let g = next_grows e in omega arith in
           let before = h.none conn below in
           let none = nothing e conn (find_below r.next conn r.sessions numbers below) in
-          (ap (λ z. z ++ took_by conn e r) before.0 ∙ none.0, ap (λ z. z ++ call_answered answer accepts conn e r) before.1 ∙ none.1);
+          (ap (λ z. z ++ took_by conn e r) before.0 ∙ none.0, ap (λ z. z ++ call_answered answer welcomes conn e r) before.1 ∙ none.1);
     }
 
   traced_events : (es : List Event) (r : Rest G) (taken : ℕ → List ℕ) (answered : ℕ → List RequestView) → Held r → Traced r taken answered
-      → Traced (after_events answer accepts es r) (λ n. taken n ++ bytes_taken answer accepts n es r) (λ n. answered n ++ requests_answered answer accepts n es r)
+      → Traced (after_events answer welcomes es r) (λ n. taken n ++ bytes_taken answer welcomes n es r) (λ n. answered n ++ requests_answered answer welcomes n es r)
   traced_events [] r taken answered k h = traced_same r taken _ answered _ (λ n. append-nil (taken n)) (λ n. append-nil (answered n)) h
   traced_events (e ∷ es) r taken answered k h =
-      let after = after_event answer accepts e r in
-      traced_same (after_events answer accepts es after) _ _ _ _ (λ n. sym (append_assoc (taken n) (took_by n e r) (bytes_taken answer accepts n es after)))
-      (λ n. sym (append_assoc (answered n) (call_answered answer accepts n e r) (requests_answered answer accepts n es after)))
-      (traced_events es after (λ n. taken n ++ took_by n e r) (λ n. answered n ++ call_answered answer accepts n e r) (held_event answer few accepts e r k) (traced_event r taken answered k.numbers h e))
+      let after = after_event answer welcomes e r in
+      traced_same (after_events answer welcomes es after) _ _ _ _ (λ n. sym (append_assoc (taken n) (took_by n e r) (bytes_taken answer welcomes n es after)))
+      (λ n. sym (append_assoc (answered n) (call_answered answer welcomes n e r) (requests_answered answer welcomes n es after)))
+      (traced_events es after (λ n. taken n ++ took_by n e r) (λ n. answered n ++ call_answered answer welcomes n e r) (held_event answer few welcomes e r k) (traced_event r taken answered k.numbers h e))
 
   -- nothing has come of a server without sessions
   untraced : (ledger : List EntryView) (gate : G) → Traced (empty ledger gate) (λ n. []) (λ n. [])
   untraced ledger gate = record { live = λ conn s f. let bad : None ≡ Some s = f in cc; none = λ conn l. (refl, refl) }
 
-  pub places_follow : (ledger : List EntryView) (gate : G) (events : List Event) (conn : ℕ) (s : Live) → find conn (after_events answer accepts events (empty ledger gate)).sessions ≡ Some s
-      → Follows (bytes_taken answer accepts conn events (empty ledger gate)) (requests_answered answer accepts conn events (empty ledger gate)) s
+  pub places_follow : (ledger : List EntryView) (gate : G) (events : List Event) (conn : ℕ) (s : Live) → find conn (after_events answer welcomes events (empty ledger gate)).sessions ≡ Some s
+      → Follows (bytes_taken answer welcomes conn events (empty ledger gate)) (requests_answered answer welcomes conn events (empty ledger gate)) s
   places_follow ledger gate events conn s f = (traced_events events (empty ledger gate) (λ n. []) (λ n. []) (held_empty ledger gate) (untraced ledger gate)).live conn s f
 
 -- What arrives after an offer takes its places by the grammar of chunks.

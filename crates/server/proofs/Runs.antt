@@ -3,7 +3,7 @@ use Rattle.std.proofs.Common.{◌≡◌, ◌≢◌, ℕ, ◌+◌, ◌^◌, ◌<�
 use Rattle.std.proofs.lemmas.Bool.{or_parts, leb-false}
 use Rattle.std.proofs.lemmas.Bool.Decides.{nat_tests}
 use Rattle.engine.specs.declared.answer.Mode.{Mode as QueryMode}
-use Rattle.engine.specs.Prelude.{WriteView, ParameterView, EntryView, AnswerView, QueryFault}
+use Rattle.engine.specs.Prelude.{WriteView, ParameterView, EntryView, AnswerView, QueryFault, Welcome}
 use Rattle.server.specs.Prelude.{empty, with_sessions, Live, Rest, fresh, find, replace, without, is_full, opened, fed_live, taken_from, noop_put, on_live, with_kept, with_session, after_step, setting, AllBounded, AreBelow, IsKept, after_events, Event, opens, feeds, works, takes, noops, loses, after_call, after_event, conn_of}
 use Rattle.session.specs.Prelude.{commit_entries, work_kept}
 use Rattle.server.proofs.Bounds.{Fine, fine_bounded, FewRows, few_answers, begun_fine, feed_fine, work_fine, taken_fine, noop_fine}
@@ -31,7 +31,7 @@ find_other-push other n [] differ = grind (arith, nat_tests)
 find_other-push other n (s ∷ ss) differ = grind (arith, nat_tests, find_other-push other n ss differ)
 
 -- A call on one session leaves every other as it was.
-module _ {G : Type 0} (answer : List EntryView → List WriteView → List ℕ → List ParameterView → QueryMode → Result AnswerView QueryFault) (accepts : G → List ℕ → List ℕ → Bool) (other : ℕ) where
+module _ {G : Type 0} (answer : List EntryView → List WriteView → List ℕ → List ParameterView → QueryMode → Result AnswerView QueryFault) (welcomes : G → Welcome) (other : ℕ) where
   other_call : {A : Type 0} (r : Rest G) (conn : ℕ) (f : Live → A × Rest G) → ((s : Live) → s.conn ≡ conn → find other (f s).1.sessions ≡ find other r.sessions) → (o : Option Live) → find conn r.sessions ≡ o → find other (after_call (option_map f o) r).sessions ≡ find other r.sessions
   other_call r conn f k None e = refl
   other_call r conn f k (Some s) e = k s (find-conn conn r.sessions s e)
@@ -44,12 +44,12 @@ module _ {G : Type 0} (answer : List EntryView → List WriteView → List ℕ �
   other_open r true differ = refl
   other_open r false differ = find_other-push other r.next r.sessions differ
 
-  pub leaves_others : (e : Event) (r : Rest G) → conn_of e r ≢ other → find other (after_event answer accepts e r).sessions ≡ find other r.sessions
+  pub leaves_others : (e : Event) (r : Rest G) → conn_of e r ≢ other → find other (after_event answer welcomes e r).sessions ≡ find other r.sessions
   leaves_others opens r differ = other_open r (is_full r) differ
   leaves_others (feeds conn piece) r differ = other_live r conn (λ s. fed_live s piece) (λ s. refl) differ
   leaves_others (works conn) r differ =
-      other_call r conn (λ s. after_step s (work_kept (setting answer accepts r) s.conn r.ledger s.kept s.kept.ended) r)
-      (λ s e. let t = with_kept s (work_kept (setting answer accepts r) s.conn r.ledger s.kept s.kept.ended).kept in ap (λ n. find other (replace n t r.sessions)) e ∙ find_other-replace other conn t r.sessions differ e) (find conn r.sessions) refl
+      other_call r conn (λ s. after_step s (work_kept (setting answer welcomes r) s.conn r.ledger s.kept s.kept.ended) r)
+      (λ s e. let t = with_kept s (work_kept (setting answer welcomes r) s.conn r.ledger s.kept s.kept.ended).kept in ap (λ n. find other (replace n t r.sessions)) e ∙ find_other-replace other conn t r.sessions differ e) (find conn r.sessions) refl
   leaves_others (takes conn max) r differ = other_live r conn (taken_from max) (λ s. refl) differ
   leaves_others (noops conn) r differ = other_live r conn noop_put (λ s. refl) differ
   leaves_others (loses conn) r differ = find_other-without other conn r.sessions differ
@@ -145,12 +145,12 @@ module _ {G : Type 0} where
     numbers = push-below r.next r.sessions h.numbers;
   }
 
-module _ {G : Type 0} (answer : List EntryView → List WriteView → List ℕ → List ParameterView → QueryMode → Result AnswerView QueryFault) (few : (ledger : List EntryView) (own : List WriteView) (query : List ℕ) (params : List ParameterView) (m : QueryMode) → FewRows (answer ledger own query params m)) (accepts : G → List ℕ → List ℕ → Bool) where
-  pub held_event : (e : Event) (r : Rest G) → Held r → Held (after_event answer accepts e r)
+module _ {G : Type 0} (answer : List EntryView → List WriteView → List ℕ → List ParameterView → QueryMode → Result AnswerView QueryFault) (few : (ledger : List EntryView) (own : List WriteView) (query : List ℕ) (params : List ParameterView) (m : QueryMode) → FewRows (answer ledger own query params m)) (welcomes : G → Welcome) where
+  pub held_event : (e : Event) (r : Rest G) → Held r → Held (after_event answer welcomes e r)
   held_event opens r h = held_open r (is_full r) refl h
   held_event (feeds conn piece) r h = held_call r conn _ h (λ s b e. held_replace r conn (fed_live s piece).1 r.ledger h (feed_fine s.unfinished piece s.kept b) e) (find conn r.sessions) refl
   held_event (works conn) r h =
-      let S = setting answer accepts r in
+      let S = setting answer welcomes r in
       held_call r conn (λ s. after_step s (work_kept S s.conn r.ledger s.kept s.kept.ended) r) h
       (λ s b e. let d = work_kept S s.conn r.ledger s.kept s.kept.ended in
       held_replace r conn (with_kept s d.kept) (r.ledger ++ commit_entries s.conn s.kept.first d.commit) h (work_fine S (few_answers S few) s.conn r.ledger s.kept s.unfinished s.kept.ended b) e) (find conn r.sessions) refl
@@ -158,11 +158,11 @@ module _ {G : Type 0} (answer : List EntryView → List WriteView → List ℕ �
   held_event (noops conn) r h = held_call r conn _ h (λ s b e. held_replace r conn (noop_put s).1 r.ledger h (noop_fine s.kept s.unfinished b) e) (find conn r.sessions) refl
   held_event (loses conn) r h = held_without r conn h
 
-  held_events : (events : List Event) (r : Rest G) → Held r → Held (after_events answer accepts events r)
+  held_events : (events : List Event) (r : Rest G) → Held r → Held (after_events answer welcomes events r)
   held_events [] r h = h
-  held_events (e ∷ es) r h = held_events es (after_event answer accepts e r) (held_event e r h)
+  held_events (e ∷ es) r h = held_events es (after_event answer welcomes e r) (held_event e r h)
 
-  pub keeps_limits : (ledger : List EntryView) (gate : G) (events : List Event) → IsKept (after_events answer accepts events (empty ledger gate))
+  pub keeps_limits : (ledger : List EntryView) (gate : G) (events : List Event) → IsKept (after_events answer welcomes events (empty ledger gate))
   keeps_limits ledger gate events =
       let h = held_events events (empty ledger gate) (held_empty ledger gate) in
       record { bounded = all_bounded _ h.fine; live = h.live; numbers = h.numbers }

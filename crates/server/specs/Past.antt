@@ -1,5 +1,5 @@
 -- What came of a session's bytes: over a list of calls, the bytes that its feeds took, and the requests that its steps answered.
-use Rattle.std.specs.Prelude.{◌≡◌, ℕ, ◌==◌, if◌then◌else◌, Bool, List, [], ◌∷◌, ◌++◌, length, take, map, Option, Some, None, Result}
+use Rattle.std.specs.Prelude.{◌≡◌, ℕ, ◌==◌, if◌then◌else◌, List, [], ◌∷◌, ◌++◌, length, take, map, Option, Some, None, Result}
 use Rattle.wire.specs.declared.Version.{Version}
 use Rattle.wire.specs.Reader.{state}
 use Rattle.wire.specs.Framing.{at_server}
@@ -10,6 +10,7 @@ use Rattle.messages.specs.View.{RequestView}
 use Rattle.messages.specs.Arrivals.{Arrival, Shook, NoMagic, Asked, Unread, TooLong, arrival_of_offer, arrivals, requests_of}
 use Rattle.engine.specs.declared.answer.Mode.{Mode as QueryMode}
 use Rattle.engine.specs.Views.{WriteView, ParameterView, EntryView, AnswerView, QueryFault}
+use Rattle.engine.specs.Welcomes.{Welcome}
 use Rattle.session.specs.declared.kinds.Cause.{Cause}
 use Rattle.session.specs.declared.kinds.Cause.TheVariants as cause
 use Rattle.server.specs.declared.kinds.Took.{Took}
@@ -33,12 +34,12 @@ took_by conn (feeds c piece) r = if c == conn then used_of piece (feed_at c piec
 took_by conn _ r = []
 
 module _ {G : Type 0} (answer : List EntryView → List WriteView → List ℕ → List ParameterView
-    → QueryMode → Result AnswerView QueryFault) (accepts : G → List ℕ → List ℕ → Bool) where
-  -- the request that a step of the session answers by a summary; none where no session lives
+    → QueryMode → Result AnswerView QueryFault) (welcomes : G → Welcome) where
+  -- the request that a step of the session answers by a summary; none if no session lives
   abbrev pub step_answered : Option Live → Rest G → List RequestView
   step_answered None r = []
   step_answered (Some s) r =
-      answers_by (work_kept (setting answer accepts r) s.conn r.ledger s.kept s.kept.ended).answer
+      answers_by (work_kept (setting answer welcomes r) s.conn r.ledger s.kept s.kept.ended).answer
 
   -- the request of a session that a call answered
   abbrev pub call_answered : ℕ → Event → Rest G → List RequestView
@@ -49,13 +50,13 @@ module _ {G : Type 0} (answer : List EntryView → List WriteView → List ℕ �
   abbrev pub bytes_taken : ℕ → List Event → Rest G → List ℕ
   bytes_taken conn [] r = []
   bytes_taken conn (e ∷ es) r =
-      took_by conn e r ++ bytes_taken conn es (after_event answer accepts e r)
+      took_by conn e r ++ bytes_taken conn es (after_event answer welcomes e r)
 
   -- and the requests that it answered
   abbrev pub requests_answered : ℕ → List Event → Rest G → List RequestView
   requests_answered conn [] r = []
   requests_answered conn (e ∷ es) r =
-      call_answered conn e r ++ requests_answered conn es (after_event answer accepts e r)
+      call_answered conn e r ++ requests_answered conn es (after_event answer welcomes e r)
 
 -- what takes a slot among arrivals: requests, and at last what stands for none
 abbrev pub places_of : List Arrival → List Arrival

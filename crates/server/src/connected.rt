@@ -69,7 +69,7 @@ impl Connected {
         self.session.unsent()
     }
 
-    /// As many bytes of it are gone, or all where no more wait.
+    /// As many bytes of it are gone, or all if no more wait.
     pub(crate) fn sent(&mut self, count: usize)
         ensures { (taken_from count (live_of self.old)).1 ≡ live_of self.new }
     {
@@ -105,7 +105,7 @@ impl Connected {
         gate: &G,
     ) -> Result<Worked, AllocError>
         ensures ok { IfOk result
-            (λ w. stepped (record { run = E.answer; check = G.accepts gate.now }) self.old.conn
+            (λ w. stepped (record { run = E.answer; welcome = G.welcomes gate.now }) self.old.conn
             (record { kept = (live_of self.old).kept; ledger = E.entries engine.old })
             ≡ (w, record { kept = (live_of self.new).kept; ledger = E.entries engine.new })) }
         ensures live { live_of self.new ≡ with_kept (live_of self.old) (live_of self.new).kept }

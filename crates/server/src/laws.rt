@@ -12,20 +12,20 @@ use engine::{Engine, Gate};
 #[tactic(auto, using(crate::proofs::Runs::leaves_others))]
 pub fn leaves_others<E: Engine, G: Gate>()
     ensures { (event : Event) (r : Rest G) (other : ℕ) → conn_of event r ≢ other
-        → find other (after_event E.answer G.accepts event r).sessions ≡ find other r.sessions }
+        → find other (after_event E.answer G.welcomes event r).sessions ≡ find other r.sessions }
 {}
 
 /// Over every list of calls, at most 16 sessions live, each number once, and what each keeps is within its limits: 32 slots, 65,537
 /// bytes of an unfinished item, 131,077 bytes to go, 1,024 writes and 1,024 rows.
 pub fn keeps_limits<E: Engine, G: Gate>()
     ensures { (ledger : List EntryView) (gate : G) (events : List Event)
-        → IsKept (after_events E.answer G.accepts events (empty ledger gate)) }
+        → IsKept (after_events E.answer G.welcomes events (empty ledger gate)) }
 {}
 
 /// The ledger grows by a work step alone, by one entry, that of the first request that waits there, by a row that commits.
 pub fn grows_by_commits<E: Engine, G: Gate>()
     ensures { (event : Event) (r : Rest G)
-        → Grows event r (after_event E.answer G.accepts event r) }
+        → Grows event r (after_event E.answer G.welcomes event r) }
 {}
 
 /// What a session has placed is what its bytes ask: over every list of calls, however the bytes were cut, what it has answered and
@@ -34,9 +34,9 @@ pub fn grows_by_commits<E: Engine, G: Gate>()
 pub fn places_follow_bytes<E: Engine, G: Gate>()
     ensures follows { (ledger : List EntryView) (gate : G) (events : List Event)
         (conn : ℕ) (s : Live)
-        → find conn (after_events E.answer G.accepts events (empty ledger gate)).sessions ≡ Some s
-        → Follows (bytes_taken E.answer G.accepts conn events (empty ledger gate))
-        (requests_answered E.answer G.accepts conn events (empty ledger gate)) s }
+        → find conn (after_events E.answer G.welcomes events (empty ledger gate)).sessions ≡ Some s
+        → Follows (bytes_taken E.answer G.welcomes conn events (empty ledger gate))
+        (requests_answered E.answer G.welcomes conn events (empty ledger gate)) s }
     ensures asks { (bytes : List ℕ) (answered : List RequestView) (s : Live)
         → Follows bytes answered s → Asks bytes answered s }
 {}

@@ -16,8 +16,8 @@ pub use kinds::{Refused, Took};
 pub use server::Server;
 pub use session::{Cause, What, Worked};
 
-/// The most sessions that live: `open` answers N2 where as many do.
+/// The most sessions that live: `open` answers N2 if as many do.
 pub const MAX_SESSIONS: usize = 16;
 
-/// The numbers of connections are below this: `open` answers N2 where none is left.
+/// The numbers of connections are below this: `open` answers N2 if none is left.
 pub const MAX_NUMBERS: u64 = 1 << 63;

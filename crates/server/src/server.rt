@@ -51,7 +51,7 @@ impl<E: Engine, G: Gate> Server<E, G> {
         MAX_SESSIONS <= self.sessions.len() || MAX_NUMBERS <= self.next
     }
 
-    /// Opens a session, and answers its number. Numbers go from 0, each once. N2 where 16 sessions live or no number is left, else N3 for
+    /// Opens a session, and answers its number. Numbers go from 0, each once. N2 if 16 sessions live or no number is left, else N3 for
     /// want of memory; nothing has changed then.
     pub fn open(&mut self) -> Result<u64, Refused>
         ensures { Opens result (rest_of E.entries self.old) (rest_of E.entries self.new) }
@@ -70,8 +70,8 @@ impl<E: Engine, G: Gate> Server<E, G> {
         Ok(conn)
     }
 
-    /// Takes at most one handshake, no-op or message of the piece, else all of it; nothing where the session is closed or full, which is told.
-    /// N1 exactly where no live session has the number; N3 for want of memory; nothing has changed then. Memory is wanted where a handshake
+    /// Takes at most one handshake, no-op or message of the piece, else all of it; nothing if the session is closed or full, which is told.
+    /// N1 exactly if no live session has the number; N3 for want of memory; nothing has changed then. Memory is wanted where a handshake
     /// is answered, where data of the piece is kept, and where a message ends: never for headers and no-ops, and never once the message that
     /// isn't whole is known to be bad.
     pub fn feed(&mut self, conn: u64, piece: &[u8]) -> Result<Took, Refused>
@@ -94,10 +94,10 @@ impl<E: Engine, G: Gate> Server<E, G> {
         Ok(took)
     }
 
-    /// Does one step of a session: nothing, a row, a summary or an end. N1 exactly where no live session has the number; N3 for want of
+    /// Does one step of a session: nothing, a row, a summary or an end. N1 exactly if no live session has the number; N3 for want of
     /// memory; nothing has changed then, nor has the ledger.
     pub fn work(&mut self, conn: u64) -> Result<Worked, Refused>
-        ensures done { IfOk result (λ worked. work_at E.answer G.accepts conn
+        ensures done { IfOk result (λ worked. work_at E.answer G.welcomes conn
             (rest_of E.entries self.old) ≡ Some (worked, rest_of E.entries self.new)) }
         ensures unknown { IsErrOf result Refused.NoSuchConnection
             ↔ (find conn (rest_of E.entries self.old).sessions ≡ None) }
@@ -117,7 +117,7 @@ impl<E: Engine, G: Gate> Server<E, G> {
         Ok(worked)
     }
 
-    /// Takes out the smaller of `max` and what waits to go, in order; where that is none, without memory. N1 exactly where no live session
+    /// Takes out the smaller of `max` and what waits to go, in order; if that is none, without memory. N1 exactly if no live session
     /// has the number; N3 for want of memory; nothing has changed then.
     pub fn take_out(&mut self, conn: u64, max: usize) -> Result<Bytes, Refused>
         ensures done { IfOk result (λ bytes. take_out_at conn max
@@ -139,7 +139,7 @@ impl<E: Engine, G: Gate> Server<E, G> {
         Ok(bytes)
     }
 
-    /// Lends what waits to go at a live session, in order; None where none has the number. Takes no memory.
+    /// Lends what waits to go at a live session, in order; None if none has the number. Takes no memory.
     pub fn unsent(&self, conn: u64) -> Option<&[u8]>
         ensures { option_map (λ bytes. bytes.now) result ≡ unsent_at conn (rest_of E.entries self.now) }
     {
@@ -148,7 +148,7 @@ impl<E: Engine, G: Gate> Server<E, G> {
         Some(session.unsent())
     }
 
-    /// As many bytes of what waits to go at a session are gone, or all where no more wait. Nothing changes where none has the number. Takes no
+    /// As many bytes of what waits to go at a session are gone, or all if no more wait. Nothing changes if none has the number. Takes no
     /// memory.
     pub fn sent(&mut self, conn: u64, count: usize)
         ensures { rest_of E.entries self.new ≡ sent_at conn count (rest_of E.entries self.old) }
@@ -161,7 +161,7 @@ impl<E: Engine, G: Gate> Server<E, G> {
     }
 
     /// Puts a no-op, and answers whether it did: not before a version is chosen, after the end, or while 65,536 bytes or more wait
-    /// to go. N1 exactly where no live session has the number; N3 for want of memory; nothing has changed then.
+    /// to go. N1 exactly if no live session has the number; N3 for want of memory; nothing has changed then.
     pub fn noop(&mut self, conn: u64) -> Result<bool, Refused>
         ensures done { IfOk result (λ put. noop_at conn
             (rest_of E.entries self.old) ≡ Some (put, rest_of E.entries self.new)) }
@@ -182,7 +182,7 @@ impl<E: Engine, G: Gate> Server<E, G> {
         Ok(put)
     }
 
-    /// Gives a session up, and answers the cause of its end; `Lost` where it hadn't ended, None where it doesn't live. Takes no memory.
+    /// Gives a session up, and answers the cause of its end; `Lost` where it hadn't ended, None if it doesn't live. Takes no memory.
     pub fn lost(&mut self, conn: u64) -> Option<Cause>
         ensures { lost_at conn (rest_of E.entries self.old) ≡ (result, rest_of E.entries self.new) }
     {
@@ -195,7 +195,7 @@ impl<E: Engine, G: Gate> Server<E, G> {
         }
     }
 
-    /// The state of a live session; None where none has the number. Takes no memory.
+    /// The state of a live session; None if none has the number. Takes no memory.
     pub fn state(&self, conn: u64) -> Option<State>
         ensures { result ≡ state_at conn (rest_of E.entries self.now) }
     {
@@ -204,7 +204,7 @@ impl<E: Engine, G: Gate> Server<E, G> {
         Some(session.state())
     }
 
-    /// Why a live session has ended; None where it hasn't, or where none has the number. Takes no memory.
+    /// Why a live session has ended; None if it hasn't, or if none has the number. Takes no memory.
     pub fn cause(&self, conn: u64) -> Option<Cause>
         ensures { result ≡ cause_at conn (rest_of E.entries self.now) }
     {

@@ -6,7 +6,7 @@ use Rattle.server.specs.Prelude.{Live, Rest, find, replace, without, with_sessio
 use Rattle.server.specs.Serving.{cause_at, left_by, unsent_at}
 use Rattle.server.proofs.Known.{gone}
 use Rattle.server.proofs.Runs.{find_replaced, find-conn}
-use Rattle.engine.specs.Prelude.{EntryView, WriteView, ParameterView, AnswerView, QueryFault}
+use Rattle.engine.specs.Prelude.{EntryView, WriteView, ParameterView, AnswerView, QueryFault, Welcome}
 use Rattle.wire.specs.Prelude.{Opened, Item, at_server, Took as TookOf, takes, outputs}
 use Rattle.session.specs.Prelude.{Kept, worked_of, work_kept, commit_entries, shut, full, after_item}
 use Rattle.serves.specs.Prelude.{Talk, with_talk, heard_out, without_talk, LeavesOthers, Grows, GrowsOn, LivesOn, Puts, said_by, Feeds, Holds, HoldsPart, StandsOver}
@@ -86,12 +86,12 @@ module _ {G : Type 0} (r : Rest G) (conn : ℕ) (lives : IsSome (find conn r.ses
       (some_first x told new (with_talk r conn v ledger l) model, some_second x told new (with_talk r conn v ledger l) model)
 
   -- a step
-  pub stepped_talk : (answer : List EntryView → List WriteView → List ℕ → List ParameterView → QueryMode → Result AnswerView QueryFault) (accepts : G → List ℕ → List ℕ → Bool) (x : Worked) (new : Rest G) → work_at answer accepts conn W ≡ Some (x, new)
-      → (let d = work_kept (setting answer accepts r) conn ledger k k.ended in (x ≡ worked_of d.answer) × (new ≡ with_talk r conn u (ledger ++ commit_entries conn k.first d.commit) d.kept))
-  stepped_talk answer accepts x new e =
-      let d = work_kept (setting answer accepts r) conn ledger k k.ended in
+  pub stepped_talk : (answer : List EntryView → List WriteView → List ℕ → List ParameterView → QueryMode → Result AnswerView QueryFault) (welcomes : G → Welcome) (x : Worked) (new : Rest G) → work_at answer welcomes conn W ≡ Some (x, new)
+      → (let d = work_kept (setting answer welcomes r) conn ledger k k.ended in (x ≡ worked_of d.answer) × (new ≡ with_talk r conn u (ledger ++ commit_entries conn k.first d.commit) d.kept))
+  stepped_talk answer welcomes x new e =
+      let d = work_kept (setting answer welcomes r) conn ledger k k.ended in
       let after = ledger ++ commit_entries conn k.first d.commit in
-      let model = sym e ∙ ap (option_map (λ (s : Live). after_step s (work_kept (setting answer accepts W) s.conn ledger s.kept s.kept.ended) W)) (talk-found r conn lives u ledger k) ∙ ap (λ z. Some (pair (worked_of d.answer) z)) (seated u after d.kept) in
+      let model = sym e ∙ ap (option_map (λ (s : Live). after_step s (work_kept (setting answer welcomes W) s.conn ledger s.kept s.kept.ended) W)) (talk-found r conn lives u ledger k) ∙ ap (λ z. Some (pair (worked_of d.answer) z)) (seated u after d.kept) in
       (some_first x (worked_of d.answer) new (with_talk r conn u after d.kept) model, some_second x (worked_of d.answer) new (with_talk r conn u after d.kept) model)
 
   -- all that the session has said is out, or a beginning of it
@@ -240,12 +240,12 @@ module _ {G : Type 0} (conn : ℕ) where
       let shape : s ≡ record { conn = conn; kept = s.kept; unfinished = s.unfinished } = ap (λ (n : ℕ). record { conn = n; kept = s.kept; unfinished = s.unfinished }) (keeps (here r conn i g.unfinished ledger g.kept)) in
       record { unfinished = s.unfinished; kept = s.kept; more = g.more; now = (called r conn i g.unfinished ledger g.kept f s.unfinished s.kept shape x new (ap (on_live f conn) (sym g.now) ∙ e)).1 }
 
-  pub grows_worked : (answer : List EntryView → List WriteView → List ℕ → List ParameterView → QueryMode → Result AnswerView QueryFault) (accepts : G → List ℕ → List ℕ → Bool) (old new : Rest G) (x : Worked) → work_at answer accepts conn old ≡ Some (x, new) → GrowsOn conn (λ r. old ≡ r) (λ r. new ≡ r)
-  grows_worked answer accepts old new x e r i g =
+  pub grows_worked : (answer : List EntryView → List WriteView → List ℕ → List ParameterView → QueryMode → Result AnswerView QueryFault) (welcomes : G → Welcome) (old new : Rest G) (x : Worked) → work_at answer welcomes conn old ≡ Some (x, new) → GrowsOn conn (λ r. old ≡ r) (λ r. new ≡ r)
+  grows_worked answer welcomes old new x e r i g =
       let ledger = r.ledger ++ g.more in
-      let d = work_kept (setting answer accepts r) conn ledger g.kept g.kept.ended in
+      let d = work_kept (setting answer welcomes r) conn ledger g.kept g.kept.ended in
       let entries = commit_entries conn g.kept.first d.commit in
-      let w = (stepped_talk r conn i g.unfinished ledger g.kept answer accepts x new (ap (work_at answer accepts conn) (sym g.now) ∙ e)).1 in
+      let w = (stepped_talk r conn i g.unfinished ledger g.kept answer welcomes x new (ap (work_at answer welcomes conn) (sym g.now) ∙ e)).1 in
       record { unfinished = g.unfinished; kept = d.kept; more = g.more ++ entries; now = w ∙ ap (λ (l : List EntryView). with_talk r conn g.unfinished l d.kept) (append_assoc r.ledger g.more entries) }
 
   -- and then it is given up

@@ -5,7 +5,7 @@ use Rattle.messages.specs.Prelude.{RequestView, Arrival, Asked, Unread, TooLong,
 use Rattle.messages.specs.Arrivals as arrival
 use Rattle.machine.specs.declared.states.State.{State}
 use Rattle.machine.specs.Prelude.{kind_of, is_reset, interruptible}
-use Rattle.engine.specs.Prelude.{EntryView, WriteView, ParameterView, AnswerView, QueryFault}
+use Rattle.engine.specs.Prelude.{EntryView, WriteView, ParameterView, AnswerView, QueryFault, Welcome}
 use Rattle.session.specs.declared.kinds.Cause.{Cause}
 use Rattle.session.specs.Prelude.{Setting, Open, no_result, Tx, Reply, OneRow, Summary, Bye, no_tx, serve, Kept, rests, ends, turns, serves, reset_among, Done, Idle, Full, WroteRow, Wrote, Ended, Step, work_kept, replies, after_interrupt, after_item, version_of, commit_entries, worked_of}
 use Rattle.session.proofs.Served.{Served, writes_row, serving}
@@ -271,10 +271,10 @@ holds_part {u = u} {t = t} h = record {
 pub holds_same : {G : Type 0} {r : Rest G} {conn : ℕ} {u : Opened} {t : Talk} {before taken : Option (List ℕ)} {old new : Rest G} → new ≡ old → Holds r conn u t (λ x. old ≡ x) before taken → Holds r conn u t (λ x. new ≡ x) before taken
 holds_same e h = record { gone = h.gone; held = h.held; parts = h.parts; took = h.took; now = e ∙ h.now }
 
-module _ {G : Type 0} {r : Rest G} {conn : ℕ} (i : IsSome (find conn r.sessions)) {u : Opened} (answer : List EntryView → List WriteView → List ℕ → List ParameterView → QueryMode → Result AnswerView QueryFault) (accepts : G → List ℕ → List ℕ → Bool) {t : Talk} {before taken : Option (List ℕ)} {old : Rest G}
-    (g : GoesOn r conn u t (setting answer accepts r) (λ x. old ≡ x) before taken) (new : Rest G) where
+module _ {G : Type 0} {r : Rest G} {conn : ℕ} (i : IsSome (find conn r.sessions)) {u : Opened} (answer : List EntryView → List WriteView → List ℕ → List ParameterView → QueryMode → Result AnswerView QueryFault) (welcomes : G → Welcome) {t : Talk} {before taken : Option (List ℕ)} {old : Rest G}
+    (g : GoesOn r conn u t (setting answer welcomes r) (λ x. old ≡ x) before taken) (new : Rest G) where
   abbrev S : Setting
-  S = setting answer accepts r
+  S = setting answer welcomes r
 
   abbrev k : Kept
   k = g.so_far.kept
@@ -358,7 +358,7 @@ module _ {G : Type 0} {r : Rest G} {conn : ℕ} (i : IsSome (find conn r.session
   by_open None e n = by_room e (nat_le 65536 (length held)) n
 
   -- a step of so many at most
-  pub goes_by : (next : Next) → Works (work_at answer accepts conn) old new (Ok next) → Follows next
+  pub goes_by : (next : Next) → Works (work_at answer welcomes conn) old new (Ok next) → Follows next
   goes_by next h =
-      let w = stepped_talk r conn i u ledger K answer accepts h.0 new (ap (work_at answer accepts conn) (sym g.holds.now) ∙ h.1) in
+      let w = stepped_talk r conn i u ledger K answer welcomes h.0 new (ap (work_at answer welcomes conn) (sym g.holds.now) ∙ h.1) in
       subst Follows (sym (h.2 ∙ ap next_of w.0)) (by_open k.ended refl w.1)

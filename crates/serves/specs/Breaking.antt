@@ -1,4 +1,4 @@
--- How far a conversation has come where it is broken off.
+-- How far a conversation has come if it is broken off.
 use Rattle.std.specs.Prelude.{◌≡◌, ℕ, List, ◌∷◌, ◌++◌, Option, Some, None}
 use Rattle.messages.specs.Arrivals.{Arrival, arrivals}
 use Rattle.engine.specs.Views.{EntryView}

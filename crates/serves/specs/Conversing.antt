@@ -26,7 +26,7 @@ after_bytes front t = record { out = front ++ t.out; ledger = t.ledger; kept = t
 abbrev pub heard_out : Kept → Kept
 heard_out k = record k { unsent = [] }
 
--- What a step makes, and what follows it: nothing where it is idle or finds no room, or the session has ended.
+-- What a step makes, and what follows it: nothing if it is idle or finds no room, or the session has ended.
 abbrev pub step_then : ℕ → ℕ → List EntryView → Step → Done → (List EntryView → Kept → Talk) → Talk
 step_then c first ledger d (WroteRow row) more =
     after_bytes d.kept.unsent (more (ledger ++ commit_entries c first d.commit) (heard_out d.kept))

@@ -1,7 +1,8 @@
 -- How a session stands after a conversation.
-use Rattle.std.specs.Prelude.{ℕ, List, Bool, Option, Some, None, Result}
+use Rattle.std.specs.Prelude.{ℕ, List, Option, Some, None, Result}
 use Rattle.engine.specs.declared.answer.Mode.{Mode as QueryMode}
 use Rattle.engine.specs.Views.{WriteView, ParameterView, EntryView, AnswerView, QueryFault}
+use Rattle.engine.specs.Welcomes.{Welcome}
 use Rattle.machine.specs.declared.states.State.{State}
 use Rattle.session.specs.declared.kinds.Cause.{Cause}
 use Rattle.session.specs.Session.{Setting}
@@ -9,7 +10,7 @@ use Rattle.session.specs.Rest.{Kept}
 use Rattle.serves.specs.declared.response.End.{End}
 use Rattle.serves.specs.declared.response.End.TheVariants.{Live, Over}
 
--- how a session stands: over by this cause, or live in this state where there is none
+-- how a session stands: over by this cause, or live in this state if there is none
 abbrev pub end_by : Option Cause → State → End
 end_by None state = Live state
 end_by (Some cause) state = Over cause
@@ -18,7 +19,7 @@ end_by (Some cause) state = Over cause
 abbrev pub end_of : Kept → End
 end_of k = end_by k.ended k.state
 
--- what an engine answers and whom a gate lets in
+-- what an engine answers and what a gate welcomes
 abbrev pub setting_of : (List EntryView → List WriteView → List ℕ → List ParameterView → QueryMode
-    → Result AnswerView QueryFault) → (List ℕ → List ℕ → Bool) → Setting
-setting_of run check = record { run = run; check = check }
+    → Result AnswerView QueryFault) → Welcome → Setting
+setting_of run welcome = record { run = run; welcome = welcome }

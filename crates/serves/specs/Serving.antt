@@ -44,7 +44,7 @@ module _ {G : Type 0} (r : Rest G) (conn : ℕ) (S : Setting) where
       pub now : Now (with_talk r conn unfinished (talk_for read).ledger (talk_for read).kept)
       pub took : Appends old new (talk_for read).out
 
-    -- A fault came: the session's conversation for the bytes that were read was broken off. Where the source failed, all that they make due
+    -- A fault came: the session's conversation for the bytes that were read was broken off. If the source failed, all that they make due
     -- was done and put out.
     pub record ConversesFront (fault : StreamFault) : Type 0 where
       pub read : List ℕ
@@ -68,7 +68,7 @@ module _ {G : Type 0} (r : Rest G) (conn : ℕ) (S : Setting) where
       pub now : Now (without_talk r conn (talk_for read).ledger)
       pub took : Appends old new (talk_for read).out
 
-    -- A fault came: the conversation for the bytes that were read was broken off, and the session lives no more. Where the source failed, all
+    -- A fault came: the conversation for the bytes that were read was broken off, and the session lives no more. If the source failed, all
     -- that they make due was done and put out.
     pub record ServesFront (fault : StreamFault) : Type 0 where
       pub read : List ℕ

@@ -27,7 +27,7 @@ use Rattle.serves.specs.declared.liveness.Liveness.TheVariants.{Open, Over}
 use Rattle.serves.specs.Conversing.{Talk, silent, steps, steps_due, talk_of_due, unless_ended, talk_then, with_talk}
 use Rattle.serves.specs.Breaking.{BreaksAt, BreaksOff, ComesTo}
 
--- a stream is told to have failed only where it has
+-- a stream is told to have failed only if it has
 abbrev pub IsDueTo : StreamFault → Bool → Bool → Type 0
 IsDueTo ReadFailed input output = input ≡ true
 IsDueTo WriteFailed input output = output ≡ true

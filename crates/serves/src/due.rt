@@ -24,7 +24,7 @@ enum Next {
 }
 
 /// Writes all that waits to go of a session, where it lies, and then lets it go. I2 where the sink fails, with a beginning of it written; I3
-/// where no session has the number, and then nothing has changed. Takes no memory of its own.
+/// if no session has the number, and then nothing has changed. Takes no memory of its own.
 pub(crate) fn put_out<E: Engine, G: Gate, O: Sink>(
     server: &mut Server<E, G>,
     conn: u64,
@@ -53,7 +53,7 @@ pub(crate) fn put_out<E: Engine, G: Gate, O: Sink>(
 /// A bound on steps by which the loop ends for the prover. It is never reached.
 const MOST_STEPS: u64 = u64::MAX;
 
-/// Works until nothing is due. What the session says waits there, and is written only where so much waits that no step is done.
+/// Works until nothing is due. What the session says waits there, and is written only if so much waits that no step is done.
 pub(crate) fn settle<E: Engine, G: Gate, O: Sink>(
     server: &mut Server<E, G>,
     conn: u64,
@@ -63,7 +63,7 @@ pub(crate) fn settle<E: Engine, G: Gate, O: Sink>(
     ensures settles { (r : Rest G) (u : Opened) (t : Talk) (before : Option (List ℕ))
         → IsSome (find conn r.sessions) → t.kept.unsent ≡ [] → IsPlaced t.kept.waiting
         → Holds r conn u t (Fits E.entries server.old) before (O.taken sink.old)
-        → Settles r conn u t (setting E.answer G.accepts r) (Fits E.entries server.new) before
+        → Settles r conn u t (setting E.answer G.welcomes r) (Fits E.entries server.new) before
         (O.taken sink.new) result }
     ensures failed { IfErr result (λ e. IsDueTo e false (O.has_failed sink.new)) }
 {
@@ -77,7 +77,7 @@ pub(crate) fn settle<E: Engine, G: Gate, O: Sink>(
     Err(StreamFault::Memory)
 }
 
-/// Works a step, or makes room for it by writing what waits to go; or answers how the session stands where nothing is due.
+/// Works a step, or makes room for it by writing what waits to go; or answers how the session stands if nothing is due.
 fn work_once<E: Engine, G: Gate, O: Sink>(
     server: &mut Server<E, G>,
     conn: u64,
@@ -86,9 +86,9 @@ fn work_once<E: Engine, G: Gate, O: Sink>(
     ensures grows { GrowsOn conn (Fits E.entries server.old) (Fits E.entries server.new) }
     ensures steps { (r : Rest G) (u : Opened) (t : Talk) (before : Option (List ℕ))
         → IsSome (find conn r.sessions)
-        → GoesOn r conn u t (setting E.answer G.accepts r) (Fits E.entries server.old) before
+        → GoesOn r conn u t (setting E.answer G.welcomes r) (Fits E.entries server.old) before
         (O.taken sink.old)
-        → Steps r conn u t (setting E.answer G.accepts r) (Fits E.entries server.new) before
+        → Steps r conn u t (setting E.answer G.welcomes r) (Fits E.entries server.new) before
         (O.taken sink.new) result }
     ensures failed { IfErr result (λ e. IsDueTo e false (O.has_failed sink.new)) }
 {
@@ -106,7 +106,7 @@ fn work_once<E: Engine, G: Gate, O: Sink>(
 /// Works a step. I3 for want of memory, and then nothing has changed.
 fn work_step<E: Engine, G: Gate>(server: &mut Server<E, G>, conn: u64) -> Result<Next, StreamFault>
     ensures grows { GrowsOn conn (Fits E.entries server.old) (Fits E.entries server.new) }
-    ensures works { Works (work_at E.answer G.accepts conn) (rest_of E.entries server.old)
+    ensures works { Works (work_at E.answer G.welcomes conn) (rest_of E.entries server.old)
         (rest_of E.entries server.new) result }
     ensures memory { IfErr result (λ e. e ≡ StreamFault.Memory) }
 {

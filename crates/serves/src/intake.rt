@@ -21,8 +21,8 @@ struct Taken {
 }
 
 /// Takes a piece, item by item, up to the end of a session that lives, works what it makes due, and writes what the session says: all of it at
-/// once, or before that where 65,536 bytes or more wait to go. It answers whether the session goes on. I2 where the sink fails, with a beginning
-/// written; I3 for want of memory or where no ordinal is left.
+/// once, or before that where 65,536 bytes or more wait to go. It answers whether the session goes on. I2 if the sink fails, with a beginning
+/// written; I3 for want of memory or if no ordinal is left.
 pub fn take_piece<E: Engine, G: Gate, O: Sink>(
     server: &mut Server<E, G>,
     conn: u64,
@@ -34,10 +34,10 @@ pub fn take_piece<E: Engine, G: Gate, O: Sink>(
     ensures grows { LivesOn conn (Fits E.entries server.old) (Fits E.entries server.new) }
     ensures takes { (r : Rest G) (before : Option (List ℕ)) (up : List ℕ)
         → IsSome (find conn r.sessions)
-        → (told_by r conn (setting E.answer G.accepts r) up).kept.ended ≡ None
-        → Stands r conn (setting E.answer G.accepts r) (Fits E.entries server.old) before
+        → (told_by r conn (setting E.answer G.welcomes r) up).kept.ended ≡ None
+        → Stands r conn (setting E.answer G.welcomes r) (Fits E.entries server.old) before
         (O.taken sink.old) up
-        → TakesPiece r conn (setting E.answer G.accepts r) (Fits E.entries server.new) before
+        → TakesPiece r conn (setting E.answer G.welcomes r) (Fits E.entries server.new) before
         (O.taken sink.new) up piece.now result }
     ensures failed { IfErr result (λ e. IsDueTo e false (O.has_failed sink.new)) }
 {
@@ -73,10 +73,10 @@ fn take_items<E: Engine, G: Gate, O: Sink>(
     ensures grows { GrowsOn conn (Fits E.entries server.old) (Fits E.entries server.new) }
     ensures takes { (r : Rest G) (before : Option (List ℕ)) (up : List ℕ)
         → IsSome (find conn r.sessions)
-        → (told_by r conn (setting E.answer G.accepts r) up).kept.ended ≡ None
-        → HoldsAfter r conn (setting E.answer G.accepts r) (Fits E.entries server.old) before
+        → (told_by r conn (setting E.answer G.welcomes r) up).kept.ended ≡ None
+        → HoldsAfter r conn (setting E.answer G.welcomes r) (Fits E.entries server.old) before
         (O.taken sink.old) up
-        → TakesItems r conn (setting E.answer G.accepts r) (Fits E.entries server.new) before
+        → TakesItems r conn (setting E.answer G.welcomes r) (Fits E.entries server.new) before
         (O.taken sink.new) up piece.now result }
     ensures failed { IfErr result (λ e. IsDueTo e false (O.has_failed sink.new)) }
 {
@@ -107,10 +107,10 @@ fn take_one<E: Engine, G: Gate, O: Sink>(
     ensures bound { IfOk result (λ taken. (0 < taken.used) × (taken.used ≤ length piece.now)) }
     ensures takes { (r : Rest G) (before : Option (List ℕ)) (up : List ℕ)
         → IsSome (find conn r.sessions)
-        → (told_by r conn (setting E.answer G.accepts r) up).kept.ended ≡ None
-        → HoldsAfter r conn (setting E.answer G.accepts r) (Fits E.entries server.old) before
+        → (told_by r conn (setting E.answer G.welcomes r) up).kept.ended ≡ None
+        → HoldsAfter r conn (setting E.answer G.welcomes r) (Fits E.entries server.old) before
         (O.taken sink.old) up
-        → TakesOne r conn (setting E.answer G.accepts r) (Fits E.entries server.new) before
+        → TakesOne r conn (setting E.answer G.welcomes r) (Fits E.entries server.new) before
         (O.taken sink.new) up piece.now result }
     ensures failed { IfErr result (λ e. IsDueTo e false (O.has_failed sink.new)) }
 {
@@ -142,7 +142,7 @@ fn liveness_after(what: What) -> Option<Liveness>
     }
 }
 
-/// Feeds one item at most of a piece, and answers how many bytes were used, and what ended with them. None are used where no ordinal is left:
+/// Feeds one item at most of a piece, and answers how many bytes were used, and what ended with them. None are used if no ordinal is left:
 /// that is I3, as is want of memory.
 fn feed_one<E: Engine, G: Gate>(
     server: &mut Server<E, G>,

@@ -37,10 +37,10 @@ pub fn respond<E: Engine + Drop, G: Gate + Drop>(
     bytes: &[u8],
 ) -> Result<Responded, AllocError>
     ensures out { IfOk result
-        (λ a. a.out.items ≡ (conversation (setting_of E.answer (G.accepts gate)) 0
+        (λ a. a.out.items ≡ (conversation (setting_of E.answer (G.welcomes gate)) 0
         (E.entries engine) bytes.now).out) }
     ensures last { IfOk result
-        (λ a. a.last ≡ end_of (conversation (setting_of E.answer (G.accepts gate)) 0
+        (λ a. a.last ≡ end_of (conversation (setting_of E.answer (G.welcomes gate)) 0
         (E.entries engine) bytes.now).kept) }
 {
     let mut server = Server::new(alloc, engine, gate);

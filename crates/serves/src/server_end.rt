@@ -20,7 +20,7 @@ use streams::{MAX_PIECE, PeerSource, Sink, StreamFault};
 ///
 /// It reads only while the session goes on and nothing is due any more: what the bytes so far make due was put out by then, all of it.
 ///
-/// I1 where the source fails; I2 where the sink does, with a beginning of what is due written; I3 for want of memory or where no ordinal is
+/// I1 if the source fails; I2 if the sink does, with a beginning of what is due written; I3 for want of memory or if no ordinal is
 /// left. The session is given up then too. What was written is of work that was done: an answer to a commit only where the commit stands.
 pub fn serve_one<E: Engine, G: Gate, I: PeerSource, O: Sink>(
     alloc: Global,
@@ -34,19 +34,19 @@ pub fn serve_one<E: Engine, G: Gate, I: PeerSource, O: Sink>(
     // all that they make due, for at most 4,096 bytes. No other read is made.
     requires turns { LetsRead I.may_read (λ s taken. (r : Rest G) → Fits E.entries server.old r
         → find conn r.sessions ≡ Some (fresh conn)
-        → IsTurn r conn (setting E.answer G.accepts r) (I.left source.old) (I.left s)
+        → IsTurn r conn (setting E.answer G.welcomes r) (I.left source.old) (I.left s)
         (O.taken sink.old) taken) }
     // Of a fresh session, some bytes were read: the sink took what the conversation puts out for them, the ledger is as it leaves it, the
     // cause is that of its end, and with that or the input the reading ended; at a fault the conversation was broken off at some moment of it:
     // the sink took a beginning of what was put out by then, and the ledger is the one of then. The session lives no more.
     ensures serves { (r : Rest G) → Fits E.entries server.old r
         → find conn r.sessions ≡ Some (fresh conn)
-        → Serves r conn (setting E.answer G.accepts r) (Fits E.entries server.new) (I.left source.old)
+        → Serves r conn (setting E.answer G.welcomes r) (Fits E.entries server.new) (I.left source.old)
         (I.left source.new) (O.taken sink.old) (O.taken sink.new) result }
     // Of any session that lived: it lives no more, the others are as before, and the ledger has at most grown.
     ensures leaves { (r : Rest G) → Fits E.entries server.old r → IsSome (find conn r.sessions)
         → LeavesOthers r conn (Fits E.entries server.new) }
-    // A stream is told to have failed only where it has.
+    // A stream is told to have failed only if it has.
     ensures failed { IfErr result
         (λ e. IsDueTo e (I.has_failed source.new) (O.has_failed sink.new)) }
 {
@@ -69,13 +69,13 @@ pub fn converse<E: Engine, G: Gate, I: PeerSource, O: Sink>(
     requires live { IsLive E.entries conn server.old }
     requires turns { LetsRead I.may_read (λ s taken. (r : Rest G) → Fits E.entries server.old r
         → find conn r.sessions ≡ Some (fresh conn)
-        → IsTurn r conn (setting E.answer G.accepts r) (I.left source.old) (I.left s)
+        → IsTurn r conn (setting E.answer G.welcomes r) (I.left source.old) (I.left s)
         (O.taken sink.old) taken) }
     ensures live { IsLive E.entries conn server.new }
     ensures grows { LivesOn conn (Fits E.entries server.old) (Fits E.entries server.new) }
     ensures converses { (r : Rest G) → Fits E.entries server.old r
         → find conn r.sessions ≡ Some (fresh conn)
-        → Converses r conn (setting E.answer G.accepts r) (Fits E.entries server.new)
+        → Converses r conn (setting E.answer G.welcomes r) (Fits E.entries server.new)
         (I.left source.old) (I.left source.new) (O.taken sink.old) (O.taken sink.new) result }
     ensures failed { IfErr result
         (λ e. IsDueTo e (I.has_failed source.new) (O.has_failed sink.new)) }
@@ -99,13 +99,13 @@ fn converse_by<E: Engine, G: Gate, I: PeerSource, O: Sink>(
     requires few { length buffer.old ≤ max_piece }
     requires turns { LetsRead I.may_read (λ s taken. (r : Rest G) → Fits E.entries server.old r
         → find conn r.sessions ≡ Some (fresh conn)
-        → IsTurn r conn (setting E.answer G.accepts r) (I.left source.old) (I.left s)
+        → IsTurn r conn (setting E.answer G.welcomes r) (I.left source.old) (I.left s)
         (O.taken sink.old) taken) }
     ensures live { IsLive E.entries conn server.new }
     ensures grows { LivesOn conn (Fits E.entries server.old) (Fits E.entries server.new) }
     ensures converses { (r : Rest G) → Fits E.entries server.old r
         → find conn r.sessions ≡ Some (fresh conn)
-        → Converses r conn (setting E.answer G.accepts r) (Fits E.entries server.new)
+        → Converses r conn (setting E.answer G.welcomes r) (Fits E.entries server.new)
         (I.left source.old) (I.left source.new) (O.taken sink.old) (O.taken sink.new) result }
     ensures failed { IfErr result
         (λ e. IsDueTo e (I.has_failed source.new) (O.has_failed sink.new)) }

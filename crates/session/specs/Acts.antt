@@ -46,7 +46,7 @@ use Rattle.engine.specs.Limits.{ledger_bound}
 
 -- a summary, as the definitions of messages have it
 abbrev pub summary_of : Summary → messages.Summary
-summary_of (summary.Greeting conn) = messages.Greeting conn
+summary_of (summary.Greeting agent conn) = messages.Greeting agent.name.now conn
 summary_of summary.RowsLeft = messages.RowsLeft
 summary_of (summary.Closing len mode) = messages.Closing len mode
 summary_of (summary.Committed len) = messages.Committed len
@@ -86,7 +86,7 @@ pub record IsRefused (v : Version) (m : ResponseView) (f : Fault) : Type 0 where
   pub misfit : fits v m ≡ false
   pub why : unwritable (response_spelling v m) ≡ f
 
--- the same, where it isn't for want of memory
+-- the same, if it isn't for want of memory
 abbrev pub Refuses : Version → ResponseView → Unwritten → Type 0
 Refuses v m unwritten.Memory = Unit {0}
 Refuses v m (unwritten.Because f) = IsRefused v m f
@@ -103,7 +103,7 @@ left_tx (after.Rest n) tx = tx
 left_tx after.Transaction tx = tx
 left_tx _ tx = no_tx
 
--- what a summary adds to the ledger, where it does: the change of the result or of the transaction open before
+-- what a summary adds to the ledger, if it does: the change of the result or of the transaction open before
 abbrev pub left_entry : After → Open → Tx → Option Change
 left_entry after.CommitsResult left tx = Some (change_alone left)
 left_entry after.CommitsTransaction left tx = Some (change_inside tx)
@@ -126,7 +126,7 @@ streams State.Streaming = true
 streams State.TxStreaming = true
 streams _ = false
 
--- a row is owed to a PULL whose count isn't used up, where one is left
+-- a row is owed to a PULL whose count isn't used up, if one is left
 abbrev pub owes_row : State → Open → RequestView → Bool
 owes_row s left (RequestView.Pull n) =
     streams s && (not (used_up n left.written) && not (length left.rows == 0))
@@ -151,13 +151,13 @@ abbrev pub token_of_run : RequestView → Token
 token_of_run (RequestView.Run query params mode token) = token
 token_of_run q = None
 
--- the first of these rows, or the FAILURE where it can't be written
+-- the first of these rows, or the FAILURE if it can't be written
 abbrev pub row_reply : Version → List (List Tree) → Open → Reply
 row_reply v [] left = Reply.Bye
 row_reply v (r ∷ rs) left = if_fits v (ResponseView.Record r)
     (Reply.OneRow r (record left { rows = rs; written = suc left.written }))
 
--- what a reply adds to the ledger, where it does
+-- what a reply adds to the ledger, if it does
 abbrev pub entry_in : Reply → Option Change
 entry_in (Reply.Summary d m left tx entry) = entry
 entry_in _ = None
@@ -194,7 +194,7 @@ turn_of_one (waiting.Asked request) = turn.Serves
 turn_of_one (waiting.Unread e) = turn.Ends cause.Malformed
 turn_of_one waiting.TooLong = turn.Ends cause.TooBig
 
--- the same of the first that waits, where there is one
+-- the same of the first that waits, if there is one
 abbrev pub turn_by : Option Waiting → Turn
 turn_by None = turn.Nothing
 turn_by (Some w) = turn_of_one w
@@ -223,11 +223,11 @@ SendsRow old new = (row : List Tree) (rest : List (List Tree)) → old.result.ro
     → (IsPut (version_of old) (ResponseView.Record row) old.unsent new.unsent)
     × (new ≡ record old { result = one_less old.result; unsent = new.unsent })
 
--- the ledger's length after it, where it commits
+-- the ledger's length after it, if it commits
 abbrev pub length_after : List EntryView → Option Change → Option ℕ
 length_after ledger entry = option_map (λ _. length ledger + 1) entry
 
--- a ledger may have this length, where there is one
+-- a ledger may have this length, if there is one
 abbrev pub IsBelow : Option ℕ → Type 0
 IsBelow None = Unit {0}
 IsBelow (Some n) = n < ledger_bound

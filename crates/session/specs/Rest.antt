@@ -83,7 +83,7 @@ commit_entries conn ordinal None = []
 commit_entries conn ordinal (Some change) =
     record { conn = conn; ordinal = ordinal; writes = change.writes; token = change.token } ∷ []
 
--- the version that was taken, and V51 where none was
+-- the version that was taken, and V51 if none was
 abbrev pub version_of : Kept → Version
 version_of s = unwrap_or s.version V51
 
@@ -91,7 +91,7 @@ version_of s = unwrap_or s.version V51
 abbrev pub after_interrupt : Kept → Kept
 after_interrupt s = record s { state = State.Interrupted; result = no_result; tx = no_tx }
 
--- where there is a RESET, it interrupts in the states in which it may
+-- if there is a RESET, it interrupts in the states in which it may
 abbrev pub interrupts : Bool → Kept → Kept
 interrupts b s = if b && interruptible s.state then after_interrupt s else s
 
@@ -231,7 +231,7 @@ after_item s (Some (Asked q)) =
 after_item s (Some (Unread e)) = record s { waiting = s.waiting ++ Unread e ∷ [] }
 after_item s (Some TooLong) = record s { waiting = s.waiting ++ TooLong ∷ [] }
 
--- what `feed` tells of what arrived; nothing arrived where no item is whole
+-- what `feed` tells of what arrived; nothing arrived if no item is whole
 abbrev pub what_of : Option Arrival → What
 what_of None = What.Part
 what_of (Some (Shook v)) = What.Handshake v

@@ -22,17 +22,18 @@ use Rattle.engine.specs.declared.answer.Mode.{Mode as QueryMode}
 use Rattle.engine.specs.declared.answer.Mode.TheVariants as query
 use Rattle.engine.specs.Views.{WriteView, ParameterView, Token, EntryView, AnswerView, QueryFault}
 use Rattle.engine.specs.Tokens.{Found, Free, There, Other, found_in}
+use Rattle.engine.specs.Welcomes.{Welcome}
 use Rattle.session.specs.declared.fault.Fault.{Fault}
 use Rattle.session.specs.declared.fault.Fault.TheVariants as fault
 use Rattle.session.specs.Faults.{failure, of_query, of_writer}
 use Rattle.session.specs.Said.{fits}
 use Rattle.session.specs.Limits.{max_writes}
 
--- what the engine answers and whom the gate lets in, by their definitions
+-- what the engine answers, and whom the gate lets in under which name of the server, by their definitions
 pub record Setting : Type 0 where
   pub run : List EntryView → List WriteView → List ℕ → List ParameterView → QueryMode
       → Result AnswerView QueryFault
-  pub check : List ℕ → List ℕ → Bool
+  pub welcome : Welcome
 
 -- The open result: its rows left, as the version has them; its mode; the write that its last summary commits, which a transaction
 -- has already taken over; and how many rows were written for the waiting PULL.
@@ -44,7 +45,7 @@ pub record Open : Type 0 where
   -- the token of its RUN; in a transaction none, for there the token is the transaction's
   pub token : Token
 
--- the result where none is open: no rows, mode `r`, no write, no token
+-- the result if none is open: no rows, mode `r`, no write, no token
 abbrev pub no_result : Open
 no_result = record { rows = []; mode = Read; write = None; written = 0; token = None }
 
@@ -55,7 +56,7 @@ pub record Tx : Type 0 where
   -- the token of its BEGIN
   pub token : Token
 
--- the transaction where none is open: mode `w`, no writes, no token
+-- the transaction if none is open: mode `w`, no writes, no token
 abbrev pub no_tx : Tx
 no_tx = record { mode = Write; writes = []; token = None }
 
@@ -86,7 +87,7 @@ fails f = Summary Verdict.Failure (response_of_summary (failure f)) no_result no
 abbrev pub succeeds : ResponseView → Reply
 succeeds m = Summary Verdict.Success m no_result no_tx None
 
--- how many rows a count takes at most, where it doesn't take all
+-- how many rows a count takes at most, if it doesn't take all
 abbrev pub rows_of : ℤ → ℕ
 rows_of (pos n) = n
 rows_of (negsuc n) = 0
@@ -96,7 +97,7 @@ abbrev pub used_up : Count → ℕ → Bool
 used_up All n = false
 used_up (Of z) n = nat_le (rows_of z) n
 
--- how many rows a count takes at most, where there are so many
+-- how many rows a count takes at most, if there are so many
 abbrev pub count_at : Count → ℕ → ℕ
 count_at All all = all
 count_at (Of z) all = rows_of z
@@ -148,7 +149,7 @@ unwritable (Err e) = of_writer e
 abbrev pub if_fits : Version → ResponseView → Reply → Reply
 if_fits v m reply = if fits v m then reply else fails (unwritable (response_spelling v m))
 
--- a step of a PULL: the next row, or a failure where it can't be written; the summary where no row is left or
+-- a step of a PULL: the next row, or a failure if it can't be written; the summary if no row is left or
 -- the count is used up
 abbrev pub pull : Version → State → List EntryView → Count → List (List Tree) → Open → Tx → Reply
 pull v s ledger n [] left tx = close s ledger [] left tx
@@ -160,7 +161,7 @@ pull v s ledger n (r ∷ rs) left tx =
 -- the answer to who the client is: this response where the gate lets it in, by the one scheme of this product
 abbrev pub reply_to_login : Setting → AuthView → ResponseView → Reply
 reply_to_login S a m =
-    if bytes_eq a.scheme (codes "basic") && S.check a.principal a.credentials then succeeds m
+    if bytes_eq a.scheme (codes "basic") && S.welcome.accepts a.principal a.credentials then succeeds m
     else fails fault.Unauthorized
 
 -- a transaction with one more write
@@ -201,7 +202,7 @@ result_of_answer v s token a =
       token = if in_transaction s then None else token;
     }
 
--- the reply to a RUN whose answer is opened, where the SUCCESS with its fields can be written
+-- the reply to a RUN whose answer is opened, if the SUCCESS with its fields can be written
 abbrev pub opens : Version → State → Tx → Token → AnswerView → Reply
 opens v s tx token a = if_fits v (fields_said a.fields)
     (Summary Verdict.Success (fields_said a.fields) (result_of_answer v s token a)
@@ -223,8 +224,8 @@ reply_to_hello S (Some a) m = reply_to_login S a m
 -- a HELLO, which logs on where it carries who the client is
 abbrev pub greets : Setting → Version → ℕ → Option AuthView → Reply
 greets S v c auth =
-    if hello_has_login v then reply_to_hello S auth (response_of_summary (Greeting c))
-    else succeeds (response_of_summary (Greeting c))
+    if hello_has_login v then reply_to_hello S auth (response_of_summary (Greeting S.welcome.agent c))
+    else succeeds (response_of_summary (Greeting S.welcome.agent c))
 
 -- a request that has a row in its state
 abbrev pub perform : Setting → Version → ℕ → List EntryView → State → Open → Tx → RequestView

@@ -31,7 +31,7 @@ arrival_told (Err e) = Unread e
 abbrev pub waiting_in : List Waiting → List Arrival
 waiting_in ws = map arrival_of ws
 
--- the first of a list, where there is one
+-- the first of a list, if there is one
 abbrev pub first_of : {A : Type 0} → List A → Option A
 first_of [] = None
 first_of (x ∷ xs) = Some x

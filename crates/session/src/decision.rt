@@ -18,6 +18,7 @@ ghost use Rattle.engine.specs.Limits.{max_rows};
 
 use crate::MAX_WRITES;
 use crate::acts::{Act, After};
+use crate::agent::Agent;
 use crate::fault::Fault;
 use crate::query_answer::copy_token;
 use crate::result_end::{commit_of, committed};
@@ -85,21 +86,21 @@ impl Session {
             && (!is_used_up(count, self.result.written) && self.result.rows.count != 0)
     }
 
-    /// What the first request is answered, where it is owed no row and runs no query.
-    pub(crate) fn decide<E: Engine, G: Gate>(
+    /// What the first request is answered, if it is owed no row and runs no query.
+    pub(crate) fn decide<'a, E: Engine, G: Gate>(
         &self,
         conn: u64,
         request: &Request,
         engine: &E,
-        gate: &G,
-    ) -> Result<Act, AllocError>
+        gate: &'a G,
+    ) -> Result<Act<'a>, AllocError>
         requires unowed { let k = kept_of self.now in
             owes_row k.state k.result (request_view request.now) ≡ false }
         requires unrun { let k = kept_of self.now in
             runs (version_of k) k.state (request_view request.now) ≡ false }
         ensures { let k = kept_of self.now in IfOk result
             (λ act. reply_of (version_of k) k.state k.result k.tx act
-            ≡ serve (record { run = E.answer; check = G.accepts gate.now }) (version_of k) conn
+            ≡ serve (record { run = E.answer; welcome = G.welcomes gate.entry.now }) (version_of k) conn
             (E.entries engine.now) k.state k.result k.tx (request_view request.now)) }
     {
         if is_goodbye(request) {
@@ -119,13 +120,13 @@ impl Session {
     }
 
     /// What a request is answered that has a row in the state.
-    fn answer<E: Engine, G: Gate>(
+    fn answer<'a, E: Engine, G: Gate>(
         &self,
         conn: u64,
         request: &Request,
         engine: &E,
-        gate: &G,
-    ) -> Result<Act, AllocError>
+        gate: &'a G,
+    ) -> Result<Act<'a>, AllocError>
         requires row { let k = kept_of self.now in
             is_some (row_at (version_of k) k.state (kind_of (request_view request.now)) Verdict.Success)
             ≡ true }
@@ -135,7 +136,7 @@ impl Session {
             runs (version_of k) k.state (request_view request.now) ≡ false }
         ensures { let k = kept_of self.now in IfOk result
             (λ act. reply_of (version_of k) k.state k.result k.tx act
-            ≡ perform (record { run = E.answer; check = G.accepts gate.now }) (version_of k) conn
+            ≡ perform (record { run = E.answer; welcome = G.welcomes gate.entry.now }) (version_of k) conn
             (E.entries engine.now) k.state k.result k.tx (request_view request.now)) }
     {
         match request {
@@ -205,7 +206,7 @@ impl Session {
     }
 }
 
-/// A copy of the token of a RUN, where it has one.
+/// A copy of the token of a RUN, if it has one.
 pub(crate) fn token_of(request: &Request) -> Result<Option<String>, AllocError>
     ensures { IfOk result (λ t. token_view t ≡ token_of_run (request_view request.now)) }
 {
@@ -216,7 +217,7 @@ pub(crate) fn token_of(request: &Request) -> Result<Option<String>, AllocError>
 }
 
 /// What a request is answered in Interrupted.
-pub(crate) fn interrupted(request: &Request) -> Act
+pub(crate) fn interrupted(request: &Request) -> Act<'static>
     ensures { (v : AnyVersion) (s : AnyState) (left : Open) (tx : Tx) → reply_of v s left tx result
         ≡ served_interrupted (kind_of (request_view request.now)) }
 {
@@ -227,7 +228,7 @@ pub(crate) fn interrupted(request: &Request) -> Act
 }
 
 /// What a RESET is answered in Interrupted, or another request in Failed or Interrupted.
-fn pass_over(is_reset: bool) -> Act
+fn pass_over(is_reset: bool) -> Act<'static>
     ensures { (v : AnyVersion) (s : AnyState) (left : Open) (tx : Tx) → reply_of v s left tx result
         ≡ passed_over is_reset }
 {
@@ -241,15 +242,15 @@ fn pass_over(is_reset: bool) -> Act
     }
 }
 
-fn greet<G: Gate>(version: Version, conn: u64, auth: &Option<Auth>, gate: &G) -> Act
+fn greet<'a, G: Gate>(version: Version, conn: u64, auth: &Option<Auth>, gate: &'a G) -> Act<'a>
     ensures { (s : AnyState) (left : Open) (tx : Tx)
         (run : List EntryView → List WriteView → List ℕ → List ParameterView → QueryMode
         → Result AnswerView QueryFault)
         → reply_of version s left tx result
-        ≡ greets (record { run = run; check = G.accepts gate.now }) version conn
+        ≡ greets (record { run = run; welcome = G.welcomes gate.entry.now }) version conn
         (auth_in auth.now) }
 {
-    let greeting = Summary::Greeting(conn);
+    let greeting = Summary::Greeting(Agent::of(gate), conn);
     if !version.hello_has_login() {
         return Act::success(greeting, After::Nothing);
     }
@@ -260,13 +261,13 @@ fn greet<G: Gate>(version: Version, conn: u64, auth: &Option<Auth>, gate: &G) ->
 }
 
 /// Lets a client in, or not.
-fn admit<G: Gate>(auth: &Auth, summary: Summary, gate: &G) -> Act
+fn admit<'a, G: Gate>(auth: &Auth, summary: Summary<'a>, gate: &G) -> Act<'a>
     ensures { (v : AnyVersion) (s : AnyState) (left : Open) (tx : Tx)
         (run : List EntryView → List WriteView → List ℕ → List ParameterView → QueryMode
         → Result AnswerView QueryFault)
         → reply_of v s left tx result
-        ≡ reply_to_login (record { run = run; check = G.accepts gate.now }) (auth_view auth.now)
-        (response_of_summary (summary_of summary)) }
+        ≡ reply_to_login (record { run = run; welcome = G.welcomes gate.now }) (auth_view auth.now)
+        (response_of_summary (summary_of summary.entry)) }
 {
     if auth.scheme.as_str() == "basic"
         && gate.check(auth.principal.as_str(), auth.credentials.as_str())

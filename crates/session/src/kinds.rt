@@ -61,7 +61,7 @@ pub enum Worked {
         kind: Kind,
         /// The state after it.
         state: State,
-        /// The ledger's length, where the step added an entry. A commit that the ledger had by its token adds none.
+        /// The ledger's length, if the step added an entry. A commit that the ledger had by its token adds none.
         entry: Option<u64>,
     },
     /// The session has ended, by this step or before it.

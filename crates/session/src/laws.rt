@@ -6,8 +6,8 @@ ghost use Rattle.messages.specs.Sound.{IsResponse};
 ghost use Rattle.messages.specs.Writing.{response_spelling};
 ghost use Rattle.session.specs.Said.{fits};
 
-/// A response that is made of texts in UTF-8 and of cells of the version can be said exactly where it has a text: `RowTooLarge` or
-/// `NotInVersion` is answered in the place of such a one exactly where it has none.
+/// A response that is made of texts in UTF-8 and of cells of the version can be said exactly if it has a text: `RowTooLarge` or
+/// `NotInVersion` is answered in the place of such a one exactly if it has none.
 #[tactic(auto, using(crate::proofs::Fitting::fits_with_text))]
 pub fn fits_where_it_has_a_text()
     ensures { (v : Version) (m : ResponseView) → IsResponse v m

@@ -3,6 +3,7 @@
 #![tactic(auto)]
 
 mod acts;
+mod agent;
 mod commit;
 mod decision;
 mod fault;

@@ -85,7 +85,7 @@ impl Session {
         self.open(answer, token, conn, kind, engine)
     }
 
-    /// Opens a result and writes the SUCCESS with its fields, or the FAILURE where that can't be written.
+    /// Opens a result and writes the SUCCESS with its fields, or the FAILURE if that can't be written.
     fn open<E: Engine>(
         &mut self,
         answer: Answer,

@@ -49,7 +49,7 @@ pub(crate) fn spell_fields(
     }
 }
 
-/// Spells the SUCCESS of a RUN of few fields in place of what the body held, without a response; or says no, where it is past its limit or
+/// Spells the SUCCESS of a RUN of few fields in place of what the body held, without a response; or says no, if it is past its limit or
 /// memory ran out.
 fn spell_few(fields: &[String], body: &mut BytesMut) -> bool
     requires { length fields.now ≤ 15 }
@@ -171,7 +171,7 @@ pub(crate) fn open_result(
     Ok(())
 }
 
-/// The transaction takes over the write of a result, where it has one.
+/// The transaction takes over the write of a result, if it has one.
 fn join_write(writes: &mut Vec<Write>, write: Option<Write>) -> Result<(), AllocError>
     ensures ok { OnOk result
         (writes_view writes.new.items
@@ -187,7 +187,7 @@ fn join_write(writes: &mut Vec<Write>, write: Option<Write>) -> Result<(), Alloc
     }
 }
 
-/// A copy of a token, where there is one.
+/// A copy of a token, if there is one.
 pub(crate) fn copy_token(token: &Option<String>) -> Result<Option<String>, AllocError>
     ensures { IfOk result (λ t. token_view t ≡ token_view token.now) }
 {

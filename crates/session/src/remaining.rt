@@ -76,7 +76,7 @@ impl Remaining {
         &self.cells.as_slice()[self.start..self.start + self.width]
     }
 
-    /// The first row is gone, where there is one.
+    /// The first row is gone, if there is one.
     pub(crate) fn pass(&mut self)
         ensures rows { remaining_rows self.new ≡ drop 1 (remaining_rows self.old) }
         ensures fewer { 0 < self.old.count → self.new.count + 1 ≡ self.old.count }
@@ -88,7 +88,7 @@ impl Remaining {
         }
     }
 
-    /// As many rows are gone from the front, where there are as many.
+    /// As many rows are gone from the front, if there are as many.
     pub(crate) fn drop_front(&mut self, count: usize)
         ensures rows { remaining_rows self.new ≡ drop count (remaining_rows self.old) }
         ensures few { self.new.count ≤ self.old.count }

@@ -61,7 +61,7 @@ fn next_len<E: Engine>(engine: &E) -> Result<u64, AllocError>
 }
 
 /// The answer to a COMMIT, by what the engine would answer to it.
-pub(crate) fn committed(commit: Commit) -> Act
+pub(crate) fn committed(commit: Commit) -> Act<'static>
     ensures { (v : AnyVersion) (s : AnyState) (left : Open) (tx : Tx) → reply_of v s left tx result
         ≡ commits_by (change_inside tx) (λ n. response_of_summary (Committed n)) commit }
 {
@@ -73,7 +73,7 @@ pub(crate) fn committed(commit: Commit) -> Act
 }
 
 /// The last summary of a result of this mode outside a transaction, by what the engine would answer to its commit.
-fn closed(commit: Commit, mode: Mode) -> Act
+fn closed(commit: Commit, mode: Mode) -> Act<'static>
     ensures { (v : AnyVersion) (s : AnyState) (left : Open) (tx : Tx) → reply_of v s left tx result
         ≡ commits_by (change_alone left) (λ n. response_of_summary (Closing (Some n) mode)) commit }
 {
@@ -86,7 +86,11 @@ fn closed(commit: Commit, mode: Mode) -> Act
 
 impl Session {
     /// The summary of a PULL or DISCARD that drops so many rows.
-    pub(crate) fn ends_rows<E: Engine>(&self, dropped: usize, engine: &E) -> Result<Act, AllocError>
+    pub(crate) fn ends_rows<E: Engine>(
+        &self,
+        dropped: usize,
+        engine: &E,
+    ) -> Result<Act<'static>, AllocError>
         ensures { let k = kept_of self.now in IfOk result
             (λ act. reply_of (version_of k) k.state k.result k.tx act
             ≡ close k.state (E.entries engine.now) (drop dropped k.result.rows) k.result k.tx) }
@@ -102,7 +106,7 @@ impl Session {
     }
 
     /// The last summary of a result, which commits outside a transaction.
-    fn last<E: Engine>(&self, engine: &E) -> Result<Act, AllocError>
+    fn last<E: Engine>(&self, engine: &E) -> Result<Act<'static>, AllocError>
         ensures { let k = kept_of self.now in IfOk result
             (λ act. reply_of (version_of k) k.state k.result k.tx act
             ≡ close_last k.state (E.entries engine.now) k.result k.tx) }

@@ -102,7 +102,7 @@ fn put_framed(row: &[Cell], out: &mut Adding) -> Result<(), Unspelled>
     Ok(())
 }
 
-/// Gives the output back with a text between the place of its header and the end of its run, where that is no longer than a chunk,
+/// Gives the output back with a text between the place of its header and the end of its run, if that is no longer than a chunk,
 /// and writes the header; else as it was.
 fn keep_framed(start: usize, adding: Adding, out: &mut BytesMut) -> bool
     requires start { start ≡ length adding.before }
@@ -163,7 +163,7 @@ fn spell_row(version: Version, row: &[Cell], body: &mut BytesMut) -> Result<(), 
     }
 }
 
-/// Spells the RECORD of a row without structures in place of what the body held; or says no, where it has one, is past its limit or memory
+/// Spells the RECORD of a row without structures in place of what the body held; or says no, if it has one, is past its limit or memory
 /// ran out.
 fn spell_plain(row: &[Cell], body: &mut BytesMut) -> bool
     ensures { result ≡ true → (v : AnyVersion) → let said = Record (shapes row.now) in

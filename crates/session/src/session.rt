@@ -13,7 +13,7 @@ use messages::{MsgFault, Request};
 use std::alloc::{AllocError, Global};
 use wire::{Version, choose};
 
-/// The most room that is kept where nothing waits to go, and of what a step writes.
+/// The most room that is kept if nothing waits to go, and of what a step writes.
 pub(crate) const MAX_KEPT: usize = 8192;
 
 /// A conversation with a client: what waits, how it stands, what is open, and what waits to go.
@@ -73,7 +73,7 @@ impl Session {
         self.queue.len() >= MAX_WAITING || self.first + self.queue.len() as u64 >= MAX_ORDINALS
     }
 
-    /// Takes out as many bytes as the smaller of `max` and what waits to go, in order; where that is none, without memory. An `Err` is
+    /// Takes out as many bytes as the smaller of `max` and what waits to go, in order; if that is none, without memory. An `Err` is
     /// want of memory, and changes nothing.
     pub fn take_out(&mut self, max: usize) -> Result<Bytes, AllocError>
         ensures ok { IfOk result
@@ -93,7 +93,7 @@ impl Session {
         self.out.as_slice()
     }
 
-    /// As many bytes of what waits to go are gone, or all where no more wait. Takes no memory.
+    /// As many bytes of what waits to go are gone, or all if no more wait. Takes no memory.
     #[tactic(auto, using(crate::proofs::Gone::gone_all))]
     pub fn sent(&mut self, count: usize)
         ensures { kept_of self.new ≡ take_kept count (kept_of self.old) }
@@ -144,7 +144,7 @@ impl Session {
         Ok(What::Handshake(version))
     }
 
-    /// Takes what was asked, by a message at its version, where the session isn't full: a request takes a slot, and a RESET interrupts; what
+    /// Takes what was asked, by a message at its version, if the session isn't full: a request takes a slot, and a RESET interrupts; what
     /// stands for no request takes a slot too. Want of memory in `asked`, and no other, is handed on as an `Err`, and changes nothing.
     /// Takes no memory.
     pub fn receive(&mut self, asked: Result<Request, MsgFault>) -> Result<What, AllocError>
@@ -185,7 +185,7 @@ impl Session {
         }
     }
 
-    /// A message past its limit takes a slot, where the session isn't full. Takes no memory.
+    /// A message past its limit takes a slot, if the session isn't full. Takes no memory.
     pub fn refuse(&mut self) -> What
         requires { full (kept_of self.old) ≡ false }
         ensures { Receives result (kept_of self.old) (kept_of self.new) TooLong }
@@ -217,7 +217,7 @@ impl Session {
         self.state
     }
 
-    /// Why it has ended, where it has. Takes no memory.
+    /// Why it has ended, if it has. Takes no memory.
     pub fn cause(&self) -> Option<Cause>
         ensures { result ≡ (kept_of self.now).ended }
     {

@@ -52,11 +52,11 @@ fn why_unwritten(fault: MsgFault) -> Unwritten
 /// Spells a summary, which always fits, in place of what the body held.
 pub(crate) fn spell_summary(
     version: Version,
-    summary: Summary,
+    summary: Summary<'_>,
     body: &mut BytesMut,
 ) -> Result<(), AllocError>
     ensures { OnOk result
-        (IsBody version (response_of_summary (summary_of summary)) body.new.items) }
+        (IsBody version (response_of_summary (summary_of summary.entry)) body.new.items) }
 {
     body.clear();
     match summary.ready() {
@@ -65,12 +65,12 @@ pub(crate) fn spell_summary(
     }
 }
 
-/// Spells a summary that tells a number or a failure, behind nothing.
-fn spell_made(version: Version, summary: Summary, body: &mut BytesMut) -> Result<(), AllocError>
+/// Spells a summary that tells a name, a number or a failure, behind nothing.
+fn spell_made(version: Version, summary: Summary<'_>, body: &mut BytesMut) -> Result<(), AllocError>
     requires empty { body.old.items ≡ [] }
     requires made { is_ready summary ≡ false }
     ensures { OnOk result
-        (IsBody version (response_of_summary (summary_of summary)) body.new.items) }
+        (IsBody version (response_of_summary (summary_of summary.entry)) body.new.items) }
 {
     let mut adding = Adding::to(body);
     summary.put(&mut adding)?;

@@ -38,7 +38,7 @@ impl Session {
         gate: &G,
     ) -> Result<Worked, AllocError>
         ensures ok { IfOk result
-            (λ w. stepped (record { run = E.answer; check = G.accepts gate.now }) conn
+            (λ w. stepped (record { run = E.answer; welcome = G.welcomes gate.now }) conn
             (snapshot_of E.entries self.old engine.old)
             ≡ (w, snapshot_of E.entries self.new engine.new)) }
         ensures err { OnErr result
@@ -78,7 +78,7 @@ impl Session {
     ) -> Result<Worked, AllocError>
         requires { turn_in (kept_of self.old).waiting ≡ Turn.Serves }
         ensures ok { let k = kept_of self.old in IfOk result
-            (λ w. Steps (turns (record { run = E.answer; check = G.accepts gate.now }) conn
+            (λ w. Steps (turns (record { run = E.answer; welcome = G.welcomes gate.now }) conn
             (E.entries engine.old) k k.waiting) conn k.first w (kept_of self.new)
             (E.entries engine.old) (E.entries engine.new)) }
         ensures err { OnErr result
@@ -98,7 +98,7 @@ impl Session {
         self.answer_next(conn, engine, gate)
     }
 
-    /// Answers the first request, where no RESET interrupts and no row is owed to it.
+    /// Answers the first request, if no RESET interrupts and no row is owed to it.
     #[inline(never)]
     fn answer_next<E: Engine, G: Gate>(
         &mut self,
@@ -111,7 +111,7 @@ impl Session {
             → k.waiting ≡ Asked q ∷ later → owes_row k.state k.result q ≡ false }
         ensures ok { let k = kept_of self.old in
             (q : RequestView) (later : List Arrival) → k.waiting ≡ Asked q ∷ later
-            → IfOk result (λ w. Steps (serves (record { run = E.answer; check = G.accepts gate.now })
+            → IfOk result (λ w. Steps (serves (record { run = E.answer; welcome = G.welcomes gate.now })
             conn (E.entries engine.old) k q later) conn k.first w (kept_of self.new)
             (E.entries engine.old) (E.entries engine.new)) }
         ensures err { OnErr result
@@ -138,7 +138,7 @@ impl Session {
         self.queue.has_reset() && is_interruptible(self.state)
     }
 
-    /// Writes the row that is due, or the FAILURE where it can't be written.
+    /// Writes the row that is due, or the FAILURE if it can't be written.
     fn send<E: Engine>(
         &mut self,
         conn: u64,
@@ -178,7 +178,7 @@ impl Session {
         true
     }
 
-    /// Writes the row that is due by way of its text, or the FAILURE where it can't be written.
+    /// Writes the row that is due by way of its text, or the FAILURE if it can't be written.
     #[inline(never)]
     fn send_spelled<E: Engine>(
         &mut self,
@@ -251,7 +251,7 @@ impl Session {
     fn perform<E: Engine>(
         &mut self,
         worked_in: State,
-        act: Act,
+        act: Act<'_>,
         conn: u64,
         kind: Kind,
         engine: &mut E,
@@ -264,7 +264,7 @@ impl Session {
             → kind ≡ kind_of q
             → IfOk result (λ w. Steps
             (replies (E.entries engine.old) (record k { state = worked_in }) q later
-            (reply_of (version_of k) worked_in k.result k.tx act)) conn k.first w
+            (reply_of (version_of k) worked_in k.result k.tx act.entry)) conn k.first w
             (kept_of self.new) (E.entries engine.old) (E.entries engine.new)) }
         ensures err { OnErr result
             ((kept_of self.new ≡ kept_of self.old)

@@ -7,9 +7,11 @@ ghost use Rattle.packstream.specs.Tree.{text};
 ghost use Rattle.packstream.specs.View.{entries_of};
 ghost use Rattle.messages.specs.Reading.{mode_tree};
 ghost use Rattle.messages.specs.Summaries.{Greeting, Closing, Committed, ending, form_of, IsShort};
+ghost use Rattle.engine.specs.Limits.{max_agent};
 ghost use Rattle.session.specs.Acts.{summary_of, is_ready};
 ghost use Rattle.session.specs.Faults.{failure};
 
+use crate::agent::Agent;
 use crate::fault::Fault;
 use itoa::Buffer;
 use messages::Mode;
@@ -17,12 +19,12 @@ use speller::{Adding, put_int, put_short_text};
 use std::alloc::AllocError;
 
 #[derive(Clone, Copy)]
-pub(crate) enum Summary {
-    /// Of a HELLO, with the number of the connection.
-    Greeting(u64),
+pub(crate) enum Summary<'a> {
+    /// Of a HELLO, with the server's name and the number of the connection.
+    Greeting(Agent<'a>, u64),
     /// Of a PULL or DISCARD after which rows are left.
     RowsLeft,
-    /// Of the last PULL or DISCARD of a result, with the place of its entry in the ledger, from 1, where it commits, and the result's
+    /// Of the last PULL or DISCARD of a result, with the place of its entry in the ledger, from 1, if it commits, and the result's
     /// mode.
     Closing(Option<u64>, Mode),
     /// Of a COMMIT, with the place of its entry.
@@ -34,13 +36,13 @@ pub(crate) enum Summary {
     Passed,
 }
 
-impl Summary {
-    /// The text of the response, where it is always the same.
+impl<'a> Summary<'a> {
+    /// The text of the response, if it is always the same.
     #[tactic(auto, unfolding(packstream::specs::Canon::head, packstream::specs::Canon::int_bytes))]
     pub(crate) fn ready(self) -> Option<&'static [u8]>
-        ensures text { IfSome result (λ b. b.now ≡ canon (form_of (summary_of self))) }
-        ensures short { IfSome result (λ _. IsShort (summary_of self)) }
-        ensures made { IsNone result → is_ready self ≡ false }
+        ensures text { IfSome result (λ b. b.now ≡ canon (form_of (summary_of self.entry))) }
+        ensures short { IfSome result (λ _. IsShort (summary_of self.entry)) }
+        ensures made { IsNone result → is_ready self.entry ≡ false }
     {
         match self {
             Summary::Plain => Some(b"\xB1\x70\xA0"),
@@ -52,16 +54,16 @@ impl Summary {
         }
     }
 
-    /// Adds the text of the response, where it tells a number or a failure.
+    /// Adds the text of the response, if it tells a name, a number or a failure.
     pub(crate) fn put(self, out: &mut Adding) -> Result<(), AllocError>
         requires { is_ready self ≡ false }
         ensures before { out.new.before ≡ out.old.before }
         ensures spelled { OnOk result (out.new.more
-            ≡ out.old.more ++ canon (form_of (summary_of self))) }
-        ensures short { IsShort (summary_of self) }
+            ≡ out.old.more ++ canon (form_of (summary_of self.entry))) }
+        ensures short { IsShort (summary_of self.entry) }
     {
         match self {
-            Summary::Greeting(conn) => put_greeting(out, conn),
+            Summary::Greeting(agent, conn) => put_greeting(out, agent.name, conn),
             Summary::Closing(Some(place), mode) => put_last_at(out, place, mode),
             Summary::Committed(place) => put_committed(out, place),
             Summary::Failure(fault) => put_failure(out, fault),
@@ -135,13 +137,15 @@ fn put_numbered(out: &mut Adding, key: &str, word: &str, number: u64) -> Result<
     put_parts(out, word, buffer.format(number))
 }
 
-fn put_greeting(out: &mut Adding, conn: u64) -> Result<(), AllocError>
+fn put_greeting(out: &mut Adding, agent: &str, conn: u64) -> Result<(), AllocError>
+    requires { length agent.now ≤ max_agent }
     ensures before { out.new.before ≡ out.old.before }
-    ensures spelled { OnOk result (out.new.more ≡ out.old.more ++ canon (form_of (Greeting conn))) }
-    ensures short { IsShort (Greeting conn) }
+    ensures spelled { OnOk result (out.new.more
+        ≡ out.old.more ++ canon (form_of (Greeting agent.now conn))) }
+    ensures short { IsShort (Greeting agent.now conn) }
 {
     put_success(out, 2)?;
-    put_entry(out, "server", "BoltTable/1")?;
+    put_entry(out, "server", agent)?;
     put_numbered(out, "connection_id", "bolt-", conn)?;
     Ok(())
 }

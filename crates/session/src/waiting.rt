@@ -35,7 +35,7 @@ impl Waiting {
     ghost use Rattle.session.specs.Waits.{is_unread, resets_of};
     ghost use Rattle.session.specs.Acts.{turn_of_one};
 
-    /// What it is for a step, where it is the first.
+    /// What it is for a step, if it is the first.
     pub(crate) fn turn(&self) -> Turn
         ensures { result ≡ turn_of_one self.now }
     {

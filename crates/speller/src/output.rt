@@ -30,7 +30,7 @@ impl Model for Adding {
 }
 
 impl Adding {
-    /// Takes over what an output holds, with room for a small value where it has none. Nothing is added.
+    /// Takes over what an output holds, with room for a small value if it has none. Nothing is added.
     #[tactic(auto, using(packstream::proofs::Growing::growing))]
     pub fn to(out: &mut BytesMut) -> Adding
         ensures before { result.before ≡ out.old.items }

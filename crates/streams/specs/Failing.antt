@@ -1,7 +1,7 @@
 -- Which streams fail, and that it is told.
 use Rattle.std.specs.Prelude.{◌≡◌, Bool, true, Result, Ok, Err}
 
--- a stream that was sound is sound: it has failed only where it had before
+-- a stream that was sound is sound: it has failed only if it had before
 abbrev pub StaysSound : Bool → Bool → Type 0
 StaysSound had has = has ≡ true → had ≡ true
 

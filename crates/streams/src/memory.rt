@@ -38,7 +38,7 @@ impl Source for Slice<'_> {
     }
 }
 
-/// A sink in memory, that fails where no memory is left.
+/// A sink in memory, that fails if no memory is left.
 #[derive(Drop)]
 pub struct Buffer {
     bytes: Vec<u8>,
@@ -78,7 +78,7 @@ impl Sink for Buffer {
 
     ghost has_failed = { λ b. b.failed };
 
-    // It fails where it had failed before, or where the vector has no room for the bytes and gets none.
+    // It fails where it had failed before, or if the vector has no room for the bytes and gets none.
     fn write(&mut self, bytes: &[u8]) -> Result<usize, Failed>
         ensures failed { IsErr result ↔ (self.new.failed ≡ true) }
         ensures stays { self.old.failed ≡ true → self.new.failed ≡ true }

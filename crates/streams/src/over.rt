@@ -39,7 +39,7 @@ impl<S> Over<S> {
         }
     }
 
-    /// Why it has failed, where it has.
+    /// Why it has failed, if it has.
     pub fn error(&self) -> Option<&io::Error>
         ensures kept { option_copied result ≡ self.now.error }
         ensures reason { IfSome result (λ e. IsReason e.now) }

@@ -17,7 +17,7 @@ pub struct Failed;
 /// Ok(n)
 /// ```
 pub trait Source {
-    // The bytes that are left, where they are known.
+    // The bytes that are left, if they are known.
     ghost left: { Self → Option (List ℕ) };
 
     ghost has_failed: { Self → Bool };
@@ -26,7 +26,7 @@ pub trait Source {
     ghost reads: { Self → ℕ };
 
     /// Reads bytes into the front of the buffer, and answers how many; 0 into a buffer that isn't empty is the end.
-    /// It answers `Failed` exactly where the source has failed by then, and then no byte has moved.
+    /// It answers `Failed` exactly if the source has failed by then, and then no byte has moved.
     fn read(&mut self, buffer: &mut [u8]) -> Result<usize, Failed>
         ensures failed { IsErr result ↔ (has_failed self.new ≡ true) }
         ensures stays { has_failed self.old ≡ true → has_failed self.new ≡ true }
@@ -37,13 +37,13 @@ pub trait Source {
 
 /// Where bytes go.
 pub trait Sink {
-    // The bytes that were taken, where they are known.
+    // The bytes that were taken, if they are known.
     ghost taken: { Self → Option (List ℕ) };
 
     ghost has_failed: { Self → Bool };
 
-    /// Takes bytes of the front, and answers how many; at least one where there is one.
-    /// It answers `Failed` exactly where the sink has failed by then, and then no byte has moved.
+    /// Takes bytes of the front, and answers how many; at least one if there is one.
+    /// It answers `Failed` exactly if the sink has failed by then, and then no byte has moved.
     fn write(&mut self, bytes: &[u8]) -> Result<usize, Failed>
         ensures failed { IsErr result ↔ (has_failed self.new ≡ true) }
         ensures stays { has_failed self.old ≡ true → has_failed self.new ≡ true }
@@ -54,7 +54,7 @@ pub trait Sink {
 
 /// Where the bytes of a peer come from that is sent something too: a source that may say when it is read. Every `Source` is one that may be read always.
 pub trait PeerSource {
-    // The bytes that are left, where they are known.
+    // The bytes that are left, if they are known.
     ghost left: { Self → Option (List ℕ) };
 
     ghost has_failed: { Self → Bool };

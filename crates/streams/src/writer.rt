@@ -5,7 +5,7 @@ ghost use Rattle.streams.specs.Fronts.{AppendsFront};
 
 use crate::traits::{Failed, Sink};
 
-/// Writes all of the bytes, or a beginning of them where the sink fails.
+/// Writes all of the bytes, or a beginning of them if the sink fails.
 pub fn write_all<S: Sink>(sink: &mut S, bytes: &[u8]) -> Result<(), Failed>
     ensures ok { OnOk result (Appends (S.taken sink.old) (S.taken sink.new) bytes.now) }
     ensures front { OnErr result (AppendsFront (S.taken sink.old) (S.taken sink.new) bytes.now) }

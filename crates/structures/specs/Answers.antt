@@ -27,7 +27,7 @@ abbrev pub Gave : Result Cell CellFault → Tree → Type 0
 Gave (Ok c) s = shape c ≡ s
 Gave (Err e) s = ⊥
 
--- the value's cell, or its first fault; memory runs out only where it has none
+-- the value's cell, or its first fault; memory runs out only if it has none
 abbrev pub Reads : Version → Tree → Result Cell CellFault → Type 0
 Reads v t (Ok c) = Form v (shape c) t
 Reads v t (Err (fault.Refused r k)) = IsBad v t k r
@@ -51,7 +51,7 @@ pub record HasBadForm (v : Version) (s : Tree) (r : PackReason) (o : ℕ) : Type
   pub formed : Form v s value
   pub unpacked : IsUnpacked value r o
 
--- The cell's form, or its first fault; where it has none and its form isn't good, the form's fault; memory runs out only where it has none.
+-- The cell's form, or its first fault; if it has none and its form isn't good, the form's fault; memory runs out only if it has none.
 abbrev pub Writes : Version → Tree → Result Tree CellFault → Type 0
 Writes v s (Ok t) = HasGoodForm v s t
 Writes v s (Err (fault.Refused r k)) = IsUnwritable v s k r

@@ -1,4 +1,4 @@
--- A cell, seen as its tree, in the form of a version: without element ids where it has none, and else with the decimal texts
+-- A cell, seen as its tree, in the form of a version: without element ids if it has none, and else with the decimal texts
 -- of the ids where they were absent.
 use Rattle.std.specs.Prelude.{◌≡◌, Result, Ok, Err, ℤ, ℕ, zero, suc, List, [], ◌∷◌, length, if◌then◌else◌, ◌==◌, Option, None, Some}
 use Rattle.std.specs.Fmt.{signed_decimal}
@@ -34,12 +34,12 @@ abbrev pub trees_in_order : Trees → Trees → Trees
 trees_in_order no_trees us = us
 trees_in_order (tree_then t ts) us = tree_then t (trees_in_order ts us)
 
--- the fields with as many texts of ids, the ids being the first fields, where none are there yet
+-- the fields with as many texts of ids, the ids being the first fields, if none are there yet
 abbrev pub with_texts : List Field → List Field → Trees → Trees
 with_texts fs more ts = if count ts == length fs then
     trees_in_order ts (decimal_texts (front (length more) ts)) else ts
 
--- the fields at a version, where it has these more with element ids
+-- the fields at a version, if it has these more with element ids
 abbrev pub with_added : Version → List Field → List Field → Trees → Trees
 with_added v fs [] ts = ts
 with_added v fs (f ∷ more) ts =
@@ -80,7 +80,7 @@ abbrev pub element_or : ℤ → Trees → Trees
 element_or id no_trees = tree_then (text (signed_decimal id)) no_trees
 element_or id (tree_then t ts) = tree_then t ts
 
--- the same at a version, and none where the version has no element ids
+-- the same at a version, and none if the version has no element ids
 abbrev pub element_at : Version → ℤ → Trees → Trees
 element_at v id es = if has_element_ids v then element_or id es else no_trees
 
@@ -92,7 +92,7 @@ elements_or id start end no_trees =
     (tree_then (text (signed_decimal end)) no_trees))
 elements_or id start end (tree_then t ts) = tree_then t ts
 
--- the same at a version, and none where the version has no element ids
+-- the same at a version, and none if the version has no element ids
 abbrev pub elements_at : Version → ℤ → ℤ → ℤ → Trees → Trees
 elements_at v id start end es = if has_element_ids v then elements_or id start end es else no_trees
 

@@ -52,7 +52,7 @@ pub data IsShaped : ℕ → Trees → Type 0 where
       (tree_then (list relationships) (tree_then (list steps) no_trees)))
 
 -- a row of the table with this tag stands at the version, and these are its fields there: those that come with element ids too
--- where the version has them
+-- if the version has them
 pub data HasRow (v : Version) : ℕ → List Field → Type 0 where
   row_alone : (r : Row) → Contains table r → r.stands v ≡ true → has_element_ids v ≡ false
       → HasRow v r.tag r.fields

@@ -10,13 +10,13 @@ use Rattle.structures.specs.Form.{typed, form}
 abbrev pub typed_entry : List ℕ × Tree → List ℕ × Tree
 typed_entry e = (e.0, typed e.1)
 
--- the field number i, counted from 0, and null where there is none
+-- the field number i, counted from 0, and null if there is none
 abbrev pub tree_at : ℕ → Trees → Tree
 tree_at i no_trees = null
 tree_at zero (tree_then t ts) = t
 tree_at (suc i) (tree_then t ts) = tree_at i ts
 
--- the texts of the fields 5 to 7, where they are texts
+-- the texts of the fields 5 to 7, if they are texts
 abbrev pub ReadElements : Trees → Trees → Type 0
 ReadElements ts es =
     is_text (tree_at 5 ts) ≡ true → is_text (tree_at 6 ts) ≡ true → is_text (tree_at 7 ts) ≡ true

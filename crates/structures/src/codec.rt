@@ -34,10 +34,10 @@ fn read_cell(alloc: Global, version: Version, value: &Value) -> Result<Cell, Cel
 
 /// The cell of a value that stands inside another, as `read` reads it.
 pub fn read_value(alloc: Global, version: Version, value: &Value) -> Result<Cell, CellFault>
-    // Apart from memory, it is the cell whose form the value is, where it is one's ..
+    // Apart from memory, it is the cell whose form the value is, if it is one's ..
     ensures cell { (s : Tree) → UnlessMemory result (Gave result s ↔ Form version s (tree value.now)) }
 
-    // .. and the first fault, where the value has one.
+    // .. and the first fault, if the value has one.
     ensures fault { (r : Reason) (k : ℕ)
         → UnlessMemory result ((result ≡ Err (fault.Refused r k)) ↔ IsBad version (tree value.now) k r) }
     ensures memory { result ≡ Err fault.Memory → IsFine version (tree value.now) }
@@ -51,10 +51,10 @@ pub fn read_value(alloc: Global, version: Version, value: &Value) -> Result<Cell
 /// unknown tag (S1) or tag of another version (S6), number of fields (S2), kind of a field (S3), number out of its
 /// range (S4), path without a node or that doesn't walk (S5); and for want of memory (S7).
 pub fn read(alloc: Global, version: Version, packed: &Packed) -> Result<Cell, CellFault>
-    // Apart from memory, it is the cell whose form the value is, where it is one's ..
+    // Apart from memory, it is the cell whose form the value is, if it is one's ..
     ensures cell { (s : Tree) → UnlessMemory result (Gave result s ↔ Form version s packed.now) }
 
-    // .. and the first fault, where the value has one.
+    // .. and the first fault, if the value has one.
     ensures fault { (r : Reason) (k : ℕ)
         → UnlessMemory result ((result ≡ Err (fault.Refused r k)) ↔ IsBad version packed.now k r) }
     ensures memory { result ≡ Err fault.Memory → IsFine version packed.now }
@@ -95,10 +95,10 @@ fn write_cell(alloc: Global, version: Version, cell: &Cell) -> Result<Packed, Ce
 ///
 /// Refuses the first typed cell in preorder with a fault, by its number from 0 and its first fault in this order: cell
 /// or element ids of another version (S6), number out of its range (S4), path without a node or that doesn't walk (S5).
-/// Where there is none, refuses a value that is too deep or has a key twice (S8), and for want of memory (S7).
+/// If there is none, refuses a value that is too deep or has a key twice (S8), and for want of memory (S7).
 #[tactic(auto, using(crate::proofs::Clauses::writes_value, crate::proofs::Clauses::writes_pack))]
 pub fn write(alloc: Global, version: Version, cell: &Cell) -> Result<Packed, CellFault>
-    // Apart from memory, it is the cell's form, where the cell has one and that is good ..
+    // Apart from memory, it is the cell's form, if the cell has one and that is good ..
     ensures value { (t : Tree)
         → UnlessMemory result ((result ≡ Ok t) ↔ HasGoodForm version (shape cell.now) t) }
 
@@ -139,7 +139,7 @@ pub fn write_members(
     version: Version,
     members: &Vec<Cell>,
 ) -> Result<Packed, CellFault>
-    // Apart from memory, it is the cell's form, where the cell has one and that is good ..
+    // Apart from memory, it is the cell's form, if the cell has one and that is good ..
     ensures value { (t : Tree)
         → UnlessMemory result ((result ≡ Ok t)
         ↔ HasGoodForm version (list (trees_of (shapes members.now.items))) t) }
@@ -189,7 +189,7 @@ pub fn write_entries(
     version: Version,
     pairs: &Vec<(String, Cell)>,
 ) -> Result<Packed, CellFault>
-    // Apart from memory, it is the cell's form, where the cell has one and that is good ..
+    // Apart from memory, it is the cell's form, if the cell has one and that is good ..
     ensures value { (t : Tree)
         → UnlessMemory result ((result ≡ Ok t)
         ↔ HasGoodForm version (dict (entries_of (entries pairs.now.items))) t) }

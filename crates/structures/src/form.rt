@@ -8,7 +8,7 @@ use cells::{Cell, ElementIds, Node, Path, Relationship, UnboundRelationship};
 use std::alloc::{AllocError, Global};
 use wire::Version;
 
-/// The cell in the form of a version: without element ids where it has none, and else with the decimal texts of the
+/// The cell in the form of a version: without element ids if it has none, and else with the decimal texts of the
 /// ids where element ids were absent, in the whole of the cell. It refuses for want of memory alone, and takes memory for
 /// the texts of ids alone.
 pub fn fit(alloc: Global, cell: Cell, version: Version) -> Result<Cell, CellFault>

@@ -75,7 +75,7 @@ fn of_zoned(
     ))
 }
 
-/// Three fields, and the element id where it is there.
+/// Three fields, and the element id if it is there.
 fn of_named(
     alloc: Global,
     tag: u8,
@@ -97,7 +97,7 @@ fn of_named(
     }
 }
 
-/// The fields of a DateTime, with local seconds where the version has no UTC times.
+/// The fields of a DateTime, with local seconds if the version has no UTC times.
 fn of_moment(
     alloc: Global,
     version: Version,
@@ -253,7 +253,7 @@ fn unbound_value(
     )?)
 }
 
-/// Five fields, and the element ids where they are there.
+/// Five fields, and the element ids if they are there.
 fn of_bound(
     alloc: Global,
     id: i64,

@@ -11,6 +11,8 @@ mod heard;
 #[cfg(test)]
 mod hosts_tests;
 #[cfg(test)]
+mod named_tests;
+#[cfg(test)]
 mod over_tests;
 #[cfg(test)]
 mod requests;

@@ -67,7 +67,7 @@ const CASES: [Case; 4] = [
     ),
 ];
 
-/// What a call moves, where it doesn't fail.
+/// What a call moves, if it doesn't fail.
 fn moved(end: Result<usize, ErrorKind>, why: Option<ErrorKind>) -> Result<usize, Failed> {
     match why {
         None => end.map_err(|_| Failed),

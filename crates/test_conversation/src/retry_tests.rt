@@ -158,7 +158,7 @@ use Connection::*;
 type Case = (&'static [&'static str], &'static [Connection], Known, usize);
 
 const CASES: [Case; 10] = [
-    // Where the version alone comes, the COMMIT may stand, as it does here.
+    // If the version alone comes, the COMMIT may stand, as it does here.
     (
         ASKED,
         &[Served(4), Served(MANY), Served(MANY)],

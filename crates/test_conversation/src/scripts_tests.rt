@@ -205,7 +205,7 @@ const WHOLE_REQUESTS: &[(&[u8], &str)] = &[
     (b"\n\nnothing", "Err(Unreadable(3))"),
 ];
 
-/// What requests mean at 4.4 and 5.0, where a HELLO has the login, and at 5.1.
+/// What requests mean at 4.4 and 5.0, if a HELLO has the login, and at 5.1.
 const MEANT_WITH_LOGIN: &[(&[u8], &str)] = &[(
     b"hello",
     "Hello { agent: \"t/1\", auth: Some(Auth { scheme: \"basic\", principal: \"user\", .. }) }",

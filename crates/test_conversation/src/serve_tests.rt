@@ -40,7 +40,7 @@ const MANY_ROWS: &[u8] = &[
 const GREETING: usize = 87;
 
 /// Whether the conversation over streams that fail after so many reads and writes ends so, and what was written is a beginning of the
-/// answer; all of it, where none fails.
+/// answer; all of it, if none fails.
 fn is_served(
     alloc: Global,
     reads: usize,

@@ -134,7 +134,7 @@ fn serves_what_is_worked_by_hand(rt: HostRuntime) -> Result<(), Fail> {
     Ok(())
 }
 
-/// Whether what was written is a beginning of what the bytes that were read make due, all of it where no write failed, and the ledger is that
+/// Whether what was written is a beginning of what the bytes that were read make due, all of it if no write failed, and the ledger is that
 /// of these bytes, with each commit whose summary was to be written next.
 fn is_of_what_was_read(alloc: Global, talk: &Talk, served: &Served) -> Result<bool, Fail> {
     let read = &talk.asked[..served.read.min(talk.asked.len())];
@@ -237,7 +237,7 @@ struct Asking {
     lost: usize,
 }
 
-/// Asks over streams that fail after so many calls; None where it isn't told what the bytes say that were read, nothing where a write failed,
+/// Asks over streams that fail after so many calls; None if it isn't told what the bytes say that were read, nothing where a write failed,
 /// and then the outcomes of those that wait.
 fn asks(alloc: Global, answer: &[u8], reads: usize, writes: usize) -> Result<Option<Asking>, Fail> {
     let mut client = asking(alloc)?;

@@ -42,7 +42,7 @@ pub const AT_5_0: &[u8] = &[0, 0, 0, 5];
 
 /// A request.
 pub enum Asked {
-    /// The request of a script's line; and as it is at 4.4 and 5.0, where a HELLO has the login.
+    /// The request of a script's line; and as it is at 4.4 and 5.0, if a HELLO has the login.
     Line(&'static str),
     Old(&'static str),
     /// RUN with a text of so many bytes among its parameters.
@@ -202,7 +202,7 @@ fn longest_chunk(alloc: Global) -> Result<Vec<u8>, AllocError> {
     Ok(bytes)
 }
 
-/// Feeds bytes of the server, and answers how many summaries they had; None where it is refused.
+/// Feeds bytes of the server, and answers how many summaries they had; None if it is refused.
 fn hear(client: &mut Client, bytes: &[u8]) -> Option<usize> {
     let mut rest = bytes;
     let mut summaries: usize = 0;

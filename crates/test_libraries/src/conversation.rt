@@ -181,7 +181,7 @@ pub fn feeds(server: &mut Table, conn: u64, pieces: &[&[u8]]) -> Result<Took, Re
     Ok(took)
 }
 
-/// Works until there is nothing to do; `Row`, which no conversation wants of it, where that takes more than 2,000 steps.
+/// Works until there is nothing to do; `Row`, which no conversation wants of it, if that takes more than 2,000 steps.
 fn work_all(server: &mut Table, conn: u64) -> Result<Worked, Refused> {
     for _step in 0..2000 {
         match server.work(conn)? {
@@ -264,7 +264,7 @@ fn is_out(server: &mut Table, conn: u64, most: usize, bytes: &[u8]) -> bool {
     }
 }
 
-/// Whether the bytes, where there is memory for them, are used whole, and this is told of them.
+/// Whether the bytes, if there is memory for them, are used whole, and this is told of them.
 fn is_long(server: &mut Table, conn: u64, bytes: Result<Vec<u8>, AllocError>, what: &What) -> bool {
     match bytes {
         Ok(bytes) => is_fed(server, conn, &bytes, bytes.len(), what),

@@ -46,7 +46,7 @@ const FOLLOWING: &[(Phase, &str, &[Phase])] = &[
     (Phase::Fresh, "hello", &[Phase::Unauth, Phase::Defunct]),
 ];
 
-/// The phases that may follow a request of 5.1 in a phase; none where the line is none.
+/// The phases that may follow a request of 5.1 in a phase; none if the line is none.
 fn following(alloc: Global, from: Phase, line: &str) -> PhaseSet {
     match said_request(alloc, Version::V51, line) {
         Some(request) => after(Version::V51, PhaseSet::of(from), &request),

@@ -98,7 +98,7 @@ fn both(alloc: Global, count: usize) -> Option<Packed> {
     Packed::new(Value::List(both)).ok()
 }
 
-/// Whether the value has this size, 65,537 where it is too large, and is put behind what there is; or is refused, and what there is stays.
+/// Whether the value has this size, 65,537 if it is too large, and is put behind what there is; or is refused, and what there is stays.
 fn is_put(made: Option<Packed>, out: &mut BytesMut, bytes: usize) -> bool {
     let Some(packed) = made else {
         return false;

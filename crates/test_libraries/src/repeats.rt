@@ -1,4 +1,4 @@
-//! Transactions under a token, and what a session answers where they are repeated.
+//! Transactions under a token, and what a session answers if they are repeated.
 
 use crate::conversation::Step::*;
 use crate::conversation::{BEGIN, COMMIT, PULL_ALL, PUT, Step};

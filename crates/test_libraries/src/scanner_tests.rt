@@ -1,7 +1,10 @@
-// What is scanned, and what is left to the decoder. No clause says that anything is scanned at all.
+//! What goes the short ways: what is scanned and spelled, and what is left to the decoder and the encoder. No clause says that anything is
+//! scanned or spelled at all.
 use crate::reader_tests::{DEEPEST, MANY_KEYS, TOO_DEEP};
+use bytes::BytesMut;
 use packstream::decode;
 use scanner::{scan_cell, scan_dict, scan_int, scan_list, scan_text};
+use speller::{Adding, put_list};
 use std::alloc::Global;
 use std::test::*;
 use structures::{read, same};
@@ -52,6 +55,56 @@ fn scanned(rt: HostRuntime) -> Result<(), Fail> {
     for bytes in SCANNED {
         assert!(rt; is_scanned(rt.alloc(), bytes)?, "at {bytes:?}");
     }
+    Ok(())
+}
+
+/// Cells in the fewest bytes.
+const SPELLED: &[&[u8]] = &[
+    &[0xC0],
+    &[0xC2],
+    &[0xC3],
+    &[0x2A],
+    &[0xF0],
+    &[0xC8, 0x80],
+    &[0xC9, 0x04, 0xD2],
+    &[0xCA, 0x00, 0x00, 0x80, 0x00],
+    &[0xCB, 0x80, 0, 0, 0, 0, 0, 0, 0],
+    &[0xC1, 0x7F, 0xF0, 0, 0, 0, 0, 0, 1],
+    &[0xCC, 3, 1, 2, 3],
+    &[0x80],
+    &[0x82, 0xC3, 0xA4],
+    &[0x90],
+    &[0x92, 0xC0, 0x91, 0x81, 0x61],
+    &[0xA0],
+    &[
+        0xA2, 0x81, 0x61, 0xA1, 0x81, 0x61, 0xA0, 0x81, 0x62, 0x92, 0x02, 0xC3,
+    ],
+];
+
+/// The bytes of a list of this one cell, None if it is left to the encoder.
+fn spelled_as(alloc: Global, bytes: &[u8]) -> Result<Option<BytesMut>, Fail> {
+    let cell = read(alloc, Version::V51, &decode(alloc, bytes)?)?;
+    let mut out = BytesMut::new(alloc);
+    let mut adding = Adding::to(&mut out);
+    match put_list(&mut adding, &[cell], 32) {
+        Ok(()) => Ok(Some(adding.keep())),
+        Err(_) => Ok(None),
+    }
+}
+
+#[test]
+fn spelled(rt: HostRuntime) -> Result<(), Fail> {
+    for bytes in SPELLED {
+        let Some(out) = spelled_as(rt.alloc(), bytes)? else {
+            assert!(rt; false, "at {bytes:?}");
+            continue;
+        };
+        assert!(rt;
+            out.as_slice().split_first() == Some((&0x91, *bytes)),
+            "at {bytes:?}"
+        );
+    }
+    assert!(rt; spelled_as(rt.alloc(), &[0xB1, 0x44, 0x00])?.is_none());
     Ok(())
 }
 

@@ -89,7 +89,7 @@ const GREETS_WITHOUT_LOGIN: &[Step] = &[
     Out(&[0, 0, 0, 5]),
 ];
 
-/// The first of two proposals that is taken, and what is said where none is, or to another magic.
+/// The first of two proposals that is taken, and what is said if none is, or to another magic.
 const PROPOSES_FIVE: &[Step] = &[
     Opens,
     Feed(

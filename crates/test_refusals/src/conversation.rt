@@ -1,4 +1,4 @@
-//! A client and a server, call by call, each call again where it is refused for memory.
+//! A client and a server, call by call, each call again if it is refused for memory.
 
 use crate::asked::{Table, Unplayed, requests, server};
 use crate::play::mixed;

@@ -5,7 +5,7 @@ use crate::script::foreign;
 use client::{Client, ClientFault};
 use std::alloc::Global;
 
-/// How often a client is made again where there is no memory for its requests.
+/// How often a client is made again if there is no memory for its requests.
 const MOST_AGAIN: usize = 1000;
 
 /// More pieces than there are, those among them that are given again.

@@ -15,7 +15,7 @@ pub enum Noted<'a> {
     Report(&'a Play),
 }
 
-/// How often it is noted again where there is no memory for it.
+/// How often it is noted again if there is no memory for it.
 const MOST_AGAIN: usize = 1000;
 
 /// Adds what is noted.

@@ -1,4 +1,4 @@
-//! A world that is played on, each event given again where it is refused for memory.
+//! A world that is played on, each event given again if it is refused for memory.
 
 use crate::asked::Unplayed;
 use crate::brought::brought;
@@ -51,7 +51,7 @@ impl Play {
         Ok(())
     }
 
-    /// Gives an event, again where it is refused for memory.
+    /// Gives an event, again if it is refused for memory.
     pub fn give(&mut self, event: &Event) -> Result<Seen, Refused> {
         for _again in 0..MOST_AGAIN {
             let Ok(given) = event.clone() else {
@@ -104,7 +104,7 @@ fn digest(world: &World<FixedTable, OneUser>) -> u64 {
     sum
 }
 
-/// Keeps an event, again where there is no memory for it.
+/// Keeps an event, again if there is no memory for it.
 fn keep(events: &mut Vec<Event>, event: &Event) -> Result<(), Unplayed> {
     for _again in 0..MOST_AGAIN {
         if let Ok(event) = event.clone()

@@ -42,7 +42,7 @@ const VERDICTS: &[Verdict] = &[
     Verdict::Gone,
 ];
 
-/// Adds a row, where there is one.
+/// Adds a row, if there is one.
 fn add_row(
     text: &mut String,
     version: Version,

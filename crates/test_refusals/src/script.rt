@@ -76,7 +76,7 @@ fn version(peer: Said) -> Version {
     }
 }
 
-/// The step of a line, where the connections have these versions.
+/// The step of a line, if the connections have these versions.
 fn step_of(
     alloc: Global,
     versions: &[Version],

@@ -1,4 +1,4 @@
-//! Decoding, cloning and encoding, each again where it is refused for memory.
+//! Decoding, cloning and encoding, each again if it is refused for memory.
 
 use crate::asked::Unplayed;
 use crate::play::mixed;

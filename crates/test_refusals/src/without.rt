@@ -1,4 +1,4 @@
-//! Calls and paths that take no memory, given where there is none. Those that have no answer for want of it need no look.
+//! Calls and paths that take no memory, given if there is none. Those that have no answer for want of it need no look.
 
 use crate::asked::{Table, Unplayed, asking, server};
 use crate::brought::{brought, writes_of};
@@ -195,7 +195,7 @@ pub fn tokens(alloc: Global) -> Result<bool, Unplayed> {
     Ok(held && table.ledger().len() == 1)
 }
 
-/// What a world answers to an event where there is no memory, and whether its report stands as it was.
+/// What a world answers to an event if there is no memory, and whether its report stands as it was.
 fn stepped(hunger: &mut Hunger, play: &mut Play, event: Event) -> (Result<Seen, Refused>, bool) {
     hunger.starve();
     let before = play.digest();

@@ -173,7 +173,7 @@ took_by (Ok fed) rest = record { used = fed.used; item = item_in fed.what; rest 
 took_by (Err (fault.TooBig used)) rest = record { used = used; item = Some TooBig; rest = rest }
 took_by (Err fault.Memory) rest = record { used = 0; item = None; rest = rest }
 
--- What a feed answers is what the reader of chunks takes, where no message was refused.
+-- What a feed answers is what the reader of chunks takes, if no message was refused.
 abbrev pub AnswersTake : Type 0
 AnswersTake = (s : Unfinished) (bytes : List ℕ) → s.too_big ≡ false
     → takes chunks s bytes ≡ took_by (answer_to s bytes).answer (answer_to s bytes).rest
@@ -183,7 +183,7 @@ abbrev pub arrivals : List Piece → List Item
 arrivals [] = []
 arrivals (p ∷ ps) = option_to_list (item_in p) ++ arrivals ps
 
--- the header past the limit as an item, where a message was refused
+-- the header past the limit as an item, if a message was refused
 abbrev pub refusal : Unfinished → List Item
 refusal s = if s.too_big then TooBig ∷ [] else []
 

@@ -23,7 +23,7 @@ inside sum lacks = record { header = None; lacks = lacks; sum = sum; too_big = f
 abbrev pub past : ℕ → Place
 past sum = record { header = None; lacks = 0; sum = sum; too_big = true }
 
--- a length is known: 0 ends a message, and is a no-op where none has begun
+-- a length is known: 0 ends a message, and is a no-op if none has begun
 abbrev pub on_length : ℕ → ℕ → ℕ → Bite
 on_length used sum n = if n == 0 then bite used (if sum == 0 then part.Noop else part.End) start
     else (if nat_lt max_message (sum + n) then bite used part.TooBig (past sum)

@@ -10,7 +10,7 @@ pub record Reader (R X : Type 0) : Type 0 where
   -- the item that the byte completes
   pub item : R → ℕ → Option X
 
--- The walk, by what a byte does to what is kept, by what is made of that and of the bytes after it, and by what is made where no
+-- The walk, by what a byte does to what is kept, by what is made of that and of the bytes after it, and by what is made if no
 -- bytes are left. What is made may stop at the first item, or go on; it may be the items, or what is kept.
 abbrev pub walk : {R D A : Type 0} → (R → ℕ → D) → (D → (R → A) → A) → (R → A) → R → List ℕ → A
 walk does made ended r [] = ended r

@@ -33,7 +33,7 @@ abbrev pub OneWhole : Type 0
 OneWhole = (ms : List (List ℕ)) (bytes : List ℕ) → AreBytes bytes → IsWhole ms bytes
     → ms ≡ whole bytes
 
--- A message is refused exactly where a header takes it past the limit.
+-- A message is refused exactly if a header takes it past the limit.
 abbrev pub RefusesPast : Type 0
 RefusesPast = (bytes : List ℕ) → AreBytes bytes
     → ((items_of fresh bytes).rest.too_big ≡ true) ↔ IsPast bytes

@@ -128,7 +128,7 @@ enum Scan {
     TooBig(usize),
 }
 
-/// Takes the bytes up to the end of the item. Where there is no memory for its data, what was there before stays in front.
+/// Takes the bytes up to the end of the item. If there is no memory for its data, what was there before stays in front.
 fn scan_piece(body: &mut BytesMut, chunks: &mut Chunks, piece: &[u8]) -> Result<Scan, AllocError>
     requires holds { Holds body.old.items chunks.old }
     requires going { chunks.old.too_big ≡ false }

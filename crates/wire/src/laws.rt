@@ -58,7 +58,7 @@ pub fn run_is_short()
     ensures { RunIsShort }
 {}
 
-/// An answer is a refusal exactly where the item is refused from then on.
+/// An answer is a refusal exactly if the item is refused from then on.
 #[tactic(auto, using(crate::proofs::Limits::tells_too_big))]
 pub fn tells_too_big()
     ensures { TellsTooBig }
@@ -91,7 +91,7 @@ pub fn one_whole()
     ensures { OneWhole }
 {}
 
-/// A message is refused exactly where, after runs, no-ops and chunks, a header takes it past 65,536 bytes.
+/// A message is refused exactly if, after runs, no-ops and chunks, a header takes it past 65,536 bytes.
 #[tactic(auto, using(crate::proofs::Fronts::refuses_past))]
 pub fn refuses_past()
     ensures { RefusesPast }

@@ -44,11 +44,11 @@ pub fn offer(wish: Wish) -> [u8; 20]
 }
 
 /// The version that a server takes of an offer: of the first of the four proposals, in the client's order, that covers a version of
-/// this product, the newest that it covers; none where no proposal covers one. A proposal whose first byte isn't 0 covers nothing;
-/// any other covers its major version with the minor versions from `minor - range`, or 0 where that is negative, to `minor` ("Bolt
+/// this product, the newest that it covers; none if no proposal covers one. A proposal whose first byte isn't 0 covers nothing;
+/// any other covers its major version with the minor versions from `minor - range`, or 0 if that is negative, to `minor` ("Bolt
 /// handshake").
 ///
-/// `BadMagic` exactly where the first four bytes aren't `60 60 B0 17`. Takes no memory.
+/// `BadMagic` exactly if the first four bytes aren't `60 60 B0 17`. Takes no memory.
 pub fn choose(offer: &[u8; 20]) -> Result<Option<Version>, BadMagic>
     ensures bad { IsErr result ↔ (take 4 offer.now ≢ magic) }
     ensures good { OnOk result (take 4 offer.now ≡ magic) }

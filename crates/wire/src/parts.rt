@@ -158,7 +158,7 @@ impl Chunks {
         }
     }
 
-    /// The message that the piece begins with, lent, where none is begun and it is there whole, in one chunk; else none. The place
+    /// The message that the piece begins with, lent, if none is begun and it is there whole, in one chunk; else none. The place
     /// stays: behind the message, which took four bytes more than it has, it is the same. Takes no memory.
     pub fn message_in<'a>(&self, piece: &'a [u8]) -> Option<&'a [u8]>
         ensures { (m : List ℕ) → (option_map (λ d. d.now) result ≡ Some m)

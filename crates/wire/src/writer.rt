@@ -14,7 +14,7 @@ const MAX_CHUNK: usize = 65535;
 /// Appends the message, of one byte or more, in chunks as long as they may be: each a length of two bytes, big-endian, and so many bytes,
 /// then `00 00`.
 ///
-/// X1, with 0 used, exactly where the message is past 65,536 bytes; X2 for want of memory. Nothing is appended then.
+/// X1, with 0 used, exactly if the message is past 65,536 bytes; X2 for want of memory. Nothing is appended then.
 pub fn put_message(message: &[u8], out: &mut BytesMut) -> Result<(), WireFault>
     requires { 0 < length message.now }
     ensures ok { OnOk result (out.new.items ≡ out.old.items ++ written_run message.now) }

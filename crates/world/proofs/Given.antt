@@ -12,7 +12,7 @@ use Rattle.world.proofs.Sound.{none_of, Sound}
 use Rattle.wire.specs.declared.Wish.{Wish}
 use Rattle.wire.specs.Prelude.{reach, wish_version}
 use Rattle.messages.specs.Prelude.{hears, IsWritten, RequestView}
-use Rattle.engine.specs.Prelude.{EntryView}
+use Rattle.engine.specs.Prelude.{EntryView, Welcome}
 use Rattle.server.specs.declared.Server.{Server}
 use Rattle.session.specs.Prelude.{Setting}
 use Rattle.server.specs.Views as server
@@ -67,9 +67,9 @@ client_here m k y f is = go k.peer refl f.client
     go (Ours wish) e h = (wish, e, (h.out, same_Some y (client_rest h.out k) (sym is ∙ h.client_is)))
     go Foreign e h = let no : None ≡ Some y = sym h.0 ∙ is in cc
 
-module _ {E G : Type 0} {entries : E → List EntryView} {answer : Definition} {accepts : G → List ℕ → List ℕ → Bool} {c : ℕ} {l : LinkHeld} {s : Server E G} {r : Rest G} {w : World} where
+module _ {E G : Type 0} {entries : E → List EntryView} {answer : Definition} {welcomes : G → Welcome} {c : ℕ} {l : LinkHeld} {s : Server E G} {r : Rest G} {w : World} where
   -- bytes for the peer
-  module _ {n : ℕ} (b : Before entries answer accepts (ToClient c n) l s r w) where
+  module _ {n : ℕ} (b : Before entries answer welcomes (ToClient c n) l s r w) where
     abbrev m : Link
     m = link_at b
 
@@ -257,7 +257,7 @@ module _ {E G : Type 0} {entries : E → List EntryView} {answer : Definition} {
           ∙ (let x = so.counts in let y = so.below in length-take-le (taken_for n k - k.down) (drop k.down (output k)) (omega (arith, length-drop k.down (output k))))) a.0 a.2 o.1 same ends
 
   -- a request
-  module _ {q : RequestView} (b : Before entries answer accepts (Submit c q) l s r w) where
+  module _ {q : RequestView} (b : Before entries answer welcomes (Submit c q) l s r w) where
     abbrev m_asked : Link
     m_asked = link_at b
 
@@ -310,7 +310,7 @@ module _ {E G : Type 0} {entries : E → List EntryView} {answer : Definition} {
     submit_turns _ l2 x = absurd x
 
   -- the loss of the client
-  module _ (b : Before entries answer accepts (ClientLost c) l s r w) where
+  module _ (b : Before entries answer welcomes (ClientLost c) l s r w) where
     abbrev T : Setting
     T = setting_at b
 
@@ -345,6 +345,6 @@ module _ {E G : Type 0} {entries : E → List EntryView} {answer : Definition} {
     loses_turns _ l2 x = absurd x
 
 -- of an event that is known by an equation
-pub event_is : {E G : Type 0} (entries : E → List EntryView) (answer : Definition) (accepts : G → List ℕ → List ℕ → Bool) (x y : EventTold) (l : LinkHeld) (s : Server E G) (res : Result SeenTold Refused) (l2 : LinkHeld) (s2 : Server E G)
-    → x ≡ y → Turns entries answer accepts (event_of y) l s res l2 s2 → Turns entries answer accepts (event_of x) l s res l2 s2
-event_is entries answer accepts x y l s res l2 s2 is t = let P : EventTold → Type 0 = λ z. Turns entries answer accepts (event_of z) l s res l2 s2 in subst P (sym is) t
+pub event_is : {E G : Type 0} (entries : E → List EntryView) (answer : Definition) (welcomes : G → Welcome) (x y : EventTold) (l : LinkHeld) (s : Server E G) (res : Result SeenTold Refused) (l2 : LinkHeld) (s2 : Server E G)
+    → x ≡ y → Turns entries answer welcomes (event_of y) l s res l2 s2 → Turns entries answer welcomes (event_of x) l s res l2 s2
+event_is entries answer welcomes x y l s res l2 s2 is t = let P : EventTold → Type 0 = λ z. Turns entries answer welcomes (event_of z) l s res l2 s2 in subst P (sym is) t

@@ -1,8 +1,8 @@
 -- What a step leaves as it was, how the ledger grows, and how much is kept.
-use Rattle.std.proofs.Common.{◌==◌, ◌≡◌, ℕ, Some, List, refl, sym, ◌∙◌, subst, Option, Ok, None, [], ◌∷◌, ◌++◌, length, take, drop, slice_get, slice_set, append-nil, append_assoc, length-append, length-set, ◌<◌, arith, ◌⊎◌, inl, inr, ap, ◌+◌, ◌-◌, ◌≤◌, Bool, true, false, min, true≢false, is_some, ⊎_elim}
+use Rattle.std.proofs.Common.{◌==◌, ◌≡◌, ℕ, Some, List, refl, sym, ◌∙◌, subst, Option, Ok, None, [], ◌∷◌, ◌++◌, length, take, drop, slice_get, slice_set, append-nil, append_assoc, length-append, length-set, ◌<◌, arith, ◌⊎◌, inl, inr, ap, ◌+◌, ◌-◌, ◌≤◌, true, false, min, true≢false, is_some, ⊎_elim}
 use Rattle.messages.specs.Prelude.{RequestView, Arrival, Asked}
 use Rattle.machine.specs.declared.State.{State}
-use Rattle.engine.specs.Prelude.{EntryView, TokensOnce, added_by}
+use Rattle.engine.specs.Prelude.{EntryView, TokensOnce, added_by, Welcome}
 use Rattle.session.proofs.Free.{entry_in, serve_free}
 use Rattle.session.specs.Prelude.{IsFree, Open, Reply, Setting, Summary, Tx, Change, commit_entries, Step, work_kept, worked_of}
 use Rattle.world.specs.Prelude.{Connection, said_version, fresh, answer_count, input, output, kept_of, arrivals_at, Effect, IsCountedIn, effect_of_step, work, World, Event, Work, Seen, IsLedger, after_effect, effect_at_peer, ledger, place, step, taken_out, Reached, begins, goes_on, takes_out, Fed, SawWork, SawNoop, SawNothing, quiet, Gave, feed, give, taken_for, noop, server_gone, live, CommitsOnce, Each, IsAt, Enters, LeavesOthers, GrowsByWork, Commits, GrowsByCommits, server_rest, live_of, Definition, setting_of}
@@ -124,16 +124,16 @@ bounded_at : (ss : List Live) (j : ℕ) (l : Live) → AllBounded ss → find j 
 bounded_at [] j l b h = cc
 bounded_at (s ∷ ss) j l b h = cond_both (s.conn == j) (Some s) (find j ss) (λ o. o ≡ Some l → Bounded l) (λ _ e. subst Bounded (same_Some s l e) b.0) (λ _ e. bounded_at ss j l b.1 e) h
 
-module _ {G : Type 0} (answer : Definition) (accepts : G → List ℕ → List ℕ → Bool) (gate : G) where
+module _ {G : Type 0} (answer : Definition) (welcomes : G → Welcome) (gate : G) where
   abbrev S : Setting
-  S = setting_of answer accepts gate
+  S = setting_of answer welcomes gate
 
   abbrev rest : World → serving.Rest G
   rest w = server_rest gate w
 
   -- the server's part of a step: nothing, or one call
   abbrev MovesTo : World → serving.Rest G → Type 0
-  MovesTo w r = (rest w ≡ r) ⊎ ((e : running.Event) × (r ≡ after_event answer accepts e (rest w)))
+  MovesTo w r = (rest w ≡ r) ⊎ ((e : running.Event) × (r ≡ after_event answer welcomes e (rest w)))
 
   module _ (w : World) (c : ℕ) (k : Connection) (here : slice_get w.conns c ≡ Some k) (s : Sound k) where
     abbrev P : Effect → Type 0
@@ -151,7 +151,7 @@ module _ {G : Type 0} (answer : Definition) (accepts : G → List ℕ → List �
     lost_hidden k2 seen e l = hidden k2 seen l (λ lives. absurd (true≢false (sym e ∙ lives)))
 
     -- one call, by what it answers
-    called : {A : Type 0} (e : running.Event) (o : Option (A × serving.Rest G)) (a : A) (r : serving.Rest G) → after_event answer accepts e (rest w) ≡ after_call o (rest w) → o ≡ Some (a, r) → MovesTo w r
+    called : {A : Type 0} (e : running.Event) (o : Option (A × serving.Rest G)) (a : A) (r : serving.Rest G) → after_event answer welcomes e (rest w) ≡ after_call o (rest w) → o ≡ Some (a, r) → MovesTo w r
     called e o a r h is = inr (e, sym (h ∙ ap (λ z. after_call z (rest w)) is))
 
     works : P (work S c (ledger w) k)
@@ -160,7 +160,7 @@ module _ {G : Type 0} (answer : Definition) (accepts : G → List ℕ → List �
         (λ n st re tx q later _ e. moved _ n e) refl
       where
         moved : (d : Step) → k.ended ≡ None → d ≡ work_kept S c (ledger w) (kept_of k) k.ended → P (effect_of_step k d)
-        moved d n e = subst (λ z. P (effect_of_step k z)) (sym e) (called (running.works c) _ _ _ refl (work_served G gate w c k here (still_lives k s (ap is_some n)) s answer accepts))
+        moved d n e = subst (λ z. P (effect_of_step k z)) (sym e) (called (running.works c) _ _ _ refl (work_served G gate w c k here (still_lives k s (ap is_some n)) s answer welcomes))
 
     noops : P (noop k)
     noops =
@@ -206,15 +206,15 @@ module _ {G : Type 0} (answer : Definition) (accepts : G → List ℕ → List �
 
   -- over every list of steps: the server's rest is that of a list of calls
   abbrev Calls : List EntryView → World → Type 0
-  Calls brought w = (es : List running.Event) × (rest w ≡ after_events answer accepts es (serving.empty brought gate))
+  Calls brought w = (es : List running.Event) × (rest w ≡ after_events answer welcomes es (serving.empty brought gate))
 
-  events_more : (es : List running.Event) (e : running.Event) (r : serving.Rest G) → after_events answer accepts (es ++ e ∷ []) r ≡ after_event answer accepts e (after_events answer accepts es r)
+  events_more : (es : List running.Event) (e : running.Event) (r : serving.Rest G) → after_events answer welcomes (es ++ e ∷ []) r ≡ after_event answer welcomes e (after_events answer welcomes es r)
   events_more [] e r = refl
-  events_more (x ∷ es) e r = events_more es e (after_event answer accepts x r)
+  events_more (x ∷ es) e r = events_more es e (after_event answer welcomes x r)
 
   one_more : (brought : List EntryView) (w w2 : World) → MovesTo w (rest w2) → Calls brought w → Calls brought w2
   one_more brought w w2 (inl e) h = (h.0, sym e ∙ h.1)
-  one_more brought w w2 (inr m) h = (h.0 ++ m.0 ∷ [], m.1 ∙ ap (after_event answer accepts m.0) h.1 ∙ sym (events_more h.0 m.0 (serving.empty brought gate)))
+  one_more brought w w2 (inr m) h = (h.0 ++ m.0 ∷ [], m.1 ∙ ap (after_event answer welcomes m.0) h.1 ∙ sym (events_more h.0 m.0 (serving.empty brought gate)))
 
   reached_calls : (brought : List EntryView) {w : World} → Reached S brought w → Calls brought w
   reached_calls brought (begins l) = ([], ap (λ es. serving.empty es gate) (append-nil brought))
@@ -229,7 +229,7 @@ module _ {G : Type 0} (answer : Definition) (accepts : G → List ℕ → List �
           taken_case (λ t. MovesTo w (put t w.since)) k.peer n k (subst (λ es. MovesTo w (put k.taken es)) (append-nil w.since) (still w c k g s SawNothing))
           (subst (λ es. MovesTo w (put (taken_for n k) es)) (append-nil w.since) (takes w c k g s n k.down SawNothing))
 
-  pub sessions_within : ((brought : List EntryView) (events : List running.Event) → IsKept (after_events answer accepts events (serving.empty brought gate)))
+  pub sessions_within : ((brought : List EntryView) (events : List running.Event) → IsKept (after_events answer welcomes events (serving.empty brought gate)))
       → (brought : List EntryView) (w : World) → Reached S brought w → (live w ≤ 16) × ((c : ℕ) (k : Connection) → slice_get w.conns c ≡ Some k → k.server_lost ≡ false → Bounded (live_of c k))
   sessions_within kept brought w r =
       let h = reached_calls brought r in
@@ -250,7 +250,7 @@ module _ {G : Type 0} (answer : Definition) (accepts : G → List ℕ → List �
     by_call lives = go g2.0 g2.1 (running.works c) refl g2.2
       where
         g2 : Grows (running.works c) (rest w) (rest w2)
-        g2 = subst (λ r. Grows (running.works c) (rest w) r) (ap (λ o. after_call o (rest w)) (work_served G gate w c k here lives s answer accepts)) (grows answer accepts (running.works c) (rest w))
+        g2 = subst (λ r. Grows (running.works c) (rest w) r) (ap (λ o. after_call o (rest w)) (work_served G gate w c k here lives s answer welcomes)) (grows answer welcomes (running.works c) (rest w))
 
         go : (more : List EntryView) → ledger w2 ≡ ledger w ++ more → (ev : running.Event) → ev ≡ running.works c → Adds (rest w) ev more → Comes w2
         go more h ev e (nothing x) = inl (h ∙ append-nil (ledger w))
@@ -282,7 +282,7 @@ pub grows_by_commits : GrowsByCommits
 grows_by_commits S brought w reached e seen w2 h = go e seen w2 (step_did S w e seen w2 h)
   where
     comes_by : (e : Event) (k : Connection) (x : Effect) → slice_get w.conns (place e) ≡ Some k → Deed S (place e) (ledger w) k e x → (ledger (after_effect w (place e) k x) ≡ ledger w) ⊎ Commits w e (after_effect w (place e) k x)
-    comes_by e k x here (deed.works i) = comes S.run (λ (u : Unit {0}). S.check) tt w i k here (reached_sound S brought reached i k here)
+    comes_by e k x here (deed.works i) = comes S.run (λ (u : Unit {0}). S.welcome) tt w i k here (reached_sound S brought reached i k here)
     comes_by e k x here d = inl (ap (λ o. w.brought ++ (w.since ++ commit_entries (place e) (answer_count k.says) o)) (⊎_elim (λ none. none) (λ is. cc) (deed_commits d).0) ∙ ap (λ es. w.brought ++ es) (append-nil w.since))
 
     go : (e : Event) (seen : Seen) (w2 : World) → Did S w e seen w2 → (ledger w2 ≡ ledger w) ⊎ Commits w e w2

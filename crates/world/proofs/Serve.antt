@@ -263,16 +263,16 @@ module _ (S : Setting) (c : ℕ) (numbered : c < 2 ^ 64) (front : List EntryView
 
   logs_on : (v : Version) (s : State) (q : RequestView) (a : AuthView) (tx t : Tx) (w : Change) (x : summaries.Summary) → Keeps S v front s q t w tx (succeeds (response_of_summary x)) → Keeps S v front s q t w tx (fails Fault.Unauthorized)
       → Keeps S v front s q t w tx (reply_to_login S a (response_of_summary x))
-  logs_on v s q a tx t w x let_in refused = cond_both (bytes_eq a.scheme (codes "basic") && S.check a.principal a.credentials) _ _ (Keeps S v front s q t w tx) (λ e. let_in) (λ e. refused)
+  logs_on v s q a tx t w x let_in refused = cond_both (bytes_eq a.scheme (codes "basic") && S.welcome.accepts a.principal a.credentials) _ _ (Keeps S v front s q t w tx) (λ e. let_in) (λ e. refused)
 
   -- a HELLO, by whether it carries who the client is
   greets_keep : (v : Version) (b : Bool) (agent : List ℕ) (auth : Option AuthView) (tx t : Tx) (w : Change) → hello_has_login v ≡ b
-      → Keeps S v front State.Fresh (RequestView.Hello agent auth) t w tx (if b then reply_to_hello S auth (response_of_summary (summaries.Greeting c)) else succeeds (response_of_summary (summaries.Greeting c)))
-  greets_keep v false agent auth tx t w e = keeps_succeeds v State.Fresh State.Unauth (RequestView.Hello agent auth) t w tx (summaries.Greeting c) numbered tt refl refl (hello_row v false e) tt refl
+      → Keeps S v front State.Fresh (RequestView.Hello agent auth) t w tx (if b then reply_to_hello S auth (response_of_summary (summaries.Greeting S.welcome.agent c)) else succeeds (response_of_summary (summaries.Greeting S.welcome.agent c)))
+  greets_keep v false agent auth tx t w e = keeps_succeeds v State.Fresh State.Unauth (RequestView.Hello agent auth) t w tx (summaries.Greeting S.welcome.agent c) (S.welcome.short, numbered) S.welcome.text refl refl (hello_row v false e) tt refl
   greets_keep v true agent None tx t w e = keeps_fails v State.Fresh State.Defunct (RequestView.Hello agent None) t w tx Fault.Unauthorized refl refl tt tt
   greets_keep v true agent (Some a) tx t w e =
-      logs_on v State.Fresh (RequestView.Hello agent (Some a)) a tx t w (summaries.Greeting c)
-      (keeps_succeeds v State.Fresh State.Ready (RequestView.Hello agent (Some a)) t w tx (summaries.Greeting c) numbered tt refl refl (hello_row v true e) tt refl)
+      logs_on v State.Fresh (RequestView.Hello agent (Some a)) a tx t w (summaries.Greeting S.welcome.agent c)
+      (keeps_succeeds v State.Fresh State.Ready (RequestView.Hello agent (Some a)) t w tx (summaries.Greeting S.welcome.agent c) (S.welcome.short, numbered) S.welcome.text refl refl (hello_row v true e) tt refl)
       (keeps_fails v State.Fresh State.Defunct (RequestView.Hello agent (Some a)) t w tx Fault.Unauthorized refl refl tt tt)
 
   performs : (v : Version) (s : State) (left : Open) (tx t : Tx) (w : Change) (q : RequestView) → Held s left tx t w

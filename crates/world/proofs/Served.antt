@@ -5,7 +5,7 @@ use Rattle.wire.specs.Prelude.{state, takes as reads, reach, at_server, bytes_ne
 use Rattle.messages.specs.Prelude.{RequestView, ResponseView, Arrival, Shook, NoMagic, Asked, Unread, TooLong, arrivals, Heard, Chosen, heard_bytes}
 use Rattle.machine.specs.declared.State.{State}
 use Rattle.machine.specs.Prelude.{kind_of, is_reset}
-use Rattle.engine.specs.Prelude.{EntryView, WriteView, ParameterView, AnswerView, QueryFault}
+use Rattle.engine.specs.Prelude.{EntryView, WriteView, ParameterView, AnswerView, QueryFault, Welcome}
 use Rattle.session.specs.declared.Cause.{Cause}
 use Rattle.session.specs.Prelude.{Setting, Open, Tx, Reply, OneRow, Summary, Bye, Step, after_item, after_interrupt, ends, puts, puts_noop, noop_kept, unread_among, work_kept, Kept, worked_of, what_of, shut, full, commit_entries}
 use Rattle.server.specs.Prelude.{arrival, Feeding, feeding, takes_item, Live, find, replace, without, places_of}
@@ -183,10 +183,10 @@ module _ (G : Type 0) (gate : G) (w : World) (c : ℕ) (k : Connection) (here : 
       ∙ after_call e l gone same)
 
   -- `work`
-  pub work_served : (answer : List EntryView → List WriteView → List ℕ → List ParameterView → QueryMode → Result AnswerView QueryFault) (accepts : G → List ℕ → List ℕ → Bool) → let S = serving.setting answer accepts r in
-      serving.work_at answer accepts c r ≡ Some (worked_of (work_kept S c (ledger w) (kept_of k) k.ended).answer, server_rest gate (after_effect w c k (work S c (ledger w) k)))
-  work_served answer accepts =
-      let S = serving.setting answer accepts r in let d = work_kept S c (ledger w) (kept_of k) k.ended in
+  pub work_served : (answer : List EntryView → List WriteView → List ℕ → List ParameterView → QueryMode → Result AnswerView QueryFault) (welcomes : G → Welcome) → let S = serving.setting answer welcomes r in
+      serving.work_at answer welcomes c r ≡ Some (worked_of (work_kept S c (ledger w) (kept_of k) k.ended).answer, server_rest gate (after_effect w c k (work S c (ledger w) k)))
+  work_served answer welcomes =
+      let S = serving.setting answer welcomes r in let d = work_kept S c (ledger w) (kept_of k) k.ended in
       ap (option_map (λ (l : Live). serving.after_step l (work_kept S l.conn r.ledger l.kept l.kept.ended) r)) found
       ∙ ap (λ x. Some (worked_of d.answer, x)) (after_call (work S c (ledger w) k) _ lives (ap (λ (x : Kept). let l : Live = record { conn = c; kept = x; unfinished = state at_server at_server.start k.up } in l) (sym (step_keeps k s S c (ledger w)))))
 

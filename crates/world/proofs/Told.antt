@@ -1,7 +1,7 @@
 -- What a report tells, and events one after the other.
-use Rattle.std.proofs.Common.{◌≡◌, refl, sym, ◌∙◌, ap, ap₂, subst, ℕ, ◌+◌, ◌<◌, Bool, Option, Some, None, List, [], ◌∷◌, length, slice_get, slice_index_or, arith, option_and_then, option_map, inl, inr, Result, Ok, Err, IsErr, OnOk, ◌++◌}
+use Rattle.std.proofs.Common.{◌≡◌, refl, sym, ◌∙◌, ap, ap₂, subst, ℕ, ◌+◌, ◌<◌, Option, Some, None, List, [], ◌∷◌, length, slice_get, slice_index_or, arith, option_and_then, option_map, inl, inr, Result, Ok, Err, IsErr, OnOk, ◌++◌}
 use Rattle.world.proofs.Turning.{along_at, held_at, cause_is, still_there}
-use Rattle.engine.specs.Prelude.{EntryView}
+use Rattle.engine.specs.Prelude.{EntryView, Welcome}
 use Rattle.session.specs.declared.Cause.{Cause}
 use Rattle.client.specs.Prelude.{knows_of}
 use Rattle.world.specs.declared.link.Link.{Link as LinkHeld}
@@ -27,8 +27,8 @@ read_long (SaysSummary x ∷ xs) later =
     let h = read_long xs (y ∷ later) in omega (arith, h)
 read_long (_ ∷ xs) later = read_long xs later
 
-module _ {E G : Type 0} {entries : E → List EntryView} (answer : Definition) (accepts : G → List ℕ → List ℕ → Bool)
-    {s : WorldHeld E G} {gate : G} {w : World} (f : IsWorld entries s gate w) {brought : List EntryView} (reached : Reached (setting_of answer accepts gate) brought w)
+module _ {E G : Type 0} {entries : E → List EntryView} (answer : Definition) (welcomes : G → Welcome)
+    {s : WorldHeld E G} {gate : G} {w : World} (f : IsWorld entries s gate w) {brought : List EntryView} (reached : Reached (setting_of answer welcomes gate) brought w)
     (c : ℕ) where
   module _ (few : c < length s.links.items) (l : LinkHeld) (is : l ≡ slice_index_or s.links.items c l) where
     abbrev pub held : (m : Link) × (slice_get f.rest.links c ≡ Some m) × Holds l m
@@ -46,7 +46,7 @@ module _ {E G : Type 0} {entries : E → List EntryView} (answer : Definition) (
     pub stands_as : (gone : Option Cause) → l.gone ≡ gone → (told : StandingTold) → StandsBy gone c f.rest.server told → standing_seen told ≡ standing k
     stands_as (Some cause) e told h = h ∙ sym (ap (standing_of k.state) (cause_is k.server_lost k.ended cause (sym there.2.flags.2 ∙ e)).1)
     stands_as None e told h =
-        let lives = still_there m k there.2 (reached_sound (setting_of answer accepts gate) brought reached c k there.1) e in
+        let lives = still_there m k there.2 (reached_sound (setting_of answer welcomes gate) brought reached c k there.1) e in
         let found : find c f.rest.server.sessions ≡ Some (live_of c k) =
         ap (λ z. find c z.sessions) f.fits.server ∙ find_at w.conns 0 c c k (omega arith) there.1 lives in
         h k.state (ap (λ o. option_map (λ (y : Live). y.kept.state) o) found) ∙ ap (λ o. standing_of k.state o) (ap (λ o. option_and_then (λ (y : Live). y.kept.ended) o) found)
@@ -58,7 +58,7 @@ module _ {E G : Type 0} {entries : E → List EntryView} (answer : Definition) (
         go : (p : Peer) → k.peer ≡ p → FitsClient k.peer m.client m.up k → waits k ≡ ordinals count (waiting_at held.2.client)
         go (Ours wish) p g =
             let old : FitsClient (Ours wish) m.client m.up k = subst (λ q. FitsClient q m.client m.up k) p g in let y = client_rest old.out k in
-            let good : Good (setting_of answer accepts gate) w c k = all_good (setting_of answer accepts gate) brought w reached c k wish there.1 p in
+            let good : Good (setting_of answer welcomes gate) w c k = all_good (setting_of answer welcomes gate) brought w reached c k wish there.1 p in
             let n : length (summaries_told k) ≡ (heard_by_bytes k).count =
             ap (λ q. length (by_peer q (read_after (heard_by_bytes k).told []))) p ∙ ap (λ ts. length (read_after ts [])) good.told ∙ read_long (delivered_whole k) [] ∙ sym (good.count_told ∙ (let same : answer_count (delivered_whole k) ≡ answer_count (delivered_whole k) + 0 = omega arith in same)) in
             ap (λ q. by_peer q (ordinals y.knows.first (length y.knows.waiting))) p ∙ ap₂ (λ i j. ordinals i j) (sym n ∙ long) (ap waiting_at (sym old.client_is))

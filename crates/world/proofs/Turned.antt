@@ -3,7 +3,7 @@ use Rattle.std.proofs.Common.{◌≡◌, refl, sym, ◌∙◌, ap, ap₂, subst,
 use Rattle.std.proofs.lemmas.Option.{some_pair_parts}
 use Rattle.std.proofs.lemmas.Bool.{cond-true, cond-false}
 use Rattle.wire.specs.declared.Wish.{Wish}
-use Rattle.engine.specs.Prelude.{EntryView}
+use Rattle.engine.specs.Prelude.{EntryView, Welcome}
 use Rattle.session.specs.declared.Cause.{Cause}
 use Rattle.session.specs.declared.What.{What}
 use Rattle.session.specs.declared.Worked.{Worked}
@@ -27,8 +27,8 @@ use Rattle.world.proofs.Clients.{TellsWritten}
 use Rattle.world.proofs.Deeds.{set_same}
 
 -- bytes for the server, whoever the peer is: none where its session was given up, and none after a cut
-module _ {E G : Type 0} {entries : E → List EntryView} {answer : Definition} {accepts : G → List ℕ → List ℕ → Bool} {e : Event} {l : LinkHeld} {s : Server E G} {r : Rest G} {w : World}
-    (b : Before entries answer accepts e l s r w) (same : step (setting_at b) w e ≡ at_conn (setting_at b) w e (place e) (slice_get w.conns (place e))) (tells : TellsWritten w e) (bytes : List ℕ) (feeds : DoesAt b (feed bytes (conn_at b))) where
+module _ {E G : Type 0} {entries : E → List EntryView} {answer : Definition} {welcomes : G → Welcome} {e : Event} {l : LinkHeld} {s : Server E G} {r : Rest G} {w : World}
+    (b : Before entries answer welcomes e l s r w) (same : step (setting_at b) w e ≡ at_conn (setting_at b) w e (place e) (slice_get w.conns (place e))) (tells : TellsWritten w e) (bytes : List ℕ) (feeds : DoesAt b (feed bytes (conn_at b))) where
   nowhere : (what : What) → feed bytes (conn_at b) ≡ quiet (conn_at b) (Fed 0 what) → TurnsTo b (Ok (Fed 0 what)) l s
   nowhere what h = rests b same (Fed 0 what) (feeds ∙ ap (λ z. let x : Result Effect Refusal = Ok z in x) h) tells tt
 
@@ -38,9 +38,9 @@ module _ {E G : Type 0} {entries : E → List EntryView} {answer : Definition} {
   pub fed_cut : l.gone ≡ None → l.is_cut ≡ true → TurnsTo b (Ok (Fed 0 What.Part)) l s
   fed_cut gone cut = nowhere What.Part (cond-false (conn_at b).server_lost _ _ (lives b gone) ∙ cond-true (conn_at b).cut _ _ (sym (found b).2.flags.0 ∙ cut))
 
-module _ {E G : Type 0} {entries : E → List EntryView} {answer : Definition} {accepts : G → List ℕ → List ℕ → Bool} {c : ℕ} {l : LinkHeld} {s : Server E G} {r : Rest G} {w : World} where
+module _ {E G : Type 0} {entries : E → List EntryView} {answer : Definition} {welcomes : G → Welcome} {c : ℕ} {l : LinkHeld} {s : Server E G} {r : Rest G} {w : World} where
   -- a step
-  module _ (b : Before entries answer accepts (Work c) l s r w) where
+  module _ (b : Before entries answer welcomes (Work c) l s r w) where
     pub works : DoesAt b (work (setting_at b) c (ledger w) (conn_at b))
     works = either (λ p. at_peer (setting_at b) c (ledger w) (Work c) p (conn_at b)) (Ok (work (setting_at b) c (ledger w) (conn_at b))) (λ _. refl) refl (conn_at b).peer
 
@@ -52,16 +52,16 @@ module _ {E G : Type 0} {entries : E → List EntryView} {answer : Definition} {
 
     pub work_done : (l2 : LinkHeld) (s2 : Server E G) (worked : Worked) → l.gone ≡ None → IsCounted worked
         → link_of l2 b.client ≡ record (link_at b) { wrote = (link_at b).wrote ++ wrote_by worked } → FitsEnd l2.end b.client
-        → answered.Answers (Ok worked) (serving.work_at answer accepts c r.server) r.server (server.Fits entries s2) → TurnsTo b (Ok (SawWork worked)) l2 s2
+        → answered.Answers (Ok worked) (serving.work_at answer welcomes c r.server) r.server (server.Fits entries s2) → TurnsTo b (Ok (SawWork worked)) l2 s2
     work_done l2 s2 worked gone counted same ends a =
         let k = conn_at b in let x = work (setting_at b) c (ledger w) k in
-        let is = some_pair_parts worked _ a.0 _ (sym a.1 ∙ ap (serving.work_at answer accepts c) b.fits.server ∙ work_served G r.server.gate w c k (found b).1 (lives b gone) (sound b) answer accepts) in
+        let is = some_pair_parts worked _ a.0 _ (sym a.1 ∙ ap (serving.work_at answer welcomes c) b.fits.server ∙ work_served G r.server.gate w c k (found b).1 (lives b gone) (sound b) answer welcomes) in
         let link = alone_link (link_at b) k (found b).2 (sound b) (lives b gone) (work_speaks (setting_at b) c (ledger w) k) refl _ refl in
         acts b refl x works (SawWork worked) (ap SawWork (sym is.0)) l2 s2 b.client a.0 ends a.2 is.1
         (subst (λ z. FitsLink z x.conn) (sym same) (subst (λ z. FitsLink (record (link_at b) { wrote = (link_at b).wrote ++ wrote_by z }) x.conn) (sym is.0) link)) tt counted
 
   -- a no-op
-  module _ (b : Before entries answer accepts (PutsNoop c) l s r w) where
+  module _ (b : Before entries answer welcomes (PutsNoop c) l s r w) where
     pub puts : DoesAt b (noop (conn_at b))
     puts = either (λ p. at_peer (setting_at b) c (ledger w) (PutsNoop c) p (conn_at b)) (Ok (noop (conn_at b))) (λ _. refl) refl (conn_at b).peer
 
@@ -83,7 +83,7 @@ module _ {E G : Type 0} {entries : E → List EntryView} {answer : Definition} {
         (alone_link (link_at b) k (found b).2 (sound b) (lives b gone) (noop_speaks k) refl wrote (sym (append-nil wrote))) tt tt
 
   -- a cut
-  module _ (b : Before entries answer accepts (Cut c) l s r w) where
+  module _ (b : Before entries answer welcomes (Cut c) l s r w) where
     pub cut_done : TurnsTo b (Ok SawNothing) (record l { is_cut = true }) s
     cut_done =
         let k = conn_at b in let k2 = record k { cut = true } in
@@ -92,7 +92,7 @@ module _ {E G : Type 0} {entries : E → List EntryView} {answer : Definition} {
         (unseen_link (link_at b) (record (link_at b) { cut = true }) k k2 f f.down (refl, f.flags.1, f.flags.2)) tt tt
 
   -- bytes of a client of ours
-  module _ {n : ℕ} (b : Before entries answer accepts (ToServer c n) l s r w) {wish : Wish} (ours : end_peer l.end ≡ Ours wish) where
+  module _ {n : ℕ} (b : Before entries answer welcomes (ToServer c n) l s r w) {wish : Wish} (ours : end_peer l.end ≡ Ours wish) where
     abbrev piece : List ℕ
     piece = take n (drop (length (conn_at b).up) (input wish (conn_at b).sent))
 
@@ -130,7 +130,7 @@ module _ {E G : Type 0} {entries : E → List EntryView} {answer : Definition} {
         (subst (λ z. FitsLink z (feed piece k).conn) (sym same) (subst (λ z. FitsLink (record m { client = y2; up = drop (used_seen z) held }) (feed piece k).conn) seen (server_link m k (found b).2 (sound b) (lives b gone) wish peer_up n y is))) tt tt
 
   -- bytes of a foreign peer
-  module _ {bytes : List ℕ} (b : Before entries answer accepts (Feeds c bytes) l s r w) (foreign : end_peer l.end ≡ Foreign) where
+  module _ {bytes : List ℕ} (b : Before entries answer welcomes (Feeds c bytes) l s r w) (foreign : end_peer l.end ≡ Foreign) where
     peer_feed : (conn_at b).peer ≡ Foreign
     peer_feed = sym (found b).2.peer ∙ foreign
 
@@ -147,7 +147,7 @@ module _ {E G : Type 0} {entries : E → List EntryView} {answer : Definition} {
         (feed_link m k (found b).2 (sound b) (lives b gone) bytes m.client m.up fits) tt tt
 
   -- the loss of a session
-  module _ (b : Before entries answer accepts (ServerLost c) l s r w) where
+  module _ (b : Before entries answer welcomes (ServerLost c) l s r w) where
     pub goes : DoesAt b (server_gone (conn_at b))
     goes = either (λ p. at_peer (setting_at b) c (ledger w) (ServerLost c) p (conn_at b)) (Ok (server_gone (conn_at b))) (λ _. refl) refl (conn_at b).peer
 

@@ -2,7 +2,7 @@
 use Rattle.std.proofs.Common.{◌≡◌, refl, ap, subst, ℕ, zero, suc, Some, None, List, [], ◌∷◌, ◌++◌, length, slice_get, slice_set, sym, ◌∙◌, ◌^◌, Bool, true, false, ◌||◌, nat_le, is_some, Ok, Err, true≢false, Option, ⊎_elim, Result, IsOk, ◌<◌, ◌≤◌, slice_index_or, append-nil}
 use Rattle.world.specs.Prelude.{Alongside, Link, Rest, FitsLink, Fits, cause_seen, Peer, Connection, fresh, Ours, Foreign, World, Event, Opens, Seen, Opened, V3, step, live, place, IsCountedIn, WStep, Reached, goes_on, Effect, quiet, at_peer, with_effect, at_conn, after_effect, ledger, empty, Answers, MayLack, Leaves, opened_link, FitsEnd, link_of, end_peer, seen_of, peer_of, client_of, IsOpened, live_of, server_rest, IsOpens, IsWrong, ComesWrong, Definition, Now, Before, setting_of, seen_in, Holds, IsWorld, Turns}
 use Rattle.std.proofs.lemmas.Bool.{cond-true, cond-false, cases_Bool}
-use Rattle.engine.specs.Prelude.{EntryView}
+use Rattle.engine.specs.Prelude.{EntryView, Welcome}
 use Rattle.session.specs.Prelude.{Setting}
 use Rattle.session.specs.declared.Cause.{Cause}
 use Rattle.server.specs.Serving as serving
@@ -103,10 +103,10 @@ pub none_of : {A : Type 0} (o : Option A) → ((x : A) → o ≡ Some x → ⊥)
 none_of None h = refl
 none_of (Some x) h = absurd (h x refl)
 
-module _ {E G : Type 0} {entries : E → List EntryView} {answer : Definition} {accepts : G → List ℕ → List ℕ → Bool}
-    {e : Event} {l : LinkHeld} {s : Server E G} {r : Rest G} {w : World} (b : Before entries answer accepts e l s r w) where
+module _ {E G : Type 0} {entries : E → List EntryView} {answer : Definition} {welcomes : G → Welcome}
+    {e : Event} {l : LinkHeld} {s : Server E G} {r : Rest G} {w : World} (b : Before entries answer welcomes e l s r w) where
   abbrev pub setting_at : Setting
-  setting_at = serving.setting answer accepts r.server
+  setting_at = serving.setting answer welcomes r.server
 
   -- the link, and the connection that it stands for
   abbrev pub link_at : Link
@@ -130,7 +130,7 @@ module _ {E G : Type 0} {entries : E → List EntryView} {answer : Definition} {
 
   -- a link in its place and the server beside it, that stand for a world then; and with what is answered
   abbrev pub HeldIn : LinkHeld → Server E G → World → Type 0
-  HeldIn l2 s2 v = Now entries answer accepts r (place e) l2 s2 v
+  HeldIn l2 s2 v = Now entries answer welcomes r (place e) l2 s2 v
 
   abbrev pub TurnsTo : Result Seen Refused → LinkHeld → Server E G → Type 0
   TurnsTo res l2 s2 = Answers setting_at w e res (HeldIn l2 s2)
@@ -242,10 +242,10 @@ held_at ls ms c l h few is = along_at Holds ls ms c l h (slice_get-get_or ls c l
 pub held_past : (ls : List LinkHeld) (ms : List Link) (c : ℕ) → Alongside Holds ls ms → length ls ≤ c → slice_get ms c ≡ None
 held_past ls ms c h past = along_none Holds ls ms c h (slice_get_past ls c past)
 
-module _ {E G : Type 0} {entries : E → List EntryView} (answer : Definition) (accepts : G → List ℕ → List ℕ → Bool)
-    {s : WorldHeld E G} {gate : G} {w : World} (f : IsWorld entries s gate w) {brought : List EntryView} (reached : Reached (setting_of answer accepts gate) brought w) where
+module _ {E G : Type 0} {entries : E → List EntryView} (answer : Definition) (welcomes : G → Welcome)
+    {s : WorldHeld E G} {gate : G} {w : World} (f : IsWorld entries s gate w) {brought : List EntryView} (reached : Reached (setting_of answer welcomes gate) brought w) where
   abbrev S : Setting
-  S = setting_of answer accepts gate
+  S = setting_of answer welcomes gate
 
   abbrev r : Rest G
   r = f.rest
@@ -254,13 +254,13 @@ module _ {E G : Type 0} {entries : E → List EntryView} (answer : Definition) (
   nowhere e opens past = ((refuses_exactly S w e).no_connection.1 (opens, along_none FitsLink r.links w.conns (place e) f.fits.links (held_past s.links.items r.links (place e) f.links past)), f)
 
   pub placed : (e : Event) (c : ℕ) → c ≡ place e → c < length s.links.items → (l : LinkHeld) → l ≡ slice_index_or s.links.items c l → (res : Result SeenTold Refused) (l2 : LinkHeld) (s2 : Server E G)
-      → Turns entries answer accepts e l s.server res l2 s2 → (t : WorldHeld E G) → t.links.items ≡ slice_set s.links.items c l2 → t.server ≡ s2
+      → Turns entries answer welcomes e l s.server res l2 s2 → (t : WorldHeld E G) → t.links.items ≡ slice_set s.links.items c l2 → t.server ≡ s2
       → Answers S w e (seen_in res) (IsWorld entries t gate)
   placed e c at few l is res l2 s2 turn t links_are server_is =
       let h = held_at s.links.items r.links c l f.links few is in
       let link_is : slice_get r.links (place e) ≡ Some (link_of l h.2.client) = ap (slice_get r.links) (sym at) ∙ h.1 ∙ ap (λ z. Some z) h.2.link_is in
-      let b : Before entries answer accepts e l s.server r w = record { brought = brought; reached = subst (λ (g : G). Reached (setting_of answer accepts g) brought w) (sym f.gated) reached; client = h.2.client; ends = h.2.ends; server = f.server; at = link_is; fits = f.fits } in
-      answers_with S w e (seen_in res) (Now entries answer accepts r (place e) l2 s2) (IsWorld entries t gate)
+      let b : Before entries answer welcomes e l s.server r w = record { brought = brought; reached = subst (λ (g : G). Reached (setting_of answer welcomes g) brought w) (sym f.gated) reached; client = h.2.client; ends = h.2.ends; server = f.server; at = link_is; fits = f.fits } in
+      answers_with S w e (seen_in res) (Now entries answer welcomes r (place e) l2 s2) (IsWorld entries t gate)
       (λ w2 n. record {
         rest = record { links = slice_set r.links (place e) (link_of l2 n.client); server = n.rest };
         links = subst (λ ls. Alongside Holds ls (slice_set r.links (place e) (link_of l2 n.client))) (ap (λ i. slice_set s.links.items i l2) (sym at) ∙ sym links_are)
@@ -270,7 +270,7 @@ module _ {E G : Type 0} {entries : E → List EntryView} (answer : Definition) (
         gated = n.gated ∙ f.gated;
         fits = n.fits;
       })
-      (subst (λ (g : G). Answers (setting_of answer accepts g) w e (seen_in res) (Now entries answer accepts r (place e) l2 s2)) f.gated (turn r w b))
+      (subst (λ (g : G). Answers (setting_of answer welcomes g) w e (seen_in res) (Now entries answer welcomes r (place e) l2 s2)) f.gated (turn r w b))
 
   -- an opening
   pub opens_lacks : (peer : Peer) → serving.is_full r.server ≡ false → (t : WorldHeld E G) → t.links.items ≡ s.links.items → server.Fits entries t.server r.server

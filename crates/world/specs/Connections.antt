@@ -80,7 +80,7 @@ answer_count [] = 0
 answer_count (SaysSummary x ∷ xs) = suc (answer_count xs)
 answer_count (_ ∷ xs) = answer_count xs
 
--- the version that a session speaks: the one that it took, and 5.1 where none was taken
+-- the version that a session speaks: the one that it took, and 5.1 if none was taken
 abbrev pub said_version : Connection → Version
 said_version k = unwrap_or k.version Version.V51
 

@@ -35,7 +35,7 @@ pub record Lacks (S : Setting) (w : World) (e : Event) (Now : World → Type 0) 
   pub leaves : Leaves w e after
   pub now : Now after
 
--- the answer of a step, where the world fitted this one; and what is fitted then
+-- the answer of a step, if the world fitted this one; and what is fitted then
 abbrev pub Answers : Setting → World → Event → Result Seen Refused → (World → Type 0) → Type 0
 Answers S w e (Ok seen) Now = Succeeds S w e seen Now
 Answers S w e (Err NoSuchConnection) Now = (step S w e ≡ Err V1) × Now w

@@ -13,7 +13,7 @@ module _ {G : Type 0} where
     pub held : new ≡ old ++ taken
     pub now : Now after
 
-  -- of a session that was given up none; where there is no room for them, they came out or didn't
+  -- of a session that was given up none; if there is no room for them, they came out or didn't
   abbrev pub Draws : Option Cause → ℕ → ℕ → Rest G → List ℕ → Result (Unit {0}) AllocError → List ℕ
       → (Rest G → Type 0) → Type 0
   Draws (Some cause) c n r old result new Now = (new ≡ old) × Now r

@@ -34,7 +34,7 @@ pub record IsReport (k : Connection) (c : ConnectionTold) : Type 0 where
   pub waits : ordinals (length c.read.now) c.waits ≡ waits k
   pub standing : standing_seen c.standing ≡ standing k
 
--- what a report answers for a number: what is so of that connection; None where none was opened
+-- what a report answers for a number: what is so of that connection; None if none was opened
 abbrev pub Reports : World → ℕ → Option ConnectionTold → Type 0
 Reports w conn None = slice_get w.conns conn ≡ None
 Reports w conn (Some c) = (k : Connection) × (slice_get w.conns conn ≡ Some k) × IsReport k c

@@ -2,6 +2,7 @@
 use Rattle.std.specs.Prelude.{◌≡◌, ℕ, Option, Some, Result, Ok, Err, List, slice_get, slice_set, Bool, true, false}
 use Rattle.engine.specs.declared.Mode.{Mode as QueryMode}
 use Rattle.engine.specs.Views.{EntryView, WriteView, ParameterView, AnswerView, QueryFault}
+use Rattle.engine.specs.Welcomes.{Welcome}
 use Rattle.server.specs.declared.Server.{Server}
 use Rattle.server.specs.Serving as serving
 use Rattle.session.specs.Session.{Setting}
@@ -28,8 +29,8 @@ Definition = List EntryView → List WriteView → List ℕ → List ParameterVi
     → Result AnswerView QueryFault
 
 -- the setting by an engine's definition and a gate's, at what this gate is
-abbrev pub setting_of : {G : Type 0} → Definition → (G → List ℕ → List ℕ → Bool) → G → Setting
-setting_of answer accepts gate = record { run = answer; check = accepts gate }
+abbrev pub setting_of : {G : Type 0} → Definition → (G → Welcome) → G → Setting
+setting_of answer welcomes gate = record { run = answer; welcome = welcomes gate }
 
 -- what a step answers, as contracts see it: what is seen, or the refusal as it is
 abbrev pub seen_in : Result SeenTold Refused → Result Seen Refused
@@ -107,7 +108,7 @@ unfoldable pub FitsWorld : {E G : Type 0} → (E → List EntryView) → WorldHe
 FitsWorld entries s gate w = IsWorld entries s gate w
 
 module _ {E G : Type 0} (entries : E → List EntryView) (answer : Definition)
-    (accepts : G → List ℕ → List ℕ → Bool) where
+    (welcomes : G → Welcome) where
   -- a link in its place, and the server beside it, stand for the world then
   pub record Now (r : Rest G) (c : ℕ) (l : LinkHeld) (s : Server E G) (w : World) : Type 0 where
     pub client : Option asking.Rest
@@ -121,7 +122,7 @@ module _ {E G : Type 0} (entries : E → List EntryView) (answer : Definition)
   pub record Before (e : Event) (l : LinkHeld) (s : Server E G) (r : Rest G) (w : World)
       : Type 0 where
     pub brought : List EntryView
-    pub reached : Reached (serving.setting answer accepts r.server) brought w
+    pub reached : Reached (serving.setting answer welcomes r.server) brought w
     pub client : Option asking.Rest
     pub ends : FitsEnd l.end client
     pub server : server.Fits entries s r.server
@@ -133,7 +134,7 @@ module _ {E G : Type 0} (entries : E → List EntryView) (answer : Definition)
       → Type 0
   Turns e l s result l2 s2 =
       (r : Rest G) (w : World) → Before e l s r w
-      → Answers (serving.setting answer accepts r.server) w e (seen_in result)
+      → Answers (serving.setting answer welcomes r.server) w e (seen_in result)
       (Now r (place e) l2 s2)
 
 -- A world that fits what one event leads to from a world, or the same world where the event is refused and left out.

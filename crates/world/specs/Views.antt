@@ -63,7 +63,7 @@ wrote_of x = (x.ordinal, x.phase)
 abbrev pub read_of : Read → ReadSummary
 read_of x = record { ordinal = x.ordinal; phase = x.phase; outcome = x.outcome }
 
--- the outcomes at a client's loss, none where it wasn't lost
+-- the outcomes at a client's loss, none if it wasn't lost
 abbrev pub losses_of : Option (List (ℕ × Outcome)) → List (ℕ × Outcome)
 losses_of None = []
 losses_of (Some losses) = losses
@@ -73,7 +73,7 @@ abbrev pub end_peer : End → Peer
 end_peer (end.Ours wish c lost) = Ours wish
 end_peer end.Foreign = Foreign
 
--- the outcomes that the client of an end gave at its loss, where there is one and it was lost
+-- the outcomes that the client of an end gave at its loss, if there is one and it was lost
 abbrev pub end_lost : End → Option (List (ℕ × Outcome))
 end_lost (end.Ours wish c lost) = lost
 end_lost end.Foreign = None

@@ -12,7 +12,7 @@ use engine::{Engine, FixedTable, Gate, OneUser};
 use std::alloc::{AllocError, Global};
 
 /// The world after one step for each event in order, over an empty `FixedTable` and the gate of `user` with `pass`. Events that V1
-/// to V3 refuse are left out, and no others; V4 where a step, or making the gate, finds no memory.
+/// to V3 refuse are left out, and no others; V4 if a step, or making the gate, finds no memory.
 pub fn replay(alloc: Global, events: &[Event]) -> Result<World<FixedTable, OneUser>, Refused>
     ensures ok { IfOk result (Replayed (map event_of events.now)) }
     ensures fault { IfErr result (λ e. e ≡ Refused.Memory) }
@@ -33,8 +33,8 @@ fn follow_all<E: Engine, G: Gate>(
     events: &[Event],
 ) -> Result<(), AllocError>
     ensures { (gate : G) (brought : List EntryView) (w : WorldSeen)
-        → Goes E.entries (setting_of E.answer G.accepts gate) gate brought w [] world.old
-        → OnOk result (Goes E.entries (setting_of E.answer G.accepts gate) gate brought w
+        → Goes E.entries (setting_of E.answer G.welcomes gate) gate brought w [] world.old
+        → OnOk result (Goes E.entries (setting_of E.answer G.welcomes gate) gate brought w
         (map event_of events.now) world.new) }
 {
     for event in events {
@@ -46,9 +46,9 @@ fn follow_all<E: Engine, G: Gate>(
 /// One event, which V1 to V3 may refuse.
 fn follow<E: Engine, G: Gate>(world: &mut World<E, G>, event: &Event) -> Result<(), AllocError>
     ensures { (gate : G) (brought : List EntryView) (w : WorldSeen)
-        → Reached (setting_of E.answer G.accepts gate) brought w
+        → Reached (setting_of E.answer G.welcomes gate) brought w
         → FitsWorld E.entries world.old gate w
-        → OnOk result (GoesBy E.entries (setting_of E.answer G.accepts gate) gate brought w
+        → OnOk result (GoesBy E.entries (setting_of E.answer G.welcomes gate) gate brought w
         (event_of event.now) world.new) }
 {
     let event = event.clone()?;

@@ -31,7 +31,7 @@ impl Flow {
         self.first.len() + self.more.len()
     }
 
-    /// Joins them; where there is no room they stay as they are.
+    /// Joins them; if there is no room they stay as they are.
     pub fn join(&mut self) -> Result<(), AllocError>
         ensures same { flow_of self.new ≡ flow_of self.old }
         ensures joined { OnOk result (self.new.more ≡ []) }

@@ -34,7 +34,7 @@ pub(crate) fn to_server<E: Engine, G: Gate>(
     conn: u64,
     max: usize,
 ) -> Result<Seen, Refused>
-    ensures { Turns E.entries E.answer G.accepts (ToServer conn max) link.old server.old result
+    ensures { Turns E.entries E.answer G.welcomes (ToServer conn max) link.old server.old result
         link.new server.new }
 {
     let End::Ours { client, .. } = &mut link.end else {
@@ -63,7 +63,7 @@ pub(crate) fn foreign<E: Engine, G: Gate>(
     conn: u64,
     bytes: &[u8],
 ) -> Result<Seen, Refused>
-    ensures { Turns E.entries E.answer G.accepts (Feeds conn bytes.now) link.old server.old result
+    ensures { Turns E.entries E.answer G.welcomes (Feeds conn bytes.now) link.old server.old result
         link.new server.new }
 {
     let End::Foreign = &link.end else {
@@ -88,7 +88,7 @@ pub(crate) fn to_client<E: Engine, G: Gate>(
     conn: u64,
     max: usize,
 ) -> Result<Seen, Refused>
-    ensures { Turns E.entries E.answer G.accepts (ToClient conn max) link.old server.old result
+    ensures { Turns E.entries E.answer G.welcomes (ToClient conn max) link.old server.old result
         link.new server.new }
 {
     if link.is_cut {
@@ -112,7 +112,7 @@ fn hear<E: Engine, G: Gate>(
 ) -> Result<Seen, Refused>
     requires joined { link.old.is_cut ≡ false }
     requires ours { end_peer link.old.end ≡ ForeignPeer → ⊥ }
-    ensures { Turns E.entries E.answer G.accepts (ToClient conn max) link.old server.old result
+    ensures { Turns E.entries E.answer G.welcomes (ToClient conn max) link.old server.old result
         link.new server.new }
 {
     let End::Ours { client, .. } = &mut link.end else {
@@ -169,7 +169,7 @@ fn drain<E: Engine, G: Gate>(
 ) -> Result<Seen, Refused>
     requires joined { link.old.is_cut ≡ false }
     requires foreign { end_peer link.old.end ≡ ForeignPeer }
-    ensures { Turns E.entries E.answer G.accepts (ToClient conn max) link.old server.old result
+    ensures { Turns E.entries E.answer G.welcomes (ToClient conn max) link.old server.old result
         link.new server.new }
 {
     if link.down.join().is_err() {

@@ -13,7 +13,7 @@ use engine::{Engine, Gate};
 use server::{Cause, Server};
 use std::alloc::AllocError;
 
-/// Takes out of a client what is missing to so many bytes. Where there is no room, the bytes that came out are held all the same.
+/// Takes out of a client what is missing to so many bytes. If there is no room, the bytes that came out are held all the same.
 pub(crate) fn draw_up(client: &mut Client, up: &mut Flow, max: usize) -> Result<(), AllocError>
     ensures ok { (x : Asking) → FitsClient client.old x
         → OnOk result (FitsClient client.new (taken_out x (max - length (flow_of up.old)))

@@ -58,10 +58,10 @@ impl<'a, E: Engine, G: Gate> Report<'a, E, G> {
         self.world.connections()
     }
 
-    /// What is reported of a connection; None where no such was opened. Takes no memory.
+    /// What is reported of a connection; None if no such was opened. Takes no memory.
     pub fn connection(&self, conn: u64) -> Option<Connection<'a>>
         ensures { (gate : G) (brought : List EntryView) (w : WorldSeen)
-            → Reached (setting_of E.answer G.accepts gate) brought w
+            → Reached (setting_of E.answer G.welcomes gate) brought w
             → Lends E.entries self.now gate w → Reports w conn result }
     {
         self.world.connection(conn)

@@ -17,7 +17,7 @@ pub(crate) fn lose_server<E: Engine, G: Gate>(
     server: &mut Server<E, G>,
     conn: u64,
 ) -> Result<Seen, Refused>
-    ensures { Turns E.entries E.answer G.accepts (ServerLost conn) link.old server.old result
+    ensures { Turns E.entries E.answer G.welcomes (ServerLost conn) link.old server.old result
         link.new server.new }
 {
     if let Some(_) = link.gone {

@@ -22,7 +22,7 @@ pub(crate) fn turn<E: Engine, G: Gate>(
     event: Event,
 ) -> Result<Seen, Refused>
     requires { IsOpens (event_of event) → ⊥ }
-    ensures { Turns E.entries E.answer G.accepts (event_of event) link.old server.old result
+    ensures { Turns E.entries E.answer G.welcomes (event_of event) link.old server.old result
         link.new server.new }
 {
     match event {
@@ -48,7 +48,7 @@ fn work<E: Engine, G: Gate>(
     server: &mut Server<E, G>,
     conn: u64,
 ) -> Result<Seen, Refused>
-    ensures { Turns E.entries E.answer G.accepts (Work conn) link.old server.old result link.new
+    ensures { Turns E.entries E.answer G.welcomes (Work conn) link.old server.old result link.new
         server.new }
 {
     if let Some(cause) = link.gone {
@@ -83,7 +83,7 @@ fn noop<E: Engine, G: Gate>(
     server: &mut Server<E, G>,
     conn: u64,
 ) -> Result<Seen, Refused>
-    ensures { Turns E.entries E.answer G.accepts (PutsNoop conn) link.old server.old result link.new
+    ensures { Turns E.entries E.answer G.welcomes (PutsNoop conn) link.old server.old result link.new
         server.new }
 {
     if let Some(_) = link.gone {

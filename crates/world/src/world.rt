@@ -35,9 +35,9 @@ impl<E: Engine, G: Gate> World<E, G> {
     /// A world without connections, over the ledger that the engine brings. Takes no memory.
     pub fn new(alloc: Global, engine: E, gate: G) -> World<E, G>
         ensures fits { FitsWorld E.entries result gate (empty (E.entries engine)) }
-        ensures reached { Reached (setting_of E.answer G.accepts gate) (E.entries engine)
+        ensures reached { Reached (setting_of E.answer G.welcomes gate) (E.entries engine)
             (empty (E.entries engine)) }
-        ensures good { AllGood (setting_of E.answer G.accepts gate) (empty (E.entries engine)) }
+        ensures good { AllGood (setting_of E.answer G.welcomes gate) (empty (E.entries engine)) }
     {
         // What the engine brings is a ledger: no two of its entries have one token.
         let _count = engine.ledger().len();
@@ -48,9 +48,9 @@ impl<E: Engine, G: Gate> World<E, G> {
         }
     }
 
-    /// One event; or V1 to V3 where it can't be, or V4, and nothing has changed but that a `ToClient` may have taken bytes out.
+    /// One event; or V1 to V3 if it can't be, or V4, and nothing has changed but that a `ToClient` may have taken bytes out.
     pub fn step(&mut self, event: Event) -> Result<Seen, Refused>
-        ensures { (gate : G) → Steps (setting_of E.answer G.accepts gate) (event_of event)
+        ensures { (gate : G) → Steps (setting_of E.answer G.welcomes gate) (event_of event)
             (seen_in result) (FitsWorld E.entries self.old gate)
             (FitsWorld E.entries self.new gate) }
     {
@@ -84,10 +84,10 @@ impl<E: Engine, G: Gate> World<E, G> {
         self.links.len() as u64
     }
 
-    /// What is reported of a connection; None where no such was opened.
+    /// What is reported of a connection; None if no such was opened.
     pub(crate) fn connection(&self, conn: u64) -> Option<Connection<'_>>
         ensures { (gate : G) (brought : List EntryView) (w : WorldSeen)
-            → Reached (setting_of E.answer G.accepts gate) brought w
+            → Reached (setting_of E.answer G.welcomes gate) brought w
             → FitsWorld E.entries self.now gate w → Reports w conn result }
     {
         if conn >= self.links.len() as u64 {
@@ -106,7 +106,7 @@ impl<E: Engine, G: Gate> World<E, G> {
 
     /// Opens a connection.
     fn open(&mut self, peer: Peer) -> Result<Seen, Refused>
-        ensures { (gate : G) → Steps (setting_of E.answer G.accepts gate) (Opens (peer_of peer))
+        ensures { (gate : G) → Steps (setting_of E.answer G.welcomes gate) (Opens (peer_of peer))
             (seen_in result) (FitsWorld E.entries self.old gate)
             (FitsWorld E.entries self.new gate) }
     {
@@ -129,7 +129,7 @@ impl<E: Engine, G: Gate> World<E, G> {
     /// An event of a connection.
     fn turn(&mut self, event: Event) -> Result<Seen, Refused>
         requires { IsOpens (event_of event) → ⊥ }
-        ensures { (gate : G) → Steps (setting_of E.answer G.accepts gate) (event_of event)
+        ensures { (gate : G) → Steps (setting_of E.answer G.welcomes gate) (event_of event)
             (seen_in result) (FitsWorld E.entries self.old gate)
             (FitsWorld E.entries self.new gate) }
     {

@@ -5,7 +5,7 @@ ghost use Rattle.structures.specs.Form.{Form};
 ghost use Rattle.structures.specs.Laying.{IsForm};
 ghost use Rattle.wire.specs.declared.Version.{Version as AnyVersion};
 
-/// A cell and its value are related by reading the value exactly where the rows of the table relate them.
+/// A cell and its value are related by reading the value exactly if the rows of the table relate them.
 #[tactic(auto, using(crate::proofs::Laid::rows_are))]
 pub fn cells_are_rows()
     ensures { (v : AnyVersion) (s t : Tree) → Form v s t ↔ IsForm v s t }

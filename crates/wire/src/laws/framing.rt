@@ -32,7 +32,7 @@ pub fn reads_items()
     ensures { ReadsItems }
 {}
 
-/// What `Dechunk::feed` answers, memory aside, is what the reader of chunks takes, where no message was refused.
+/// What `Dechunk::feed` answers, memory aside, is what the reader of chunks takes, if no message was refused.
 #[tactic(auto, using(crate::proofs::Framed::answers_take))]
 pub fn answers_take()
     ensures { AnswersTake }

@@ -2,4 +2,4 @@ use Rattle.behind.proofs.Replayed.{are_events}
 use Rattle.behind.proofs.laws.calls_are_events.Goals as goal
 
 pub returns : goal.returns
-returns g c = are_events g.E.Engine.answer g.G.Gate.accepts
+returns g c = are_events g.E.Engine.answer g.G.Gate.welcomes

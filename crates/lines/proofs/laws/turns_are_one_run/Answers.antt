@@ -2,7 +2,7 @@ use Rattle.lines.proofs.Apart.{turns_reach, turns_along}
 use Rattle.lines.proofs.laws.turns_are_one_run.Goals as goal
 
 pub returns-clause-reaches : goal.returns-clause-reaches
-returns-clause-reaches g c = λ r before calls s held after t. turns_reach g.E.Engine.answer g.G.Gate.accepts t
+returns-clause-reaches g c = λ r before calls s held after t. turns_reach g.E.Engine.answer g.G.Gate.welcomes t
 
 pub returns-clause-bytes : goal.returns-clause-bytes
-returns-clause-bytes g c = λ r before calls s held after conn t. turns_along g.E.Engine.answer g.G.Gate.accepts t conn
+returns-clause-bytes g c = λ r before calls s held after conn t. turns_along g.E.Engine.answer g.G.Gate.welcomes t conn

@@ -30,7 +30,7 @@ returns-in-Err-put_end-clause-err g c = λ r f e. inr (served (c.in-Ok.ensures.o
 pub returns-in-Ok-put_end-clause-serves : goal.returns-in-Ok-put_end-clause-serves
 returns-in-Ok-put_end-clause-serves g c = λ r f e.
     let o = c.in-Ok.ensures.opens r f in
-    let S = setting g.E.Engine.answer g.G.Gate.accepts r in
+    let S = setting g.E.Engine.answer g.G.Gate.welcomes r in
     let told = c.serve_opened-told in
     subst (λ (n : ℕ). ServesSo (opened r) n S (Fits g.E.Engine.entries told.new.server) c.args.streams.now.at told.new.streams.at told.result)
     o.number (told.ensures.serves (opened r) o.now (found_by r e o.number))

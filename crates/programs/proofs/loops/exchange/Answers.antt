@@ -32,14 +32,14 @@ loop-rest-preserved g c = λ r start t i h.
     let p = c.loop-rest.invariant r start t i h in
     let front = c.next_part.result.0.now in
     part_more front p c.next_part.ensures.parts
-    (c.in-Ok-turn.ensures r start (given (setting g.E.Engine.answer g.G.Gate.accepts r) c.args.conn r.ledger (all_out t) p.done) i p.comes)
+    (c.in-Ok-turn.ensures r start (given (setting g.E.Engine.answer g.G.Gate.welcomes r) c.args.conn r.ledger (all_out t) p.done) i p.comes)
 
 pub returns-in-Err : goal.returns-in-Err
 returns-in-Err g c = λ r start t i h.
     let p = c.loop-rest.invariant r start t i h in
     let front = c.next_part.result.0.now in
     let after = c.next_part.result.1.now in
-    let S = setting g.E.Engine.answer g.G.Gate.accepts r in
+    let S = setting g.E.Engine.answer g.G.Gate.welcomes r in
     let k = c.in-Err.ensures r start (given S c.args.conn r.ledger (all_out t) p.done) i p.comes in
     let there = breaks_more S c.args.conn r.ledger start c.turn.new.ways.at t p.done front after (rw c.next_part.ensures.parts p.parts) k.there in
     record { lives = k.lives; cause = k.cause; there = there }
@@ -53,7 +53,7 @@ pub returns-then-awaits : goal.returns-then-awaits
 returns-then-awaits g c = λ r start t i h.
     let p = part_whole (c.loop-rest.invariant r start t i h) (empty_nil c.loop-rest.rest.now c.is_empty.result c.is_empty.ensures c.loop-rest-test.false) in
     let all = t.place.rest.unsent in
-    let S = setting g.E.Engine.answer g.G.Gate.accepts r in
+    let S = setting g.E.Engine.answer g.G.Gate.welcomes r in
     let there = breaks_more S c.args.conn r.ledger start c.loop-rest.ways.at t all [] [] (append-nil all) (breaks_before p _) in
     record { lives = p.lives; cause = tt; there = there }
 

@@ -14,7 +14,7 @@ returns-in-Err-Unreadable-clause-loops g c = λ r f none. (tt, λ n. absurd (n r
 
 pub returns-in-Err-Memory-clause-loops : goal.returns-in-Err-Memory-clause-loops
 returns-in-Err-Memory-clause-loops g c = λ r f none.
-    (tt, λ n. breaks_none r (setting g.E.Engine.answer g.G.Gate.accepts r) (lines_read request_line_of (filled_lines c.args.script.now)))
+    (tt, λ n. breaks_none r (setting g.E.Engine.answer g.G.Gate.welcomes r) (lines_read request_line_of (filled_lines c.args.script.now)))
 
 pub returns-in-Ok-run_opened-clause-grows : goal.returns-in-Ok-run_opened-clause-grows
 returns-in-Ok-run_opened-clause-grows g c = λ r f none. (c.in-Ok-run_opened.ensures r f none).0

@@ -32,7 +32,7 @@ returns-in-Err-exchange g c = λ r start t i h0.
     let here : Place = record { rest = with_item t.place.rest h.client.item; version = t.place.version } in
     let s = rw c.in-Ok-true.field-0-test at (c.in-Ok-true.ensures.submits here h.client.at) in
     let k = c.in-Err-exchange.ensures r start (with_request t (meant t.place.version l.1)) i (line_sent (meant t.place.version l.1) h s) in
-    let S = setting g.E.Engine.answer g.G.Gate.accepts r in
+    let S = setting g.E.Engine.answer g.G.Gate.welcomes r in
     record { lives = k.lives; cause = k.cause; there = stage_broken S c.args.conn r.ledger start c.exchange.new.ways.at t l None s.0 k.there }
 
 pub returns-in-Ok-false : goal.returns-in-Ok-false

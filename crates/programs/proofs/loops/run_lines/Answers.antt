@@ -29,7 +29,7 @@ loop-line-preserved g c =
       parts = append_assoc done (c.in-Some.line ∷ []) c.next.new.self.rest.items ∙ ap (λ xs. done ++ xs) (sym c.in-Some.ensures.steps.0) ∙ so.parts;
       comes = λ r start t i h.
           let p = so.comes r start t i h in
-          let S = setting g.E.Engine.answer g.G.Gate.accepts r in
+          let S = setting g.E.Engine.answer g.G.Gate.welcomes r in
           let conn = c.args.conn in
           let Came = λ (n : Turns). Comes r conn S start c.run_line.new.ways.at n c.run_line.new.pair (Fits g.E.Engine.entries c.run_line.new.server) in
           let first = exchanged S conn r.ledger t in
@@ -47,7 +47,7 @@ pub returns-in-Err-run_line : goal.returns-in-Err-run_line
 returns-in-Err-run_line g c = λ r start t i h.
     let so = c.loop-line.invariant in
     let done = c.loop-line.yielded in
-    let S = setting g.E.Engine.answer g.G.Gate.accepts r in
+    let S = setting g.E.Engine.answer g.G.Gate.welcomes r in
     let line = c.in-Some.line in
     let rest = c.next.new.self.rest.items in
     let first = exchanged S c.args.conn r.ledger t in

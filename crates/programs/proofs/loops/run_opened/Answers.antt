@@ -9,24 +9,24 @@ use Rattle.programs.proofs.Stops.{cause_of}
 use Rattle.programs.proofs.loops.run_opened.Goals as goal
 
 pub returns-in-Err : goal.returns-in-Err
-returns-in-Err g c = λ r f e. rw c.in-Err.ensures.memory (inl f, (tt, breaks_none r (setting g.E.Engine.answer g.G.Gate.accepts r) (said_requests c.args.lines.items)))
+returns-in-Err g c = λ r f e. rw c.in-Err.ensures.memory (inl f, (tt, breaks_none r (setting g.E.Engine.answer g.G.Gate.welcomes r) (said_requests c.args.lines.items)))
 
 pub returns-in-Err-open_session : goal.returns-in-Err-open_session
 returns-in-Err-open_session g c = λ r f e.
     let k = c.in-Err-open_session.ensures in
-    rw k.fault (inl (k.opens r f), (tt, breaks_none r (setting g.E.Engine.answer g.G.Gate.accepts r) (said_requests c.args.lines.items)))
+    rw k.fault (inl (k.opens r f), (tt, breaks_none r (setting g.E.Engine.answer g.G.Gate.welcomes r) (said_requests c.args.lines.items)))
 
 pub run_lines-requires : goal.run_lines-requires
 run_lines-requires g c =
     let v = c.requires.vacant in
     let o = c.in-Ok-open_session.ensures.opens v.0 v.1 in
     let silent : c.new-3.result.bytes.items ≡ [] = search rules in
-    let b = loop_begins v.0 (setting g.E.Engine.answer g.G.Gate.accepts v.0) c.args.ways.now.at v.2 o silent refl c.in-Ok.ensures.new in
+    let b = loop_begins v.0 (setting g.E.Engine.answer g.G.Gate.welcomes v.0) c.args.ways.now.at v.2 o silent refl c.in-Ok.ensures.new in
     record { rest = opened v.0; start = c.args.ways.now.at; turns = no_turns; found = b.0; near = c.requires.near; far = c.requires.far; comes = b.1 }
 
 pub returns-in-Err-run_lines : goal.returns-in-Err-run_lines
 returns-in-Err-run_lines g c = λ r f none.
-    let S = setting g.E.Engine.answer g.G.Gate.accepts r in
+    let S = setting g.E.Engine.answer g.G.Gate.welcomes r in
     let o = c.in-Ok-open_session.ensures.opens r f in
     let silent : c.new-3.result.bytes.items ≡ [] = search rules in
     let b = loop_begins r S c.args.ways.now.at none o silent refl c.in-Ok.ensures.new in
@@ -35,7 +35,7 @@ returns-in-Err-run_lines g c = λ r f none.
 
 pub returns : goal.returns
 returns g c = λ r f none.
-    let S = setting g.E.Engine.answer g.G.Gate.accepts r in
+    let S = setting g.E.Engine.answer g.G.Gate.welcomes r in
     let o = c.in-Ok-open_session.ensures.opens r f in
     let silent : c.new-3.result.bytes.items ≡ [] = search rules in
     let b = loop_begins r S c.args.ways.now.at none o silent refl c.in-Ok.ensures.new in
@@ -47,7 +47,7 @@ returns g c = λ r f none.
 
 pub returns-in-Err-put_entries : goal.returns-in-Err-put_entries
 returns-in-Err-put_entries g c = λ r f none.
-    let S = setting g.E.Engine.answer g.G.Gate.accepts r in
+    let S = setting g.E.Engine.answer g.G.Gate.welcomes r in
     let o = c.in-Ok-open_session.ensures.opens r f in
     let silent : c.new-3.result.bytes.items ≡ [] = search rules in
     let b = loop_begins r S c.args.ways.now.at none o silent refl c.in-Ok.ensures.new in

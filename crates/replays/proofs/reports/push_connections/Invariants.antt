@@ -6,5 +6,5 @@ use Rattle.replays.proofs.reports.push_connections.Given as goal
 
 abbrev pub invariant-loop-conn : goal.invariant-loop-conn
 invariant-loop-conn g l =
-    (gate : g.row.G.Denot) (brought : List EntryView) (w : World) → Reached (setting_of g.E.Engine.answer g.G.Gate.accepts gate) brought w → FitsWorld g.E.Engine.entries l.world gate w
+    (gate : g.row.G.Denot) (brought : List EntryView) (w : World) → Reached (setting_of g.E.Engine.answer g.G.Gate.welcomes gate) brought w → FitsWorld g.E.Engine.entries l.world gate w
     → string_bytes l.text ≡ string_bytes l.fn.text ++ connections_text 0 (take l.conn w.conns)

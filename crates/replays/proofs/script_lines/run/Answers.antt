@@ -10,7 +10,7 @@ pub loop-line-init : goal.loop-line-init
 loop-line-init g c = λ gate brought w reached fits.
     record {
       after = w;
-      way = subst (λ t. Runs (setting_of g.E.Engine.answer g.G.Gate.accepts gate) w [] t w) (sym c.new-text.ensures.bytes) starts;
+      way = subst (λ t. Runs (setting_of g.E.Engine.answer g.G.Gate.welcomes gate) w [] t w) (sym c.new-text.ensures.bytes) starts;
       reached = reached;
       fits = fits;
     }
@@ -19,7 +19,7 @@ pub loop-line-preserved : goal.loop-line-preserved
 loop-line-preserved g c = λ gate brought w reached fits.
     let h = c.loop-line.invariant gate brought w reached fits in
     let one = c.in-Some.line in
-    let S = setting_of g.E.Engine.answer g.G.Gate.accepts gate in
+    let S = setting_of g.E.Engine.answer g.G.Gate.welcomes gate in
     let lines : said_lines (c.loop-line.yielded ++ one ∷ []) ≡ said_lines c.loop-line.yielded ++ (one.number, line_view one.said) ∷ [] = map-append {B = ℕ × LineView} (λ l. (l.number, line_view l.said)) c.loop-line.yielded (one ∷ []) in
     leads_as (λ w3 x. subst (λ z. Runs S w z (string_bytes c.push_noted.new.text) w3) (sym lines)
     (subst (λ z. Runs S w (said_lines c.loop-line.yielded ++ (one.number, line_view one.said) ∷ []) z w3) (sym c.in_ok-push_noted.ensures)

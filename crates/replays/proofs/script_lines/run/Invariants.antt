@@ -7,5 +7,5 @@ use Rattle.replays.proofs.script_lines.run.Given as goal
 
 abbrev pub invariant-loop-line : goal.invariant-loop-line
 invariant-loop-line g l =
-    (gate : g.row.G.Denot) (brought : List EntryView) (w : World) → Reached (setting_of g.E.Engine.answer g.G.Gate.accepts gate) brought w → FitsWorld g.E.Engine.entries l.fn.world gate w
-    → Leads g.E.Engine.entries (setting_of g.E.Engine.answer g.G.Gate.accepts gate) gate brought (Runs (setting_of g.E.Engine.answer g.G.Gate.accepts gate) w (said_lines l.yielded) (string_bytes l.text)) l.world
+    (gate : g.row.G.Denot) (brought : List EntryView) (w : World) → Reached (setting_of g.E.Engine.answer g.G.Gate.welcomes gate) brought w → FitsWorld g.E.Engine.entries l.fn.world gate w
+    → Leads g.E.Engine.entries (setting_of g.E.Engine.answer g.G.Gate.welcomes gate) gate brought (Runs (setting_of g.E.Engine.answer g.G.Gate.welcomes gate) w (said_lines l.yielded) (string_bytes l.text)) l.world

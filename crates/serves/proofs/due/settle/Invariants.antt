@@ -8,5 +8,5 @@ abbrev pub invariant-loop : goal.invariant-loop
 invariant-loop g l = record {
   grows : GrowsOn l.fn.conn (Fits g.E.Engine.entries l.fn.server) (Fits g.E.Engine.entries l.server);
   goes : (r : Rest g.row.G.Denot) (u : Opened) (t : Talk) (before : Option (List ℕ)) → IsSome (find l.fn.conn r.sessions) → t.kept.unsent ≡ [] → IsPlaced t.kept.waiting → Holds r l.fn.conn u t (Fits g.E.Engine.entries l.fn.server) before (g.O.Sink.taken l.fn.sink)
-      → GoesOn r l.fn.conn u t (setting g.E.Engine.answer g.G.Gate.accepts r) (Fits g.E.Engine.entries l.server) before (g.O.Sink.taken l.sink);
+      → GoesOn r l.fn.conn u t (setting g.E.Engine.answer g.G.Gate.welcomes r) (Fits g.E.Engine.entries l.server) before (g.O.Sink.taken l.sink);
 }

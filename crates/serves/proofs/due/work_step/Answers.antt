@@ -5,4 +5,4 @@ pub returns-clause-works : goal.returns-clause-works
 returns-clause-works g c = (c.in-Ok.worked, c.in-Ok.ensures.done, c.next_after.ensures)
 
 pub returns-clause-grows : goal.returns-clause-grows
-returns-clause-grows g c = grows_worked c.args.conn g.E.Engine.answer g.G.Gate.accepts _ _ c.in-Ok.worked c.in-Ok.ensures.done
+returns-clause-grows g c = grows_worked c.args.conn g.E.Engine.answer g.G.Gate.welcomes _ _ c.in-Ok.worked c.in-Ok.ensures.done

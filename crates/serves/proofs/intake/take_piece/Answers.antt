@@ -7,7 +7,7 @@ use Rattle.serves.proofs.intake.take_piece.Goals as goal
 
 pub returns-clause-takes : goal.returns-clause-takes
 returns-clause-takes g c = λ r before up i e s.
-    let S = setting g.E.Engine.answer g.G.Gate.accepts r in
+    let S = setting g.E.Engine.answer g.G.Gate.welcomes r in
     let taken = g.O.Sink.taken c.put_out-put.new.sink in
     subst (TakesPiece r c.args.conn S (Fits g.E.Engine.entries c.put_out-put.new.server) before taken up c.args.piece.now) (sym c.both_of.ensures)
     (piece_taken r c.args.conn i S before (g.O.Sink.taken c.take_items-taken.new.sink) taken up (rest_of g.E.Engine.entries c.take_items-taken.new.server) (rest_of g.E.Engine.entries c.put_out-put.new.server) c.args.piece.now c.take_items-taken.result c.put_out-put.result

@@ -9,7 +9,7 @@ use Rattle.serves.proofs.server_end.converse.Goals as goal
 pub returns-in_default-clause-converses : goal.returns-in_default-clause-converses
 returns-in_default-clause-converses g c = λ r f e.
     let left = g.I.PeerSource.left c.args.source.now in
-    reads_none (reads_begun r c.args.conn (setting g.E.Engine.answer g.G.Gate.accepts r) left (g.O.Sink.taken c.args.sink.now) (Fits g.E.Engine.entries c.args.server.now) f e) left (Keeps-refl left) Memory
+    reads_none (reads_begun r c.args.conn (setting g.E.Engine.answer g.G.Gate.welcomes r) left (g.O.Sink.taken c.args.sink.now) (Fits g.E.Engine.entries c.args.server.now) f e) left (Keeps-refl left) Memory
 
 pub returns-in_default-clause-grows : goal.returns-in_default-clause-grows
 returns-in_default-clause-grows g c = lives_same c.args.conn (Fits g.E.Engine.entries c.args.server.now)

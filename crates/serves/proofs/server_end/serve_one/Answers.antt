@@ -10,7 +10,7 @@ use Rattle.serves.proofs.server_end.serve_one.Goals as goal
 pub returns-in-Ok-clause-serves : goal.returns-in-Ok-clause-serves
 returns-in-Ok-clause-serves g c = λ r f e.
     let h = c.in-Ok.ensures.converses r f e in
-    let t = conversation (setting g.E.Engine.answer g.G.Gate.accepts r) c.args.conn r.ledger h.read in
+    let t = conversation (setting g.E.Engine.answer g.G.Gate.welcomes r) c.args.conn r.ledger h.read in
     let i : IsSome (find c.args.conn r.sessions) = subst IsSome (sym e) refl in
     let l = (gone (lost_at c.args.conn) _ _ _ c.lost.ensures) (with_talk r c.args.conn h.unfinished t.ledger t.kept) h.now in
     record {

@@ -6,7 +6,7 @@ use Rattle.world.proofs.events.follow_all.Goals as goal
 
 pub loop-event-preserved : goal.loop-event-preserved
 loop-event-preserved g c = λ gate brought w start.
-    let S = setting_of g.E.Engine.answer g.G.Gate.accepts gate in let xs = c.args.events.now in
+    let S = setting_of g.E.Engine.answer g.G.Gate.welcomes gate in let xs = c.args.events.now in
     let i = c.loop-event.event-index in let h = c.loop-event.invariant gate brought w start in
     let P : List Event → Type 0 = λ es. Goes g.E.Engine.entries S gate brought w es c.follow.new.world in
     subst P (ap (λ x. map event_of (take i xs) ++ event_of x ∷ []) c.event-item.is ∙ sym (map_more event_of xs i c.event-item.result c.loop-event-test.true))

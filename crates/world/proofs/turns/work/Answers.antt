@@ -21,4 +21,4 @@ returns-in_default-work g c = λ r w b.
 pub returns : goal.returns
 returns g c = λ r w b.
     work_done b (record c.args.link.now { wrote = c.note_work.new.wrote }) c.work.new.self c.in-Ok.worked (none_of c.args.link.now.gone c.in_default.not-Some) c.in-Ok.ensures.counted
-    (ap (λ ws. record (link_at b) { wrote = ws }) (c.note_work.ensures ∙ ap (λ ws. map wrote_of ws ++ wrote_by c.in-Ok.worked) c.reserve.ensures.items)) b.ends (done (work_at g.E.Engine.answer g.G.Gate.accepts c.args.conn) _ _ _ c.in-Ok.ensures.done r.server b.server)
+    (ap (λ ws. record (link_at b) { wrote = ws }) (c.note_work.ensures ∙ ap (λ ws. map wrote_of ws ++ wrote_by c.in-Ok.worked) c.reserve.ensures.items)) b.ends (done (work_at g.E.Engine.answer g.G.Gate.welcomes c.args.conn) _ _ _ c.in-Ok.ensures.done r.server b.server)

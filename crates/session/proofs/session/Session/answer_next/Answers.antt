@@ -12,7 +12,7 @@ pub returns-then-runs-clause-ok : goal.returns-then-runs-clause-ok
 returns-then-runs-clause-ok g c = λ q later e.
     let k = kept_of c.args.self.now in
     let v = version_of k in
-    let S : Setting = record { run = g.E.Engine.answer; check = g.G.Gate.accepts c.args.gate.now } in
+    let S : Setting = record { run = g.E.Engine.answer; welcome = g.G.Gate.welcomes c.args.gate.now } in
     let ledger = g.E.Engine.entries c.args.engine.now in
     let r = request_view c.request-request.result.now in
     let same : r ≡ q = asked_head r q (drop 1 k.waiting) later (sym c.request-request.ensures ∙ e) in
@@ -33,7 +33,7 @@ pub returns-clause-ok : goal.returns-clause-ok
 returns-clause-ok g c = λ q later e.
     let k = kept_of c.args.self.now in
     let v = version_of k in
-    let S : Setting = record { run = g.E.Engine.answer; check = g.G.Gate.accepts c.args.gate.now } in
+    let S : Setting = record { run = g.E.Engine.answer; welcome = g.G.Gate.welcomes c.args.gate.now } in
     let ledger = g.E.Engine.entries c.args.engine.now in
     let r = request_view c.request-request.result.now in
     let same : r ≡ q = asked_head r q (drop 1 k.waiting) later (sym c.request-request.ensures ∙ e) in
@@ -45,6 +45,6 @@ returns-clause-ok g c = λ q later e.
 pub perform-requires-clause-free : goal.perform-requires-clause-free
 perform-requires-clause-free g c =
     let k = kept_of c.args.self.now in
-    let S : Setting = record { run = g.E.Engine.answer; check = g.G.Gate.accepts c.args.gate.now } in
+    let S : Setting = record { run = g.E.Engine.answer; welcome = g.G.Gate.welcomes c.args.gate.now } in
     let ledger = g.E.Engine.entries c.args.engine.now in
     subst (λ (x : Reply). IsFree ledger (entry_in x)) (sym c.in_ok-act.ensures) (serve_free S (version_of k) c.args.conn ledger k.state k.result k.tx (request_view c.request-request.result.now))

@@ -12,7 +12,7 @@ use Rattle.session.proofs.session.Session.serve.Goals as goal
 pub returns-then-is_interrupted-clause-ok : goal.returns-then-is_interrupted-clause-ok
 returns-then-is_interrupted-clause-ok g c =
     let k = kept_of c.args.self.now in
-    let S : Setting = record { run = g.E.Engine.answer; check = g.G.Gate.accepts c.args.gate.now } in
+    let S : Setting = record { run = g.E.Engine.answer; welcome = g.G.Gate.welcomes c.args.gate.now } in
     let ledger = g.E.Engine.entries c.args.engine.now in
     let q = request_view c.request-request.result.now in
     let later = drop 1 k.waiting in
@@ -30,7 +30,7 @@ perform-requires-clause-free g c =
 pub returns-then-owes_row-clause-ok : goal.returns-then-owes_row-clause-ok
 returns-then-owes_row-clause-ok g c =
     let k = kept_of c.args.self.now in
-    let S : Setting = record { run = g.E.Engine.answer; check = g.G.Gate.accepts c.args.gate.now } in
+    let S : Setting = record { run = g.E.Engine.answer; welcome = g.G.Gate.welcomes c.args.gate.now } in
     let ledger = g.E.Engine.entries c.args.engine.now in
     let q = request_view c.request-request.result.now in
     let later = drop 1 k.waiting in
@@ -54,7 +54,7 @@ answer_next-requires-clause-unowed g c = λ q later e.
 pub returns-clause-ok : goal.returns-clause-ok
 returns-clause-ok g c =
     let k = kept_of c.args.self.now in
-    let S : Setting = record { run = g.E.Engine.answer; check = g.G.Gate.accepts c.args.gate.now } in
+    let S : Setting = record { run = g.E.Engine.answer; welcome = g.G.Gate.welcomes c.args.gate.now } in
     let ledger = g.E.Engine.entries c.args.engine.now in
     let q = request_view c.request-request.result.now in
     let later = drop 1 k.waiting in

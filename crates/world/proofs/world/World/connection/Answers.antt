@@ -14,8 +14,8 @@ pub returns : goal.returns
 unfolding FitsWorld
 returns g c = λ gate brought w reached f.
     let few : c.args.conn < length c.args.self.now.links.items = omega (arith, c.if-conn-len.false, c.len.ensures, c.args.self.now.links.ok.0) in
-    let l = c.index-link.result.now in let h = held g.E.Engine.answer g.G.Gate.accepts f reached c.args.conn few l c.index-link.ensures in
-    let t = there g.E.Engine.answer g.G.Gate.accepts f reached c.args.conn few l c.index-link.ensures in
+    let l = c.index-link.result.now in let h = held g.E.Engine.answer g.G.Gate.welcomes f reached c.args.conn few l c.index-link.ensures in
+    let t = there g.E.Engine.answer g.G.Gate.welcomes f reached c.args.conn few l c.index-link.ensures in
     let shown = ap (map read_of) c.as_slice-2.ensures.value ∙ t.2.report.1 in
     let count = length c.as_slice-2.result.now in (
       t.0,
@@ -26,7 +26,7 @@ returns g c = λ gate brought w reached f.
         read = shown;
         lost = c.losses.ensures ∙ t.2.report.2;
         waits = ap (λ n. ordinals count n) (c.waiting.ensures h.2.client h.2.ends)
-            ∙ sym (waits_as g.E.Engine.answer g.G.Gate.accepts f reached c.args.conn few l c.index-link.ensures count (sym (ap length shown) ∙ length-map c.as_slice-2.result.now read_of));
-        standing = stands_as g.E.Engine.answer g.G.Gate.accepts f reached c.args.conn few l c.index-link.ensures l.gone refl c.standing_at.result (c.standing_at.ensures f.rest.server f.server);
+            ∙ sym (waits_as g.E.Engine.answer g.G.Gate.welcomes f reached c.args.conn few l c.index-link.ensures count (sym (ap length shown) ∙ length-map c.as_slice-2.result.now read_of));
+        standing = stands_as g.E.Engine.answer g.G.Gate.welcomes f reached c.args.conn few l c.index-link.ensures l.gone refl c.standing_at.result (c.standing_at.ensures f.rest.server f.server);
       },
     )
