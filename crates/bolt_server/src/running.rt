@@ -2,10 +2,10 @@
 
 use crate::password::password_of;
 use crate::words::{Asked, read};
-use engine::{FixedTable, OneUser};
+use engine::{FixedTable, Named, OneUser};
+use listening::{Limits, Place, put_reason, serve_at};
 use programs::{escape, put_fault};
 use server::Server;
-use sockets::{Limits, Place, put_reason, serve_at};
 use std::alloc::Global;
 use std::io;
 use std::io::ErrorKind;
@@ -53,14 +53,21 @@ fn serve_asked(rt: &HostRuntime, asked: &Asked<'_>) -> u8 {
             return put_unread(alloc, asked.password_file.unwrap_or(""), &error, &mut err);
         }
     };
-    let Ok(gate) = OneUser::new(alloc, asked.user, password.as_str()) else {
+    let (Ok(gate), Ok(agent)) = (
+        OneUser::new(alloc, asked.user, password.as_str()),
+        String::from_str(alloc, asked.agent),
+    ) else {
         return put_fault(StreamFault::Memory, &mut err);
+    };
+    let Ok(gate) = Named::new(gate, agent) else {
+        let _told = write_all(&mut err, b"error: the name of --agent has 1 to 40 bytes\n");
+        return 2;
     };
     let mut server = Server::new(alloc, FixedTable::new(alloc), gate);
     let place = Place {
         host: asked.host,
         port: asked.port,
-        sessions: usize::from(asked.sessions),
+        most: asked.sessions.map(usize::from),
     };
     let limits = limits_of(asked);
     let reason = serve_at(rt, alloc, place, &limits, &mut server, &mut out);

@@ -11,7 +11,9 @@ pub(crate) struct Asked<'a> {
     pub(crate) user: &'a str,
     /// The file of the password, where one is named.
     pub(crate) password_file: Option<&'a str>,
-    pub(crate) sessions: u16,
+    pub(crate) sessions: Option<u16>,
+    /// The name that the server tells.
+    pub(crate) agent: &'a str,
     /// Seconds for which a peer may be silent.
     pub(crate) silence: u32,
     /// Seconds for which a peer may take to log on.
@@ -59,14 +61,18 @@ fn command(alloc: Global) -> Result<Command<'static>, AllocError> {
         .long("password-file")
         .value_name("FILE")
         .help("The file whose first line is the user's password [without one: pass]");
-    let sessions = option(
+    let sessions = Arg::new(alloc, "sessions")
+        .long("sessions")
+        .value_name("COUNT")
+        .value_parser(value_parser!(u16).range(1..=16))
+        .help("The most connections at once, from 1 to 16 [without it: 16 sessions]");
+    let agent = option(
         alloc,
-        "sessions",
-        "COUNT",
-        "16",
-        "The most sessions at once, from 1 to 16",
-    )
-    .value_parser(value_parser!(u16).range(1..=16));
+        "agent",
+        "NAME",
+        "BoltTable/1",
+        "The name that the server tells, of 1 to 40 bytes; drivers of Neo4j want Neo4j/ in front",
+    );
     Command::new(alloc, "bolt_server")
         .version("1.0.0")
         .about("Serves a table in memory over Bolt 4.4, 5.0 and 5.1, to many connections at once")
@@ -75,6 +81,7 @@ fn command(alloc: Global) -> Result<Command<'static>, AllocError> {
         .arg(user)?
         .arg(file)?
         .arg(sessions)?
+        .arg(agent)?
         .arg(seconds(
             alloc,
             "silence",
@@ -109,7 +116,8 @@ pub(crate) fn read<'a>(alloc: Global, words: &'a [String]) -> Result<Asked<'a>, 
         host: matches.get_str("host").unwrap_or("127.0.0.1"),
         user: matches.get_str("user").unwrap_or("user"),
         password_file: matches.get_str("password-file"),
-        sessions: matches.get_one::<u16>("sessions").unwrap_or(16),
+        sessions: matches.get_one::<u16>("sessions"),
+        agent: matches.get_str("agent").unwrap_or("BoltTable/1"),
         silence: number(&matches, "silence", 60),
         arrival: number(&matches, "arrival", 10),
         last: number(&matches, "last", 1),

@@ -1,4 +1,1 @@
 pub mod Failures
-pub mod Printing
-pub mod Reasons
-pub mod Serving

@@ -1,16 +1,11 @@
-//! A server of many connections over the sockets of this machine: who waits at a port is let in, and each end is printed.
+//! The peers of a server over the sockets of this machine: a [`Network`] is the [`Peers`](lines::Peers) of a listener and its connections.
 //!
-//! [`serve_at`] is the loop of `hosts` over the sockets of a listener and its connections. No call on a socket waits but the one for all of
-//! them, and none raises a signal: a write to a peer that is gone fails.
+//! No call on a socket waits but the one for all of them, and none raises a signal: a write to a peer that is gone fails. Every failure of a
+//! connection ends that connection alone.
 #![tactic(auto)]
 
 mod failures;
 mod network;
-mod printed;
-mod reasons;
-mod serving;
 mod transfers;
 
-pub use hosts::Limits;
-pub use reasons::{Reason, put_reason};
-pub use serving::{Place, serve_at};
+pub use network::{Network, Place};

@@ -3,9 +3,7 @@ ghost use Rattle.std.specs.Prelude.{◌≡◌, ◌==◌, ◌<◌, length, IfSome
 ghost use Rattle.std.specs.List.{position};
 
 use crate::failures::{Refusal, refusal_of};
-use crate::serving::Place;
 use crate::transfers::{read_now, write_now};
-use hosts::{MAX_CONNECTIONS, MAX_SEATS};
 use lines::{Failed, Got, Greeting, Peers, Readiness, Ready};
 use mio::event::Event;
 use mio::net::{TcpListener, TcpStream};
@@ -26,6 +24,17 @@ const MAX_EVENTS: usize = 64;
 /// How many that are gone before they are accepted are passed over at once.
 const MAX_GONE: u32 = 64;
 
+/// Where a server listens, and for how many.
+#[derive(Clone, Copy)]
+pub struct Place<'a> {
+    /// The name or the address of this machine at which it listens.
+    pub host: &'a str,
+    /// The port, or 0 for any that is free.
+    pub port: u16,
+    /// The most connections at once, where there is a bound beside that of the server. One counts until all that it is owed was written.
+    pub most: Option<usize>,
+}
+
 /// A connection by its number.
 #[derive(Drop)]
 struct Peer {
@@ -37,7 +46,7 @@ struct Peer {
 
 /// A listener, its connections, and what is ready of them. It waits no longer once its output is told to have failed.
 #[derive(Drop)]
-pub(crate) struct Network<'a, R: Drop> {
+pub struct Network<'a, R: Drop> {
     rt: &'a R,
     has_failed: &'a Cell<bool>,
     poll: Poll,
@@ -47,8 +56,8 @@ pub(crate) struct Network<'a, R: Drop> {
     listener: TcpListener,
     guest: Option<TcpStream>,
     peers: Vec<Peer>,
-    /// The most connections that aren't finished.
-    most: usize,
+    /// The most connections that aren't finished, where that is bounded.
+    most: Option<usize>,
     /// Whether somebody may wait who wasn't greeted since there were so many.
     waits: bool,
     start: Instant,
@@ -69,13 +78,18 @@ fn listen<R: Net>(rt: &R, host: &str, port: u16) -> io::Result<TcpListener> {
 }
 
 impl<'a, R: Net + Clock + Drop> Network<'a, R> {
+    ghost use Rattle.std.specs.Prelude.{◌≡◌, [], IfOk, option_copied};
+
     /// Listens at this place. It waits no longer once the cell is set.
-    pub(crate) fn bind(
+    pub fn bind(
         rt: &'a R,
         alloc: Global,
         place: Place<'_>,
         has_failed: &'a Cell<bool>,
-    ) -> io::Result<Network<'a, R>> {
+    ) -> io::Result<Network<'a, R>>
+        ensures peers { IfOk result (λ network. network.peers.items ≡ []) }
+        ensures most { IfOk result (λ network. network.most ≡ place.entry.most) }
+    {
         let poll = Poll::new(rt)?;
         let mut listener = listen(rt, place.host, place.port)?;
         poll.registry()
@@ -88,8 +102,8 @@ impl<'a, R: Net + Clock + Drop> Network<'a, R> {
             seen: 0,
             listener,
             guest: None,
-            peers: Vec::with_capacity(alloc, MAX_CONNECTIONS)?,
-            most: place.sessions,
+            peers: Vec::new(alloc),
+            most: place.most,
             waits: false,
             start: Instant::now(rt)?,
             error: None,
@@ -97,19 +111,24 @@ impl<'a, R: Net + Clock + Drop> Network<'a, R> {
     }
 
     /// The address at which it listens.
-    pub(crate) fn address(&self) -> io::Result<SocketAddr> {
+    pub fn address(&self) -> io::Result<SocketAddr> {
         self.listener.local_addr()
     }
 
     /// Why the wait failed, where it did.
-    pub(crate) fn error(&self) -> Option<&io::Error> {
+    pub fn error(&self) -> Option<&io::Error>
+        ensures { option_copied result ≡ self.now.error }
+    {
         self.error.as_ref()
     }
 
     /// Whether so many connections are open that nobody is greeted.
     fn is_full(&self) -> bool {
         let open = self.peers.iter().filter(|peer| !peer.is_finished).count();
-        self.most < MAX_SEATS && self.most <= open
+        match self.most {
+            Some(most) => most <= open,
+            None => false,
+        }
     }
 
     /// Whether somebody may wait who can be greeted again.

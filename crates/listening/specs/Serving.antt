@@ -5,8 +5,8 @@ use Rattle.engine.specs.declared.answer.Mode.{Mode as QueryMode}
 use Rattle.engine.specs.Views.{WriteView, ParameterView, EntryView, AnswerView, QueryFault}
 use Rattle.server.specs.Serving.{Rest}
 use Rattle.server.specs.Running.{Event, after_events}
-use Rattle.sockets.specs.declared.reasons.Reason.{Reason}
-use Rattle.sockets.specs.declared.reasons.Reason.TheVariants.{Unbound}
+use Rattle.listening.specs.declared.reasons.Reason.{Reason}
+use Rattle.listening.specs.declared.reasons.Reason.TheVariants.{Unbound}
 
 -- the line of a port at which connections are taken
 abbrev pub listening_line : ℕ → List ℕ
@@ -21,5 +21,5 @@ IsUnbound _ = ⊥
 abbrev pub Reaches : {G : Type 0}
     → (List EntryView → List WriteView → List ℕ → List ParameterView → QueryMode
     → Result AnswerView QueryFault)
-    → (G → List ℕ → List ℕ → Bool) → Rest G → Rest G → Type 0
-Reaches answer accepts r s = (calls : List Event) × (after_events answer accepts calls r ≡ s)
+    → (G → Welcome) → Rest G → Rest G → Type 0
+Reaches answer welcomes r s = (calls : List Event) × (after_events answer welcomes calls r ≡ s)

@@ -6,8 +6,8 @@ use Rattle.streams.specs.declared.fault.StreamFault.TheVariants as fault
 use Rattle.programs.specs.declared.stop.StopReason.TheVariants.{Broken}
 use Rattle.programs.specs.Escaping.{escaped}
 use Rattle.programs.specs.Stopping.{stop_text}
-use Rattle.sockets.specs.declared.reasons.Reason.{Reason}
-use Rattle.sockets.specs.declared.reasons.Reason.TheVariants as reason
+use Rattle.listening.specs.declared.reasons.Reason.{Reason}
+use Rattle.listening.specs.declared.reasons.Reason.TheVariants as reason
 
 -- the fault by which a reason is told
 abbrev pub fault_of : Reason → StreamFault
@@ -20,16 +20,14 @@ fault_of reason.Memory = fault.Memory
 abbrev pub place_name : List ℕ → ℕ → List ℕ
 place_name host port = escaped host ++ codes " port " ++ decimal port
 
--- what is said of a port that isn't had: the host and the port, and what the system said
-abbrev pub IsPortOf : List ℕ → ℕ → List ℕ → Type 0
-IsPortOf host port words =
-    (own : List ℕ) × (words ≡ place_name host port ++ codes ": " ++ own ++ 10 ∷ [])
+-- what the system said, behind a name, on a line
+abbrev pub IsErrorOf : List ℕ → List ℕ → Type 0
+IsErrorOf name words = (own : List ℕ) × (words ≡ name ++ codes ": " ++ own ++ 10 ∷ [])
 
 -- what is said beside the fault: nothing, or what the system said
 abbrev pub IsSaidOf : List ℕ → ℕ → Reason → List ℕ → Type 0
-IsSaidOf host port (reason.Unbound e) words = IsPortOf host port words
-IsSaidOf host port (reason.Unwaited e) words =
-    (own : List ℕ) × (words ≡ codes "the connections: " ++ own ++ 10 ∷ [])
+IsSaidOf host port (reason.Unbound e) words = IsErrorOf (place_name host port) words
+IsSaidOf host port (reason.Unwaited e) words = IsErrorOf (codes "the connections") words
 IsSaidOf host port reason.OutputFailed words = words ≡ []
 IsSaidOf host port reason.Memory words = words ≡ []
 

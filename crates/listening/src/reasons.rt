@@ -3,7 +3,7 @@ ghost use Rattle.std.specs.Prelude.{◌≡◌, ◌⊎◌, ◌↔◌, List, [], �
 ghost use Rattle.std.specs.IoError.{error_kind};
 ghost use Rattle.programs.specs.Stopping.{Gets, stop_status};
 ghost use Rattle.programs.specs.declared.stop.StopReason.{StopReason};
-ghost use Rattle.sockets.specs.Reasons.{IsPortOf, IsSaidOf, IsTold, fault_of, place_name};
+ghost use Rattle.listening.specs.Reasons.{IsErrorOf, IsSaidOf, IsTold, fault_of, place_name};
 
 use programs::{escape, put_fault};
 use std::alloc::{AllocError, Global};
@@ -55,6 +55,15 @@ fn place_name(alloc: Global, host: &str, port: u16) -> Result<String, AllocError
     Ok(name)
 }
 
+/// An error of the system behind a name, on a line.
+fn error_words(alloc: Global, name: &str, error: io::Error) -> Result<String, AllocError>
+    ensures { IfOk result (λ words. IsErrorOf name.now (string_bytes words)) }
+{
+    let own = format!(in alloc; "{error}")?;
+    let words = format!(in alloc; "{name}: {own}\n")?;
+    Ok(words)
+}
+
 /// What is said of a port that isn't had.
 fn unbound_words(
     alloc: Global,
@@ -62,12 +71,10 @@ fn unbound_words(
     port: u16,
     error: io::Error,
 ) -> Result<String, AllocError>
-    ensures { IfOk result (λ words. IsPortOf host.now port (string_bytes words)) }
+    ensures { IfOk result (λ words. IsErrorOf (place_name host.now port) (string_bytes words)) }
 {
     let place = place_name(alloc, host, port)?;
-    let own = format!(in alloc; "{error}")?;
-    let words = format!(in alloc; "{place}: {own}\n")?;
-    Ok(words)
+    error_words(alloc, place.as_str(), error)
 }
 
 /// What is said beside the fault, where the system has said why.
@@ -76,11 +83,7 @@ fn words_of(alloc: Global, host: &str, port: u16, reason: Reason) -> Result<Stri
 {
     match reason {
         Reason::Unbound(error) => unbound_words(alloc, host, port, error),
-        Reason::Unwaited(error) => {
-            let own = format!(in alloc; "{error}")?;
-            let words = format!(in alloc; "the connections: {own}\n")?;
-            Ok(words)
-        }
+        Reason::Unwaited(error) => error_words(alloc, "the connections", error),
         Reason::OutputFailed | Reason::Memory => Ok(String::new(alloc)),
     }
 }

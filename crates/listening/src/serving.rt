@@ -3,31 +3,20 @@
 ghost use Rattle.std.specs.Prelude.{◌≡◌, [], true, IfOk, IfErr, OnOk, IsErrOf, string_bytes};
 ghost use Rattle.std.specs.Io.KnownBytes.{Appends};
 ghost use Rattle.server.specs.Views.{rest_of};
-ghost use Rattle.sockets.specs.Serving.{IsUnbound, Reaches, listening_line};
+ghost use Rattle.listening.specs.Serving.{IsUnbound, Reaches, listening_line};
 
-use crate::network::Network;
 use crate::printed::Printed;
 use crate::reasons::{Reason, unbound};
 use engine::{Engine, Gate};
 use hosts::{Limits, Stopped, serve};
 use server::Server;
+use sockets::{Network, Place};
 use std::alloc::{AllocError, Global};
 use std::cell::Cell;
 use std::io;
 use std::net::Net;
 use std::time::Clock;
 use streams::{Sink, write_all};
-
-/// Where a server listens, and for how many.
-#[derive(Clone, Copy)]
-pub struct Place<'a> {
-    /// The name or the address of this machine at which it listens.
-    pub host: &'a str,
-    /// The port, or 0 for any that is free.
-    pub port: u16,
-    /// The most sessions at once. Where it is 16 or more, 16 live at most; else a connection counts until all that it is owed was written.
-    pub sessions: usize,
-}
 
 fn listening_text(alloc: Global, port: u16) -> Result<String, AllocError>
     ensures { IfOk result (λ t. string_bytes t ≡ listening_line port) }
@@ -62,7 +51,7 @@ pub fn serve_at<R: Net + Clock + Drop, E: Engine, G: Gate, O: Sink>(
     out: &mut O,
 ) -> Reason
     requires { (rest_of E.entries server.old).sessions ≡ [] }
-    ensures reaches { Reaches E.answer G.accepts (rest_of E.entries server.old) (rest_of E.entries server.new) }
+    ensures reaches { Reaches E.answer G.welcomes (rest_of E.entries server.old) (rest_of E.entries server.new) }
     // Where the port isn't had, nothing is served.
     ensures unbound { IsUnbound result → rest_of E.entries server.new ≡ rest_of E.entries server.old }
 {

@@ -5,7 +5,7 @@ ghost use Rattle.programs.specs.Names.{cause_code};
 ghost use Rattle.programs.specs.Serving.{conn_line};
 ghost use Rattle.programs.specs.Stopping.{Gets};
 ghost use Rattle.hosts.specs.Running.{TellsMore};
-ghost use Rattle.sockets.specs.Printing.{cause_of};
+ghost use Rattle.listening.specs.Printing.{cause_of};
 
 use hosts::{Journal, Parting};
 use itoa::Buffer;
