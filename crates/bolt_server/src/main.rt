@@ -5,9 +5,12 @@ mod password;
 mod running;
 mod words;
 
+use programs::fill_closed;
 use running::run;
 use std::process::ExitCode;
 
 fn main(rt: HostRuntime) -> ExitCode {
+    // Before anything else is opened, and kept until the end.
+    let _closed = fill_closed(&rt);
     ExitCode::from(run(&rt))
 }
