@@ -93,8 +93,9 @@ def at_once(count, call):
     threads = [threading.Thread(target=one, args=(number,), daemon=True) for number in range(count)]
     for it in threads:
         it.start()
+    until = time.monotonic() + 60
     for it in threads:
-        it.join(timeout=60)
+        it.join(timeout=max(0, until - time.monotonic()))
     return wrong + ["one doesn't end" for it in threads if it.is_alive()]
 
 
@@ -130,6 +131,9 @@ class Strangers:
                 self.came += 1
                 stream.sendall(HANDSHAKE[:chance.randrange(21)])
                 self.is_over.wait(chance.random() * 0.2)
+                # (each comes again once it was served, so that those who wait are no more than these)
+                stream.shutdown(socket.SHUT_WR)
+                rest(stream)
 
     def ask_on(self):
         with contextlib.suppress(OSError), connect(self.server) as stream:
