@@ -1,4 +1,6 @@
 -- What the proofs share.
-pub mod Filling
+pub mod Feeding
+pub mod Heads
 pub mod Heap
+pub mod RowTexts
 pub mod Words

@@ -1,31 +1,30 @@
--- The codes of the C calls, as `bolt.h` names them.
-use Rattle.std.specs.Prelude.{◌≡◌, ◌<◌, ◌≤◌, ℕ, Bool, true, false, if◌then◌else◌, eqb, Option, Some, None, Result, Ok, Err, List, ◌++◌, length, map, drop}
+-- The codes of the C calls, as `bolt.h` names them, and what each call does.
+use Rattle.std.specs.Prelude.{◌≡◌, ℕ, Bool, true, false, if◌then◌else◌, eqb, Option, Some, None, Result, Ok, Err, List, length}
 use Rattle.wire.specs.declared.Version.{Version}
 use Rattle.wire.specs.declared.Version.TheVariants as version
 use Rattle.wire.specs.declared.Wish.{Wish}
 use Rattle.wire.specs.declared.Wish.TheVariants as wish
+use Rattle.messages.specs.View.{ResponseView}
 use Rattle.machine.specs.declared.Phase.{Phase}
 use Rattle.machine.specs.declared.Phase.TheVariants as phase
 use Rattle.client.specs.declared.heard.Outcome.{Outcome}
 use Rattle.client.specs.declared.heard.Outcome.TheVariants as outcome
-use Rattle.client.specs.declared.faults.ClientFault.{ClientFault}
-use Rattle.client.specs.declared.faults.ClientFault.TheVariants as client_fault
-use Rattle.client.specs.Rest.{Rest, begun, losses, after_drop, awaits}
-use Rattle.client.specs.Fits.{rest_of}
+use Rattle.client.specs.Rest.{Rest, begun, taken_out, losses, after_drop, awaits}
+use Rattle.driver.specs.declared.faults.FeedFault.{FeedFault}
+use Rattle.driver.specs.declared.faults.FeedFault.TheVariants as feed_fault
+use Rattle.driver.specs.Account.{untold, with_losses, outcome_of, response_of, rows_of, left_of, rows_taken, settled}
+use Rattle.driver.specs.Feeding.{is_idle}
 use Rattle.bolt_c.specs.declared.answers.Refusal.{Refusal}
 use Rattle.bolt_c.specs.declared.answers.Refusal.TheVariants as refusal
-use Rattle.bolt_c.specs.declared.answers.Event.{Event}
-use Rattle.bolt_c.specs.declared.answers.Event.TheVariants as event
 use Rattle.bolt_c.specs.declared.answers.MessageFault.{MessageFault}
 use Rattle.bolt_c.specs.declared.answers.MessageFault.TheVariants as message_fault
-use Rattle.bolt_c.specs.declared.codes.Submitted.{Submitted}
-use Rattle.bolt_c.specs.declared.codes.Heard.{Heard}
-use Rattle.bolt_c.specs.declared.codes.Loss.{Loss}
+use Rattle.bolt_c.specs.declared.codes.Asked.{Asked as Told}
 use Rattle.bolt_c.specs.declared.codes.Standing.{Standing}
 use Rattle.bolt_c.specs.declared.held.Held.{Held}
+use Rattle.bolt_c.specs.declared.values.Value.{Value}
 use Rattle.bolt_c.specs.Rules.{broken, broken_in}
-use Rattle.bolt_c.specs.Answers.{Submits, Takes, Feeds, Tells, last_of, message_of}
-use Rattle.machine.specs.Limits.{max_waiting}
+use Rattle.bolt_c.specs.Answers.{TakesRequest, Writes, Tells, held_rest, held_account, message_of, row_at}
+use Rattle.bolt_c.specs.Feeding.{stand_of, FeedsAll}
 
 -- the wish of a number
 abbrev pub wish_of : ℕ → Option Wish
@@ -53,14 +52,15 @@ phase_code phase.TxStreaming = 5
 phase_code phase.Halted = 6
 phase_code phase.Defunct = 7
 
--- the number of an outcome
-abbrev pub outcome_code : Outcome → ℕ
-outcome_code outcome.Done = 0
-outcome_code outcome.Committed = 1
-outcome_code outcome.Refused = 2
-outcome_code outcome.Ignored = 3
-outcome_code outcome.Lost = 4
-outcome_code outcome.Unknown = 5
+-- the number of an outcome, 6 if none is known
+abbrev pub outcome_code : Option Outcome → ℕ
+outcome_code (Some outcome.Done) = 0
+outcome_code (Some outcome.Committed) = 1
+outcome_code (Some outcome.Refused) = 2
+outcome_code (Some outcome.Ignored) = 3
+outcome_code (Some outcome.Lost) = 4
+outcome_code (Some outcome.Unknown) = 5
+outcome_code None = 6
 
 -- the number of a refusal
 abbrev pub refusal_code : Refusal → ℕ
@@ -72,11 +72,13 @@ refusal_code refusal.Memory = 5
 refusal_code (refusal.Unwritable u) = 7
 refusal_code (refusal.NoRequest e) = 8
 
--- the number of a client's fault
-abbrev pub fault_code : ClientFault → ℕ
-fault_code client_fault.Closed = 4
-fault_code client_fault.Memory = 5
-fault_code client_fault.BadPeer = 6
+-- The number of why no more of a piece is used: of a piece of which none is left, or if rows have to be dropped first, that of success.
+abbrev pub stop_code : Option FeedFault → ℕ
+stop_code None = 0
+stop_code (Some feed_fault.Full) = 0
+stop_code (Some feed_fault.Closed) = 4
+stop_code (Some feed_fault.Memory) = 5
+stop_code (Some feed_fault.BadPeer) = 6
 
 -- the number of why a message isn't told
 abbrev pub message_fault_code : MessageFault → ℕ
@@ -90,39 +92,24 @@ code_by f (Ok x) = 0
 code_by f (Err e) = f e
 
 -- what a call fills in: nothing where it tells a fault
-abbrev pub filled : {A B E : Type 0} → (A → B) → Result A E → B → B
-filled f (Ok x) before = f x
-filled f (Err e) before = before
+abbrev pub filled : {A E : Type 0} → Result A E → A → A
+filled (Ok x) before = x
+filled (Err e) before = before
 
 -- with the rule that a message breaks, and where
-abbrev pub with_rule : Submitted → ℕ × ℕ → Submitted
+abbrev pub with_rule : Told → ℕ × ℕ → Told
 with_rule s b = record { ordinal = s.ordinal; rule = b.0; place = b.1 }
 
 -- what a refusal fills in: the rule that the message breaks and where, if it is refused for one
-abbrev pub refused_in : Refusal → Submitted → Submitted
+abbrev pub refused_in : Refusal → Told → Told
 refused_in (refusal.Unwritable u) s = with_rule s (broken_in u)
 refused_in (refusal.NoRequest e) s = with_rule s (broken e)
 refused_in e s = s
 
--- what `bolt_submit` fills in
-abbrev pub submitted_in : Result ℕ Refusal → Submitted → Submitted
-submitted_in (Ok n) s = record { ordinal = n; rule = 0; place = 0 }
-submitted_in (Err e) s = refused_in e s
-
--- what `bolt_feed` fills in: the bytes used, and what ended with the last of them
-abbrev pub heard_of : ℕ → Event → Heard
-heard_of used event.Nothing =
-    record { used = used; ordinal = 0; kind = 0; version = 0; outcome = 0; phase = 0 }
-heard_of used (event.Version o) =
-    record { used = used; ordinal = 0; kind = 1; version = version_code o; outcome = 0; phase = 0 }
-heard_of used event.Row =
-    record { used = used; ordinal = 0; kind = 2; version = 0; outcome = 0; phase = 0 }
-heard_of used (event.Summary n p o) =
-    record { used = used; ordinal = n; kind = 3; version = 0; outcome = outcome_code o; phase = phase_code p }
-
--- an ordinal with what became of its request, in numbers
-abbrev pub loss_of : ℕ × Outcome → Loss
-loss_of p = record { ordinal = p.0; outcome = outcome_code p.1 }
+-- what `bolt_ask` fills in
+abbrev pub asked_in : Result ℕ Refusal → Told → Told
+asked_in (Ok n) s = record { ordinal = n; rule = 0; place = 0 }
+asked_in (Err e) s = refused_in e s
 
 -- What a call makes of what a handle holds; of an empty one it is nothing, and this holds.
 abbrev pub OnHeld : Option Held → Option Held → Type 0 → (Held → Held → Type 0) → Type 0
@@ -130,52 +117,91 @@ OnHeld None None empty moves = empty
 OnHeld (Some old) (Some new) empty moves = moves old new
 OnHeld old new empty moves = ⊥
 
--- `bolt_submit` of the bytes of a message: its code, and what it fills in, are those of the client's answer
-abbrev pub Submitting : List ℕ → ℕ → Submitted → Submitted → Held → Held → Type 0
-Submitting bytes n before after old new =
-    (answer : Result ℕ Refusal) × Submits old bytes answer new
-    × (n ≡ code_by refusal_code answer) × (after ≡ submitted_in answer before)
-
--- `bolt_take` into a buffer: the same, beside the bytes
-abbrev pub Taking : List ℕ → ℕ → List ℕ → ℕ → ℕ → Held → Held → Type 0
-Taking into n written before after old new =
-    (answer : Result ℕ ClientFault) × Takes old into answer written new
-    × (n ≡ code_by fault_code answer) × (after ≡ filled (λ count. count) answer before)
-
--- `bolt_feed` of a piece: the same
-abbrev pub Feeding : List ℕ → ℕ → Heard → Heard → Held → Held → Type 0
-Feeding piece n before after old new =
-    (answer : Result (ℕ × Event) ClientFault) × Feeds old piece answer new
-    × (n ≡ code_by fault_code answer) × (after ≡ filled (λ told. heard_of told.0 told.1) answer before)
-
--- `bolt_message` into a buffer: the same, and nothing else has changed
-abbrev pub Messaging : List ℕ → ℕ → List ℕ → ℕ → ℕ → Held → Held → Type 0
-Messaging into n written before after old new =
-    (answer : Result ℕ MessageFault) × (new ≡ old)
-    × Tells (message_of (rest_of old.client).knows.version (last_of old)) into answer written
-    × (n ≡ code_by message_fault_code answer) × (after ≡ filled (λ count. count) answer before)
-
--- there is a new client for the wish
-abbrev pub Opened : Wish → Option Held → Type 0
-Opened w None = ⊥
-Opened w (Some new) = (rest_of new.client ≡ begun w) × (new.last ≡ None)
+-- there is a new client for the wish, which keeps so many rows of a request
+abbrev pub Opened : Wish → ℕ → Option Held → Type 0
+Opened w rows None = ⊥
+Opened w rows (Some new) = (held_rest new ≡ begun w) × (held_account new ≡ untold rows)
 
 -- `bolt_open`: a new client for the wish; else nothing has changed
-abbrev pub Opens : Option Held → Option Wish → ℕ → Option Held → Type 0
-Opens old None n new = (n ≡ 10) × (new ≡ old)
-Opens old (Some w) n new =
-    (n ≡ 0 → Opened w new) × ((n ≡ 0 → ⊥) → (n ≡ 5) × (new ≡ old))
+abbrev pub Opens : Option Held → Option Wish → ℕ → ℕ → Option Held → Type 0
+Opens old None rows n new = (n ≡ 10) × (new ≡ old)
+Opens old (Some w) rows n new =
+    (n ≡ 0 → Opened w rows new) × ((n ≡ 0 → ⊥) → (n ≡ 5) × (new ≡ old))
 
--- `bolt_lost`: the outcome of each request that waited, if there is room for 32; else nothing has changed
-pub record Loses (old : Held) (before : List Loss) (count result : ℕ) (after : List Loss)
-    (told : ℕ) (new : Held) : Type 0 where
-  pub short : length before < max_waiting
-      → (result ≡ 11) × (after ≡ before) × (told ≡ count) × (new ≡ old)
-  pub done : max_waiting ≤ length before → (result ≡ 0) × (new.last ≡ old.last)
-  pub tells : max_waiting ≤ length before
-      → (rest_of new.client ≡ after_drop (rest_of old.client))
-      × (told ≡ length (losses (rest_of old.client).knows))
-      × (after ≡ map loss_of (losses (rest_of old.client).knows) ++ drop told before)
+-- `bolt_ask` of the bytes of a message: its code, and what it fills in, are those of the driver's answer
+abbrev pub Asking : List ℕ → ℕ → Told → Told → Held → Held → Type 0
+Asking bytes n before after old new =
+    (answer : Result ℕ Refusal) × TakesRequest old bytes answer new
+    × (n ≡ code_by refusal_code answer) × (after ≡ asked_in answer before)
+
+-- `bolt_unsent` into a buffer: the bytes that aren't sent, and how many there are
+abbrev pub Unsending : List ℕ → ℕ → List ℕ → ℕ → Held → Held → Type 0
+Unsending into n written count old new =
+    (n ≡ 0) × (new ≡ old) × (count ≡ length (held_rest old).unsent)
+    × Writes (held_rest old).unsent into written
+
+-- `bolt_sent` of so many bytes
+abbrev pub Sending : ℕ → ℕ → Held → Held → Type 0
+Sending count n old new =
+    (n ≡ 0) × (held_rest new ≡ taken_out (held_rest old) count) × (held_account new ≡ held_account old)
+
+-- `bolt_feed` of a piece: so many bytes are used whatever the code
+abbrev pub Feeding : List ℕ → ℕ → ℕ → Held → Held → Type 0
+Feeding piece n used old new =
+    (stop : Option FeedFault) × FeedsAll (stand_of old) piece used stop (stand_of new)
+    × (n ≡ stop_code stop)
+
+-- `bolt_outcome` of a request
+abbrev pub Concluding : ℕ → ℕ → ℕ → Held → Held → Type 0
+Concluding i n outcome old new =
+    (n ≡ 0) × (new ≡ old) × (outcome ≡ outcome_code (outcome_of (held_account old) i))
+
+-- `bolt_response` and `bolt_row` into a buffer: nothing else has changed
+abbrev pub Messaging : (Held → Option ResponseView) → List ℕ → ℕ → List ℕ → ℕ → ℕ → Held → Held
+    → Type 0
+Messaging said into n written before after old new =
+    (answer : Result ℕ MessageFault) × (new ≡ old)
+    × Tells (message_of (held_rest old).knows.version (said old)) into answer written
+    × (n ≡ code_by message_fault_code answer) × (after ≡ filled answer before)
+
+-- the summary of a request
+abbrev pub response_in : ℕ → Held → Option ResponseView
+response_in i h = response_of (held_account h) i
+
+-- the row at an index of those that are held of a request
+abbrev pub row_in : ℕ → ℕ → Held → Option ResponseView
+row_in i index h = row_at (rows_of (held_rest h).knows.first (held_account h) i) index
+
+-- `bolt_rows` of a request: how many are held, and how many came behind them
+abbrev pub Counting : ℕ → ℕ → ℕ → ℕ → Held → Held → Type 0
+Counting i n held left old new =
+    (n ≡ 0) × (new ≡ old)
+    × (held ≡ length (rows_of (held_rest old).knows.first (held_account old) i))
+    × (left ≡ left_of (held_rest old).knows.first (held_account old) i)
+
+-- `bolt_drop_rows` of a request
+abbrev pub Dropping : ℕ → ℕ → Held → Held → Type 0
+Dropping i n old new =
+    (n ≡ 0) × (held_rest new ≡ held_rest old)
+    × (held_account new ≡ rows_taken (held_rest old).knows.first (held_account old) i)
+
+-- `bolt_value_at`: the value with the place behind it; if there is none nothing has changed
+abbrev pub Reading : Option (Value × ℕ) → ℕ → ℕ → Value → ℕ → Value → Type 0
+Reading None n at value at_now value_now = (n ≡ 11) × (at_now ≡ at) × (value_now ≡ value)
+Reading (Some x) n at value at_now value_now = (n ≡ 0) × (at_now ≡ x.1) × (value_now ≡ x.0)
+
+-- `bolt_lose`
+abbrev pub Losing : ℕ → Held → Held → Type 0
+Losing n old new =
+    (n ≡ 0) × (held_rest new ≡ after_drop (held_rest old))
+    × (held_account new ≡ with_losses (held_account old) (losses (held_rest old).knows))
+
+-- `bolt_settle`: the account is forgotten, if no request waits
+abbrev pub Settling : ℕ → Held → Held → Type 0
+Settling n old new =
+    (n ≡ (if is_idle (held_rest old).knows then 0 else 1))
+    × (held_rest new ≡ held_rest old)
+    × (held_account new ≡ (if is_idle (held_rest old).knows then settled (held_account old) else held_account old))
 
 -- a truth as a number
 abbrev pub flag : Bool → ℕ

@@ -1,4 +1,4 @@
--- The rules that a message breaks, as `bolt_submit` tells them: two characters as one number, the first times 256 and the second.
+-- The rules that a message breaks, as `bolt_ask` tells them: two characters as one number, the first times 256 and the second.
 use Rattle.std.specs.Prelude.{ℕ}
 use Rattle.packstream.specs.declared.fault.Reason.{Reason as PackReason}
 use Rattle.packstream.specs.declared.fault.Reason.TheVariants as pack

@@ -3,10 +3,8 @@
 ghost use Rattle.std.specs.Prelude.{◌≡◌};
 ghost use Rattle.bolt_c.specs.Answers.{refusal_of};
 
-use client::{Outcome, SubmitFault, Unwritable};
-use machine::Phase;
+use client::{SubmitFault, Unwritable};
 use messages::MsgFault;
-use wire::Version;
 
 /// Why a request isn't taken.
 #[derive(Drop)]
@@ -27,23 +25,10 @@ pub(crate) enum Refusal {
     NoRequest(MsgFault),
 }
 
-/// What ended with the last byte that was used. A row or summary is kept beside it.
-#[derive(Clone, Copy, Drop)]
-pub(crate) enum Event {
-    Nothing,
-    Version(Option<Version>),
-    Row,
-    Summary {
-        ordinal: u64,
-        phase: Phase,
-        outcome: Outcome,
-    },
-}
-
 /// Why the bytes of a message aren't told.
 #[derive(Clone, Copy, Drop)]
 pub(crate) enum MessageFault {
-    /// No row and no summary was heard.
+    /// The account has no such row or summary.
     NotHeard,
     /// Memory ran out.
     Memory,

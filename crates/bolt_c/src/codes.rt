@@ -1,16 +1,20 @@
 //! What C sees: codes for what Rust names, and the structs that calls fill in.
 
 ghost use Rattle.std.specs.Prelude.{◌≡◌};
-ghost use Rattle.bolt_c.specs.Codes.{wish_of, version_code, phase_code, outcome_code, refusal_code, refused_in, fault_code, message_fault_code, heard_of};
+ghost use Rattle.bolt_c.specs.Codes.{wish_of, version_code, phase_code, outcome_code, refusal_code, refused_in, stop_code, message_fault_code};
 
-use crate::answers::{Event, MessageFault, Refusal};
+use crate::answers::{MessageFault, Refusal};
 use crate::rules::{message_rule, request_rule};
-use client::{ClientFault, Outcome};
+use client::Outcome;
+use driver::FeedFault;
 use machine::Phase;
 use wire::{Version, Wish};
 
 /// The call did what it is for.
 pub(crate) const OK: u32 = 0;
+
+/// A request waits.
+pub(crate) const NOT_ALLOWED: u32 = 1;
 
 /// `malloc` gave none.
 pub(crate) const MEMORY: u32 = 5;
@@ -18,50 +22,22 @@ pub(crate) const MEMORY: u32 = 5;
 /// No version has the number.
 pub(crate) const NO_VERSION: u32 = 10;
 
-/// There isn't room for 32 outcomes.
-pub(crate) const NO_ROOM: u32 = 11;
+/// No value begins at the place, or it is cut off.
+pub(crate) const NO_VALUE: u32 = 11;
 
 /// The handle is null.
 pub(crate) const NO_CLIENT: u32 = 100;
 
-/// What a call of `bolt_submit` tells.
+/// What a call of `bolt_ask` tells.
 #[repr(C)]
 #[derive(Drop)]
-pub struct Submitted {
+pub struct Asked {
     /// The request's ordinal, from 0.
     pub ordinal: u64,
     /// Of a message that isn't taken, the rule that it breaks: its two characters, as 'M' << 8 | '5'.
     pub rule: u64,
     /// Where it breaks the rule.
     pub place: u64,
-}
-
-/// What a call of `bolt_feed` used, and what ended with it.
-#[repr(C)]
-#[derive(Drop)]
-pub struct Heard {
-    /// How many bytes of the piece were used.
-    pub used: usize,
-    /// Of a summary, the ordinal of its request, from 0.
-    pub ordinal: u64,
-    /// 0 for nothing, 1 for the version, 2 for a row, 3 for a summary.
-    pub kind: u32,
-    /// Of the version, 44, 50 or 51, or 0 if none was taken.
-    pub version: u32,
-    /// Of a summary, what became of its request, 0 to 3.
-    pub outcome: u32,
-    /// Of a summary, the phase that it leads to, 0 to 7.
-    pub phase: u32,
-}
-
-/// A request that waited when the client was lost.
-#[repr(C)]
-#[derive(Clone, Copy, Drop)]
-pub struct Loss {
-    /// Its ordinal, from 0.
-    pub ordinal: u64,
-    /// 4 if it is lost, 5 where it may have committed.
-    pub outcome: u64,
 }
 
 /// Where a client stands.
@@ -124,16 +100,18 @@ pub(crate) fn phase_code(phase: Phase) -> u32
     }
 }
 
-pub(crate) fn outcome_code(outcome: Outcome) -> u32
+/// The number of an outcome, 6 if none is known.
+pub(crate) fn outcome_code(outcome: Option<Outcome>) -> u32
     ensures { result ≡ outcome_code outcome }
 {
     match outcome {
-        Outcome::Done => 0,
-        Outcome::Committed => 1,
-        Outcome::Refused => 2,
-        Outcome::Ignored => 3,
-        Outcome::Lost => 4,
-        Outcome::Unknown => 5,
+        Some(Outcome::Done) => 0,
+        Some(Outcome::Committed) => 1,
+        Some(Outcome::Refused) => 2,
+        Some(Outcome::Ignored) => 3,
+        Some(Outcome::Lost) => 4,
+        Some(Outcome::Unknown) => 5,
+        None => 6,
     }
 }
 
@@ -153,26 +131,27 @@ pub(crate) fn refusal_code(refusal: &Refusal) -> u32
 }
 
 /// Tells the rule that a message breaks, and where; nothing where it is refused for another reason.
-pub(crate) fn tell_rule(refusal: Refusal, submitted: &mut Submitted)
-    ensures { submitted.new ≡ refused_in refusal submitted.old }
+pub(crate) fn tell_rule(refusal: Refusal, asked: &mut Asked)
+    ensures { asked.new ≡ refused_in refusal asked.old }
 {
     let (rule, place) = match refusal {
         Refusal::Unwritable(why) => request_rule(why),
         Refusal::NoRequest(fault) => message_rule(fault),
         _ => return,
     };
-    submitted.rule = rule;
-    submitted.place = place;
+    asked.rule = rule;
+    asked.place = place;
 }
 
-/// The code of a fault of the client.
-pub(crate) fn fault_code(fault: ClientFault) -> u32
-    ensures { result ≡ fault_code fault }
+/// The code of why no more of a piece was used.
+pub(crate) fn stop_code(stop: Option<FeedFault>) -> u32
+    ensures { result ≡ stop_code stop }
 {
-    match fault {
-        ClientFault::Closed => 4,
-        ClientFault::Memory => 5,
-        ClientFault::BadPeer => 6,
+    match stop {
+        None | Some(FeedFault::Full) => 0,
+        Some(FeedFault::Closed) => 4,
+        Some(FeedFault::Memory) => 5,
+        Some(FeedFault::BadPeer) => 6,
     }
 }
 
@@ -184,39 +163,5 @@ pub(crate) fn message_code(fault: MessageFault) -> u32
         MessageFault::Memory => 5,
         MessageFault::Unwritable => 7,
         MessageFault::NotHeard => 9,
-    }
-}
-
-/// What a feed tells.
-pub(crate) fn as_heard(used: usize, event: Event) -> Heard
-    ensures { result ≡ heard_of used event }
-{
-    let nothing = Heard {
-        used,
-        ordinal: 0,
-        kind: 0,
-        version: 0,
-        outcome: 0,
-        phase: 0,
-    };
-    match event {
-        Event::Nothing => nothing,
-        Event::Version(version) => Heard {
-            kind: 1,
-            version: version_code(version),
-            ..nothing
-        },
-        Event::Row => Heard { kind: 2, ..nothing },
-        Event::Summary {
-            ordinal,
-            phase,
-            outcome,
-        } => Heard {
-            kind: 3,
-            ordinal,
-            outcome: outcome_code(outcome),
-            phase: phase_code(phase),
-            ..nothing
-        },
     }
 }

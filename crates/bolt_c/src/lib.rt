@@ -1,4 +1,4 @@
-//! The client of Bolt for programs in C, and in whatever calls C: `include/bolt.h` declares its calls.
+//! The driver of Bolt for programs in C, and in whatever calls C: `include/bolt.h` declares its calls.
 //!
 //! [`held`] has what a handle holds, and its calls in plain data; [`exports`] has the C calls over them.
 #![tactic(auto)]
@@ -8,5 +8,7 @@ mod codes;
 mod exports;
 mod handle;
 mod held;
-mod losses;
+mod laws;
+mod rows;
 mod rules;
+mod values;

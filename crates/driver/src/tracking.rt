@@ -294,6 +294,13 @@ impl TrackingClient {
         self.client.phase()
     }
 
+    /// The ordinal of the request that waits first; if none does, of the next that is asked. Takes no memory.
+    pub fn first_waiting(&self) -> u64
+        ensures { result ≡ (rest_in self.now).knows.first }
+    {
+        self.client.first_waiting()
+    }
+
     /// How many requests wait, at most 32, and none after `lost`. Takes no memory.
     pub fn pending(&self) -> usize
         ensures count { result ≡ length (rest_in self.now).knows.waiting }

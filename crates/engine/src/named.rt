@@ -4,8 +4,8 @@ ghost use Rattle.engine.specs.Limits.{max_agent};
 
 use crate::{Gate, MAX_AGENT};
 
-/// A gate that lets in whom the gate inside lets in, and by which a server tells another name in its answer to HELLO: `Neo4j/5.1.0` is one that
-/// the drivers of Neo4j take.
+/// A gate that lets in whom the gate inside lets in, and has a server tell this name in its answer to HELLO. Neo4j's own drivers take no server
+/// whose name doesn't begin with `Neo4j/`.
 #[derive(Debug, Drop)]
 pub struct Named<G> {
     gate: G,

@@ -1,5 +1,5 @@
 -- The responses of a server that are neither rows nor the SUCCESS of a RUN: what they are written as, how long that is, and what it stands for.
-use Rattle.std.proofs.Common.{◌≡◌, ◌<◌, ◌≤◌, ◌+◌, ◌^◌, ℕ, List, [], ◌++◌, length, Bool, true, false, cond, nat_lt, None, Some, Result, Ok, Err, codes, refl, ap, sym, ◌∙◌, arith, IsUtf8, decimal}
+use Rattle.std.proofs.Common.{◌≡◌, ◌<◌, ◌≤◌, ◌+◌, ◌^◌, ℕ, suc, List, [], ◌++◌, length, Bool, true, false, cond, nat_lt, None, Some, Result, Ok, Err, codes, refl, ap, sym, ◌∙◌, arith, IsUtf8, decimal}
 use Rattle.std.proofs.lemmas.List.{length-append}
 use Rattle.std.proofs.lemmas.Str.{IsUtf8-append, IsUtf8-from_ascii}
 use Rattle.std.proofs.lemmas.Fmt.{IsAscii-decimal, length-decimal-le}
@@ -80,12 +80,24 @@ digits_le n h = length-decimal-le 20 n (omega arith) (omega arith) h
 text_le : (s : List ℕ) → length (text_bytes s) ≤ 5 + length s
 text_le s = omega (arith, length-append (head 0x80 0xD0 (length s)) s, head_le 0x80 0xD0 (length s))
 
--- the keys of a greeting have heads of one byte
+-- two entries that hold texts
+two_texts_le : (k a l b : List ℕ) → length (canon_entries (entry_then k (text a) (entry_then l (text b) no_entries)) ++ []) ≤ length (text_bytes k) + (length (text_bytes a) + (length (text_bytes l) + length (text_bytes b)))
+two_texts_le k a l b =
+    let last = entry_then l (text b) no_entries in
+    let both = entry_then k (text a) last in
+    omega (arith, length-append (canon_entries both) [], length-append (text_bytes k) (text_bytes a ++ canon_entries last), length-append (text_bytes a) (canon_entries last), length-append (text_bytes l) (text_bytes b ++ []), length-append (text_bytes b) [])
+
+-- the dictionary and the keys of a greeting have heads of one byte
 greeting_le : (agent : List ℕ) (n : ℕ) → length agent ≤ 40 → n < 2 ^ 64 → length (canon (form_of (Greeting agent n))) ≤ 100
+unfolding head
 greeting_le agent n short h =
     let id = codes "bolt-" ++ decimal n in
-    let last = canon_entries (entry_then (codes "connection_id") (text id) no_entries) in
-    omega (arith, short, length-append (text_bytes agent) last, text_le agent, length-append (text_bytes id) [], text_le id, digits_le n h)
+    let es = entry_then (codes "server") (text agent) (entry_then (codes "connection_id") (text id) no_entries) in
+    let whole : length (canon (form_of (Greeting agent n))) ≡ suc (suc (suc (length (canon_entries es ++ [])))) = refl in
+    let server : length (text_bytes (codes "server")) ≡ 7 = refl in
+    let connection : length (text_bytes (codes "connection_id")) ≡ 14 = refl in
+    let some : length (canon_entries es ++ []) ≤ 97 = omega (arith, two_texts_le (codes "server") agent (codes "connection_id") id, server, connection, text_le agent, text_le id, length-append (codes "bolt-") (decimal n), short, digits_le n h) in
+    omega (arith, whole, some)
 
 pub form_le : (s : Summary) → IsShort s → length (canon (form_of s)) ≤ room s
 unfolding int_bytes

@@ -5,4 +5,4 @@ use Rattle.session.proofs.decision.greet.Goals as goal
 pub returns-in-Some : goal.returns-in-Some
 returns-in-Some g c = λ s left tx run.
     let yes : hello_has_login c.args.version ≡ true = cc in
-    rw (yes, c.in-Some.is) (c.admit.ensures c.args.version s left tx run)
+    rw (yes, c.in-Some.is, ← c.of.ensures) (c.admit.ensures c.args.version s left tx run)
