@@ -349,6 +349,19 @@ def frees(port):
     return len(warned) == 1 and not client.handle.at and other.fileno() == -1 and asked.outcome == bolt.LOST
 
 
+def forgets(port):
+    """Whether the library's account has the requests that were asked last, and none from before, so that it doesn't grow."""
+    def told(ordinal):
+        found = bolt.library.ctypes.c_uint32()
+        return bolt.library.LIBRARY.bolt_outcome(connection._client.handle, ordinal, found) or found.value
+
+    with bolt.Session("127.0.0.1", port, USER) as connection:
+        for _ in range(3):
+            connection.run("ONE")
+        last = connection.requests[-1].ordinal
+        return [told(it) for it in range(last + 1)] == [bolt.library.WAITS] * (last - 1) + [bolt.OUTCOMES.index(it) for it in (bolt.DONE, bolt.COMMITTED)]
+
+
 def dropped(port, number):
     """The outcomes of a transaction that was asked, and sent if the number is even, where an interrupt comes at a line of the finalizer by number; None where it
     has fewer lines."""

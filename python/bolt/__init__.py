@@ -11,6 +11,8 @@ If a connection breaks, `Broken` tells what became of each request that was aske
 
 An exception from elsewhere in the midst of a call, as KeyboardInterrupt or that of a signal handler, ends the connection, and `session.requests` has what
 became of each request; one that comes between two calls changes nothing. Once the connection is closed each has its outcome.
+
+`bolt.aio` has the calls for asyncio.
 """
 from .connection import Connection, Deferred, Pipeline, Result, Transaction, connect
 from .errors import (BAD_ANSWER, COMMITTED, DONE, FAILED, GONE, IGNORED, INTERRUPTED, LOST, NO_MEMORY, NO_VERSION, NOT_BOLT, OUTCOMES, REFUSED, TIMED_OUT, UNKNOWN,
