@@ -1,20 +1,23 @@
 -- What is said of the reason for which a server over sockets ends.
 use Rattle.std.specs.Prelude.{◌≡◌, ◌⊎◌, ℕ, List, [], ◌∷◌, ◌++◌, codes}
 use Rattle.std.specs.Fmt.{decimal}
-use Rattle.streams.specs.declared.fault.StreamFault.{StreamFault}
-use Rattle.streams.specs.declared.fault.StreamFault.TheVariants as fault
-use Rattle.programs.specs.declared.stop.StopReason.TheVariants.{Broken}
 use Rattle.programs.specs.Escaping.{escaped}
-use Rattle.programs.specs.Stopping.{stop_text}
 use Rattle.listening.specs.declared.reasons.Reason.{Reason}
 use Rattle.listening.specs.declared.reasons.Reason.TheVariants as reason
 
--- the fault by which a reason is told
-abbrev pub fault_of : Reason → StreamFault
-fault_of (reason.Unbound e) = fault.ReadFailed
-fault_of (reason.Unwaited e) = fault.ReadFailed
-fault_of reason.OutputFailed = fault.WriteFailed
-fault_of reason.Memory = fault.Memory
+-- the exit status of a reason: 3 for want of memory, else 1
+abbrev pub reason_status : Reason → ℕ
+reason_status (reason.Unbound e) = 1
+reason_status (reason.Unwaited e) = 1
+reason_status reason.OutputFailed = 1
+reason_status reason.Memory = 3
+
+-- the fault by which a reason is told, on a line
+abbrev pub fault_line : Reason → List ℕ
+fault_line (reason.Unbound e) = codes "fault I1" ++ 10 ∷ []
+fault_line (reason.Unwaited e) = codes "fault I1" ++ 10 ∷ []
+fault_line reason.OutputFailed = codes "fault I2" ++ 10 ∷ []
+fault_line reason.Memory = codes "fault I3" ++ 10 ∷ []
 
 -- a host and a port: the host is a word of the command line, and escaped
 abbrev pub place_name : List ℕ → ℕ → List ℕ
@@ -34,4 +37,4 @@ IsSaidOf host port reason.Memory words = words ≡ []
 -- The fault, and behind it what the system said; that may be missing, for want of memory.
 abbrev pub IsTold : List ℕ → ℕ → Reason → List ℕ → Type 0
 IsTold host port why text = (words : List ℕ) × ((words ≡ []) ⊎ IsSaidOf host port why words)
-    × (text ≡ stop_text (Broken (fault_of why)) ++ words)
+    × (text ≡ fault_line why ++ words)

@@ -1,9 +1,8 @@
 //! Why a server over sockets ends, and what is said of it.
 ghost use Rattle.std.specs.Prelude.{◌≡◌, ◌⊎◌, ◌↔◌, List, [], ℕ, IfOk, string_bytes};
 ghost use Rattle.std.specs.IoError.{error_kind};
-ghost use Rattle.programs.specs.Stopping.{Gets, stop_status};
-ghost use Rattle.programs.specs.declared.stop.StopReason.{StopReason};
-ghost use Rattle.listening.specs.Reasons.{IsErrorOf, IsSaidOf, IsTold, fault_of, place_name};
+ghost use Rattle.programs.specs.Stopping.{Gets};
+ghost use Rattle.listening.specs.Reasons.{IsErrorOf, IsSaidOf, IsTold, fault_line, place_name, reason_status};
 
 use programs::{escape, put_fault};
 use std::alloc::{AllocError, Global};
@@ -35,14 +34,16 @@ pub(crate) fn unbound(error: io::Error) -> Reason
     Reason::Unbound(error)
 }
 
-/// The fault by which a reason is told.
-fn fault_of(reason: Reason) -> StreamFault
-    ensures { result ≡ fault_of reason }
+/// Says the fault by which a reason is told, on a line. It answers the exit status.
+fn put_fault_of<W: Sink>(reason: Reason, err: &mut W) -> u8
+    ensures status { result ≡ reason_status reason }
+    ensures text { Gets (W.has_failed err.old) (W.has_failed err.new) (W.taken err.old) (W.taken err.new)
+        (fault_line reason) }
 {
     match reason {
-        Reason::Unbound(_) | Reason::Unwaited(_) => StreamFault::ReadFailed,
-        Reason::OutputFailed => StreamFault::WriteFailed,
-        Reason::Memory => StreamFault::Memory,
+        Reason::Unbound(_) | Reason::Unwaited(_) => put_fault(StreamFault::ReadFailed, err),
+        Reason::OutputFailed => put_fault(StreamFault::WriteFailed, err),
+        Reason::Memory => put_fault(StreamFault::Memory, err),
     }
 }
 
@@ -91,11 +92,11 @@ fn words_of(alloc: Global, host: &str, port: u16, reason: Reason) -> Result<Stri
 /// Says why a server at this port of the host ends: its fault on a line, `fault I1` and the like, and on the next the system's reason, where
 /// there is one and memory for it. It answers the exit status: 3 for want of memory, else 1.
 pub fn put_reason<W: Sink>(alloc: Global, host: &str, port: u16, reason: Reason, err: &mut W) -> u8
-    ensures status { result ≡ stop_status (StopReason.Broken (fault_of reason)) }
+    ensures status { result ≡ reason_status reason }
     ensures text { (text : List ℕ) × IsTold host.now port reason text
         × Gets (W.has_failed err.old) (W.has_failed err.new) (W.taken err.old) (W.taken err.new) text }
 {
-    let status = put_fault(fault_of(reason), err);
+    let status = put_fault_of(reason, err);
     put_words(alloc, host, port, reason, err);
     status
 }
