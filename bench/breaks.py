@@ -114,20 +114,20 @@ VALUES = ("pack", "pack_int", "sized", "fields_of", "names_of", "number", "bytes
 
 
 class Interrupted:
-    """Traces the lines of the module, and raises an interrupt at that of a number."""
+    """Traces the lines of the package, and raises an interrupt, of these kinds by turns, at that of a number; those that finalizers run only if they are named."""
 
-    def __init__(self, number):
-        self.number, self.passed, self.seen, self.raised = number, 0, set(), None
+    def __init__(self, number, kinds=INTERRUPTS, skipped="__del__"):
+        self.number, self.kinds, self.skipped, self.passed, self.seen, self.raised = number, kinds, skipped, 0, set(), None
 
     def __call__(self, frame, event, _):
-        if os.path.dirname(frame.f_code.co_filename) != os.path.dirname(bolt.__file__) or frame.f_code.co_name == "__del__":
+        if os.path.dirname(frame.f_code.co_filename) != os.path.dirname(bolt.__file__) or frame.f_code.co_name == self.skipped:
             return None
         line = frame.f_lineno
         if event == "line" and not (frame.f_code.co_name in VALUES and line in self.seen):
             self.seen.add(line)
             self.passed += 1
             if self.passed == self.number:
-                self.raised = INTERRUPTS[self.number % len(INTERRUPTS)]()
+                self.raised = self.kinds[self.number % len(self.kinds)]()
                 raise self.raised
         return self
 
@@ -211,7 +211,11 @@ def ending(listener, said, again, how):
             pass
 
 
-def ends(_):
+def blocking(port):
+    bolt.Session("127.0.0.1", port, USER, timeout=0.4)
+
+
+def ends(_, connect=blocking):
     """Whether each end of a server is told with its reason, and none takes longer than the time that was set; and how many there are."""
     wrong = []
     for said, again, how, text, cause in ENDS:
@@ -219,7 +223,7 @@ def ends(_):
             server = threading.Thread(target=ending, args=(listener, said, again, how), daemon=True)
             server.start()
             began = time.monotonic()
-            why = raised(lambda: bolt.Session("127.0.0.1", listener.getsockname()[1], USER, timeout=0.4))
+            why = raised(lambda: connect(listener.getsockname()[1]))
             took = time.monotonic() - began
             server.join()
         if not (isinstance(why, bolt.Broken) and str(why) == text and text.endswith(f"({why.why})") and took < 4):
@@ -235,15 +239,16 @@ def gives_up(port):
     """Whether an interrupt and want of memory are told as such, and behind the end too."""
     with bolt.Session("127.0.0.1", port, USER) as connection:
         connection.ask_begin()
-        short = str(raised(lambda: connection._moved(bolt.library.MEMORY)))
+        connection._client.feed = lambda _: bolt.library.MEMORY
+        short = str(raised(connection.settle))
     with bolt.Session("127.0.0.1", port, USER) as connection:
         asked = connection.ask_run("ROWS", {"n": 2})
-        connection._message = lambda: interrupt()
+        connection._client.feed = lambda _: interrupt()
         is_raised = isinstance(raised(connection.settle), Interrupt) and asked.outcome == bolt.UNKNOWN
         told, after = raised(connection.settle), raised(connection.begin)
     told = str(told), str(after), after.code
     return short == "BEGIN: LOST (out of memory)" and is_raised and told == (
-        "RUN ROWS: DONE, PULL of ROWS: UNKNOWN (interrupted)", "the client has ended: interrupted", 4)
+        "RUN ROWS: LOST, PULL of ROWS: UNKNOWN (interrupted)", "the client has ended: interrupted", 4)
 
 
 def interrupt():
@@ -333,12 +338,47 @@ def crosses_processes(values):
 def frees(port):
     """Whether a connection that is dropped and isn't closed frees its client and its socket, and says so."""
     connection = bolt.Session("127.0.0.1", port, USER)
-    handle, other = connection._handle, connection._socket
+    client, other = connection._client, connection._socket
     asked = connection.ask_begin()
     with warnings.catch_warnings(record=True) as told:
         warnings.simplefilter("always")
         del connection
         gc.collect()
     # (others may be dropped meanwhile; a warning holds what it is about)
-    warned = [it for it in told if it.category is ResourceWarning and getattr(it.source, "_handle", None) is handle]
-    return len(warned) == 1 and not handle.at and other.fileno() == -1 and asked.outcome == bolt.LOST
+    warned = [it for it in told if it.category is ResourceWarning and getattr(it.source, "_client", None) is client]
+    return len(warned) == 1 and not client.handle.at and other.fileno() == -1 and asked.outcome == bolt.LOST
+
+
+def dropped(port, number):
+    """The outcomes of a transaction that was asked, and sent if the number is even, where an interrupt comes at a line of the finalizer by number; None where it
+    has fewer lines."""
+    connection, interrupt = bolt.Session("127.0.0.1", port, USER), Interrupted(number // 2, skipped=None)
+    asked = [connection.ask_begin(), connection.ask_run("PUT", {"key": f"dropped{number}", "value": 1}), connection.ask_commit()]
+    if number % 2 == 0:
+        connection._send()
+    with warnings.catch_warnings():
+        warnings.simplefilter("ignore")
+        sys.settrace(interrupt)
+        try:
+            del connection
+        finally:
+            sys.settrace(None)
+    if not interrupt.raised:
+        return None
+    # (its frames hold the connection)
+    interrupt.raised.__traceback__ = None
+    return [it.outcome for it in asked]
+
+
+def keeps_what_was_dropped(port):
+    """Whether each request of a connection that is dropped has its outcome, also where an interrupt comes at a line of the finalizer; and how many were dropped."""
+    told, number, hook = [], 2, sys.unraisablehook
+    # (Python drops what a finalizer raises)
+    sys.unraisablehook = lambda _: None
+    try:
+        while (outcomes := dropped(port, number)) is not None:
+            told.append(outcomes == [bolt.LOST, bolt.LOST, bolt.UNKNOWN if number % 2 == 0 else bolt.LOST])
+            number += 1
+    finally:
+        sys.unraisablehook = hook
+    return all(told) and len(told) > 20, len(told)

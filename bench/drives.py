@@ -245,14 +245,14 @@ def encrypts(port):
     return (len(said), type(stranger), type(stranger.__cause__), type(plain)) == (1024, bolt.Broken, ssl.SSLCertVerificationError, bolt.Broken)
 
 
-FIRST = "```python\n"
-
-
 def installs(port):
-    """Whether the wheel is built and installed into an environment of its own, and the page's first program prints there what the page says."""
+    """Whether the wheel is built and installed into an environment of its own, and the page's first program, and that of asyncio, print there what the page says."""
     page = (HERE / "docs" / "PYTHON.md").read_text()
-    program, _, behind = page.partition(FIRST)[2].partition("```\n")
+    program, _, behind = page.partition("```python\n")[2].partition("```\n")
     wanted = behind.partition("prints\n\n")[2].partition("\n\n")[0]
+    before, _, awaiting = behind.partition("```python\n")
+    program += awaiting.partition("```\n")[0]
+    wanted += "\n" + before.rpartition("This prints `")[2].partition("`")[0]
     with tempfile.TemporaryDirectory() as folder:
         source = pathlib.Path(folder) / "python"
         shutil.copytree(HERE / "python", source, ignore=shutil.ignore_patterns("libbolt.*", "__pycache__"))

@@ -1,4 +1,4 @@
-/* commit ADDRESS PORT VERSION KEY: puts a key in a transaction, all of it in one pipeline, and prints what became of each of its requests.
+/* commit ADDRESS PORT VERSION KEY: puts a key in a transaction and reads it there, all of it in one pipeline, and prints the value and what became of each request.
  * VERSION is 44, 50 or 51, or 0 for the newest that the server takes.
  * cc -I include examples/commit.c LIBRARY -o commit, where LIBRARY is the libbolt.a that bench/build_c makes. */
 #include "bolt.h"
@@ -9,34 +9,33 @@
 #include <sys/socket.h>
 #include <unistd.h>
 
-static const char *const outcomes[] = {"Done", "Committed", "Refused", "Ignored", "Lost", "Unknown"};
+static const char *const outcomes[] = {"Done", "Committed", "Refused", "Ignored", "Lost", "Unknown", "Waits"};
 static bolt_client client;
 static bolt_standing now;
+static bolt_asked last;
+static uint64_t asked, pull;
 static int fd;
 
 static void stop(const char *why) { fprintf(stderr, "%s\n", why); bolt_close(&client); exit(3); }
 
-static void submit(const char *message, size_t length) {
-    bolt_submitted told;
-    uint32_t code = bolt_submit(&client, (const uint8_t *)message, length, &told);
+static void ask(const char *message, size_t length) {
+    uint32_t code = bolt_ask(&client, (const uint8_t *)message, length, &last);
     if (code == BOLT_NO_REQUEST || code == BOLT_UNWRITABLE)
-        fprintf(stderr, "%c%c at %d\n", (char)(told.rule >> 8), (char)(told.rule & 255), (int)told.place);
-    if (code) stop(code == BOLT_MEMORY ? "out of memory" : "not submitted");
+        fprintf(stderr, "%c%c at %d\n", (char)(last.rule >> 8), (char)(last.rule & 255), (int)last.place);
+    if (code) stop(code == BOLT_MEMORY ? "out of memory" : "not asked");
+    asked = last.ordinal + 1;
 }
-#define SUBMIT(text) submit(text, sizeof text - 1)
+#define ASK(text) ask(text, sizeof text - 1)
 
 static int send_all(void) {
     uint8_t bytes[4096];
-    size_t count = 0, sent;
-    for (;;) {
-        if (bolt_take(&client, bytes, sizeof bytes, &count)) return fprintf(stderr, "out of memory\n"), 0;
-        if (!count) return 1;
-        for (sent = 0; sent < count;) {
-            ssize_t more = send(fd, bytes + sent, count - sent, MSG_NOSIGNAL);
-            if (more <= 0) return 0;
-            sent += (size_t)more;
-        }
+    size_t count = 0;
+    while (!bolt_unsent(&client, bytes, sizeof bytes, &count) && count) {
+        ssize_t sent = send(fd, bytes, count < sizeof bytes ? count : sizeof bytes, MSG_NOSIGNAL);
+        if (sent <= 0) return 0;
+        bolt_sent(&client, (size_t)sent);
     }
+    return 1;
 }
 
 /* Hears answers until none is to come, or none can come, also for want of memory: 0 then. */
@@ -44,39 +43,52 @@ static int settle(void) {
     uint8_t bytes[4096];
     while (!bolt_state(&client, &now) && now.awaits) {
         ssize_t count = send_all() ? recv(fd, bytes, sizeof bytes, 0) : 0;
+        size_t used = 0;
         if (count <= 0) return 0;
-        for (bolt_heard heard = {0}, *h = &heard; count > 0; count -= (ssize_t)h->used) {
-            uint32_t code = bolt_feed(&client, bytes, (size_t)count, h);
-            if (code == BOLT_MEMORY) fprintf(stderr, "out of memory\n");
-            if (code) return 0;
-            memmove(bytes, bytes + h->used, (size_t)count - h->used);
-            if (h->kind == BOLT_SUMMARY) printf("%d: %s\n", (int)h->ordinal, outcomes[h->outcome]);
-        }
+        uint32_t code = bolt_feed(&client, bytes, (size_t)count, &used);
+        if (code == BOLT_MEMORY) fprintf(stderr, "out of memory\n");
+        if (code || used < (size_t)count) return 0;
     }
     return !now.has_ended;
+}
+
+/* Prints the integers of a request's rows. */
+static void show(uint64_t ordinal) {
+    static uint8_t row[BOLT_MESSAGE];
+    size_t length = 0;
+    bolt_value value;
+    for (uint64_t i = 0; !bolt_row(&client, ordinal, i, row, sizeof row, &length); i++)
+        for (size_t at = 0; !bolt_value_at(row, length, &at, &value);)
+            if (value.kind == BOLT_INT) printf("value: %lld\n", (long long)value.integer);
 }
 
 int main(int argc, char **argv) {
     if (argc != 5 || strlen(argv[4]) > 15) return fprintf(stderr, "commit ADDRESS PORT VERSION KEY\n"), 2;
     struct sockaddr_in at = {.sin_family = AF_INET, .sin_port = htons((uint16_t)atoi(argv[2]))};
-    char put[64];
-    int length = snprintf(put, sizeof put, "\xb3\x10\x83PUT\xa2\x83key%c%s\x85value\x01\xa0", 0x80 + (int)strlen(argv[4]), argv[4]);
+    char put[64], get[64], tiny = (char)(0x80 + strlen(argv[4]));
+    int put_length = snprintf(put, sizeof put, "\xb3\x10\x83PUT\xa2\x83key%c%s\x85value\x01\xa0", tiny, argv[4]);
+    int get_length = snprintf(get, sizeof get, "\xb3\x10\x83GET\xa1\x83key%c%s\xa0", tiny, argv[4]);
     fd = socket(AF_INET, SOCK_STREAM, 0);
     if (inet_pton(AF_INET, argv[1], &at.sin_addr) != 1 || connect(fd, (struct sockaddr *)&at, sizeof at)) return fprintf(stderr, "no server\n"), 2;
-    if (bolt_open(&client, (uint32_t)atoi(argv[3]))) stop("no client");
+    if (bolt_open(&client, (uint32_t)atoi(argv[3]), 1000)) stop("no client");
     int up = settle();
     if (up && now.version == BOLT_5_1) {
-        SUBMIT("\xb1\x01\xa1\x8auser_agent\x88" "commit/1");
-        SUBMIT("\xb1\x6a\xa3\x86scheme\x85" "basic\x89principal\x84user\x8b" "credentials\x84pass");
+        ASK("\xb1\x01\xa1\x8auser_agent\x88" "commit/1");
+        ASK("\xb1\x6a\xa3\x86scheme\x85" "basic\x89principal\x84user\x8b" "credentials\x84pass");
     } else if (up) {
-        SUBMIT("\xb1\x01\xa4\x8auser_agent\x88" "commit/1\x86scheme\x85" "basic\x89principal\x84user\x8b" "credentials\x84pass");
+        ASK("\xb1\x01\xa4\x8auser_agent\x88" "commit/1\x86scheme\x85" "basic\x89principal\x84user\x8b" "credentials\x84pass");
     }
-    if (up) SUBMIT("\xb1\x11\xa0"), submit(put, (size_t)length), SUBMIT("\xb1\x2f\xa1\x81n\xff"), SUBMIT("\xb0\x12");
-    if (!up || !settle()) {
-        bolt_loss losses[BOLT_LOSSES];
-        size_t lost = 0;
-        if (bolt_lost(&client, losses, BOLT_LOSSES, &lost)) stop("no client");
-        for (size_t i = 0; i < lost; i++) printf("%d: %s\n", (int)losses[i].ordinal, outcomes[losses[i].outcome]);
+    if (up) {
+        ASK("\xb1\x11\xa0"), ask(put, (size_t)put_length), ASK("\xb1\x2f\xa1\x81n\xff"), ask(get, (size_t)get_length), ASK("\xb1\x3f\xa1\x81n\xff");
+        pull = last.ordinal;
+        ASK("\xb0\x12");
+    }
+    if (!up || !settle()) bolt_lose(&client);
+    show(pull);
+    for (uint64_t i = 0; i < asked; i++) {
+        uint32_t outcome = BOLT_WAITS;
+        bolt_outcome(&client, i, &outcome);
+        printf("%d: %s\n", (int)i, outcomes[outcome]);
     }
     return bolt_close(&client), close(fd);
 }

@@ -10,7 +10,7 @@ sys.path.insert(0, os.path.join(os.path.dirname(os.path.abspath(__file__)), ".."
 import bolt
 
 
-def commit(address, port, key):
+def commit(address: str, port: int, key: str) -> list[bolt.Request]:
     with bolt.connect(address, port, auth=("user", "pass")) as connection:
         with connection.pipeline() as asked:
             asked.begin()
@@ -19,7 +19,7 @@ def commit(address, port, key):
         return connection.session.requests
 
 
-def main(address, port, key):
+def main(address: str, port: str, key: str) -> None:
     try:
         requests = commit(address, int(port), key)
     except bolt.Broken as broken:
@@ -28,6 +28,9 @@ def main(address, port, key):
     except bolt.Refused as refused:
         print(refused)
         requests = refused.requests
+    except bolt.NotSent as unsent:
+        print(unsent)
+        requests = []
     for request in requests:
         print(f"{request.text}: {request.outcome}")
 

@@ -1,4 +1,4 @@
-"""A driver of Bolt 4.4, 5.0 and 5.1: the proved client of libbolt.so keeps the protocol, this package has the socket and the values.
+"""A driver of Bolt 4.4, 5.0 and 5.1: the proved driver of libbolt.so keeps the protocol and the account, this package has the socket and the values.
 
     with bolt.connect("127.0.0.1", 7687, auth=("user", "pass")) as connection:
         for record in connection.run("ROWS", n=3): print(record["i"])
@@ -12,10 +12,10 @@ If a connection breaks, `Broken` tells what became of each request that was aske
 An exception from elsewhere in the midst of a call, as KeyboardInterrupt or that of a signal handler, ends the connection, and `session.requests` has what
 became of each request; one that comes between two calls changes nothing. Once the connection is closed each has its outcome.
 """
-from .connection import Connection, Deferred, Pipeline, Transaction, connect
+from .connection import Connection, Deferred, Pipeline, Result, Transaction, connect
 from .errors import (BAD_ANSWER, COMMITTED, DONE, FAILED, GONE, IGNORED, INTERRUPTED, LOST, NO_MEMORY, NO_VERSION, NOT_BOLT, OUTCOMES, REFUSED, TIMED_OUT, UNKNOWN,
                      UNREACHED, BoltError, Broken, NotSent, Refused, Request)
-from .results import Record, Result, Summary
+from .results import Record, Summary
 from .retry import ABSENT, CLASH, OPEN, STANDS, Known, until_known
 from .session import Session
 from .values import (Date, DateTime, Duration, LocalDateTime, LocalTime, Node, Path, Point2D, Point3D, Relationship, Structure, Time, UnboundRelationship,

@@ -1,8 +1,7 @@
 """What became of a request, why a connection is gone, and what this package raises: one tree under `BoltError`."""
 from __future__ import annotations
 
-import dataclasses
-from typing import Any, Optional, Sequence
+from typing import Any, Optional, Protocol, Sequence
 
 DONE, COMMITTED, REFUSED, IGNORED, LOST, UNKNOWN = OUTCOMES = ("DONE", "COMMITTED", "REFUSED", "IGNORED", "LOST", "UNKNOWN")
 
@@ -21,16 +20,46 @@ CLOSED_HERE = "closed"
 
 FAULTS = {1: "the request isn't allowed here", 2: "no room among the 32 requests that may wait", 3: "the message is too long", 4: "the client has ended",
           5: "out of memory", 6: "the server sent what no server may", 7: "the request can't be written", 8: "no request of this version",
-          9: "nothing was heard", 10: "no version has this number", 11: "the buffer is too short", 100: "the connection is closed"}
+          9: "nothing was heard", 10: "no version has this number", 11: "no value is there", 100: "the connection is closed"}
 
 
-@dataclasses.dataclass
+class Account(Protocol):
+    """What knows what became of requests: the client of the library."""
+
+    def outcome(self, ordinal: int) -> Optional[str]: ...
+
+
 class Request:
-    """What was asked, and what became of it: an outcome once it is known, and what its summary and rows hold."""
-    text: str
-    outcome: Optional[str] = None
-    metadata: dict[str, Any] = dataclasses.field(default_factory=dict)
-    rows: list[list[Any]] = dataclasses.field(default_factory=list)
+    """What was asked, and what became of it: an outcome once it is known, which the library's account tells, and what its summary and rows hold."""
+
+    def __init__(self, text: str, outcome: Optional[str] = None, metadata: Optional[dict[str, Any]] = None, rows: Optional[list[list[Any]]] = None, *,
+                 account: Optional[Account] = None, ordinal: int = 0) -> None:
+        self.text, self.ordinal = text, ordinal
+        self.metadata: dict[str, Any] = {} if metadata is None else metadata
+        self.rows: list[list[Any]] = [] if rows is None else rows
+        self._outcome, self._account = outcome, account
+
+    @property
+    def outcome(self) -> Optional[str]:
+        """One of OUTCOMES, None as long as it isn't known."""
+        if self._account is not None and (told := self._account.outcome(self.ordinal)):
+            # (the last word, for which the client isn't needed any more)
+            self._outcome, self._account = told, None
+        return self._outcome
+
+    def _shown(self) -> tuple[str, Optional[str], dict[str, Any], list[list[Any]]]:
+        return self.text, self.outcome, self.metadata, self.rows
+
+    def __eq__(self, other: object) -> bool:
+        return isinstance(other, Request) and self._shown() == other._shown()
+
+    __hash__ = None  # type: ignore[assignment]
+
+    def __reduce__(self) -> tuple[Any, ...]:
+        return Request, self._shown()
+
+    def __repr__(self) -> str:
+        return "Request(text={!r}, outcome={!r}, metadata={!r}, rows={!r})".format(*self._shown())
 
 
 def committed(requests: Sequence[Request]) -> Optional[str]:

@@ -1,29 +1,24 @@
-"""The calls of libbolt.so, as include/bolt.h declares them."""
+"""The calls of libbolt.so, as include/bolt.h declares them, and a client of the library, which keeps the account of its requests."""
 from __future__ import annotations
 
 import ctypes
 import os
-from typing import Any
+import weakref
+from typing import Any, Optional
 
-VERSION, ROW, SUMMARY = 1, 2, 3
-NOT_ALLOWED, FULL, CLOSED, MEMORY, BAD_PEER, UNWRITABLE = 1, 2, 4, 5, 6, 7
-MESSAGE, LOSSES = 65536, 32
+from .errors import LOST, OUTCOMES, UNKNOWN, NotSent
+from .values import unpack, unpack_message
+
+OK, NOT_ALLOWED, FULL, CLOSED, MEMORY, BAD_PEER, NO_CLIENT = 0, 1, 2, 4, 5, 6, 100
+WAITS, MESSAGE, PIPELINE, ALL = 6, 65536, 32, (1 << 63) - 1
 
 
 class Handle(ctypes.Structure):
     _fields_ = [("at", ctypes.c_void_p)]
 
 
-class Heard(ctypes.Structure):
-    _fields_ = [("used", ctypes.c_size_t), ("ordinal", ctypes.c_uint64), *[(it, ctypes.c_uint32) for it in ("kind", "version", "outcome", "phase")]]
-
-
-class Submitted(ctypes.Structure):
+class Asked(ctypes.Structure):
     _fields_ = [(it, ctypes.c_uint64) for it in ("ordinal", "rule", "place")]
-
-
-class Loss(ctypes.Structure):
-    _fields_ = [("ordinal", ctypes.c_uint64), ("outcome", ctypes.c_uint64)]
 
 
 class Standing(ctypes.Structure):
@@ -31,13 +26,15 @@ class Standing(ctypes.Structure):
 
 
 def library(path: str) -> Any:
-    made = ctypes.CDLL(path)
-    code, count, text = ctypes.c_uint32, ctypes.c_size_t, ctypes.c_char_p
+    # (a call holds the interpreter's lock, so that a handle is given to one call at a time, whatever threads ask for outcomes)
+    made = ctypes.PyDLL(path)
+    code, number, count, text = ctypes.c_uint32, ctypes.c_uint64, ctypes.c_size_t, ctypes.c_char_p
     to = ctypes.POINTER
     calls: tuple[tuple[Any, ...], ...] = (
-        ("open", code, code), ("close", None), ("submit", code, text, count, to(Submitted)), ("take", code, text, count, to(count)),
-        ("feed", code, text, count, to(Heard)), ("message", code, text, count, to(count)), ("lost", code, to(Loss), count, to(count)),
-        ("state", code, to(Standing)))
+        ("open", code, code, count), ("close", None), ("ask", code, text, count, to(Asked)), ("unsent", code, text, count, to(count)), ("sent", code, count),
+        ("feed", code, text, count, to(count)), ("outcome", code, number, to(code)), ("response", code, number, text, count, to(count)),
+        ("rows", code, number, to(number), to(number)), ("row", code, number, number, text, count, to(count)), ("drop_rows", code, number),
+        ("lose", code), ("settle", code), ("state", code, to(Standing)))
     for name, result, *rest in calls:
         call = getattr(made, "bolt_" + name)
         call.restype, call.argtypes = result, [to(Handle), *rest]
@@ -45,3 +42,75 @@ def library(path: str) -> Any:
 
 
 LIBRARY = library(os.environ.get("BOLT_SO") or os.path.join(os.path.dirname(os.path.abspath(__file__)), "libbolt.so"))
+
+
+def check(code: int) -> None:
+    if code:
+        raise NotSent(code)
+
+
+class Client:
+    """A client of the library. The account of its requests is in it, which no interrupt of Python's can break off; a request asks it until its outcome
+    is known. The session that owns it feeds it: once that is gone, nothing is heard any more."""
+
+    def __init__(self, versions: int, owner: object) -> None:
+        self.handle, self._owner = Handle(), weakref.ref(owner)
+        self.went = False  # whether bytes of the requests of the account may have gone out
+        self._buffer, self._length = ctypes.create_string_buffer(MESSAGE), ctypes.c_size_t()
+        self._bytes = memoryview(self._buffer).cast("B")
+        check(LIBRARY.bolt_open(self.handle, versions, ALL))
+
+    def close(self) -> None:
+        LIBRARY.bolt_close(self.handle)
+
+    def __del__(self) -> None:
+        LIBRARY.bolt_close(self.handle)
+
+    def state(self) -> Standing:
+        standing = Standing()
+        check(LIBRARY.bolt_state(self.handle, standing))
+        return standing
+
+    def unsent(self) -> bytes:
+        """The next bytes that are to be sent, none where all are."""
+        check(LIBRARY.bolt_unsent(self.handle, self._buffer, MESSAGE, self._length))
+        return self._bytes[:self._length.value].tobytes()
+
+    def sent(self, count: int) -> None:
+        check(LIBRARY.bolt_sent(self.handle, count))
+
+    def feed(self, piece: bytes) -> int:
+        """Feeds bytes of the server, and answers a code. What they say is in the account, whatever the code."""
+        return int(LIBRARY.bolt_feed(self.handle, piece, len(piece), self._length))
+
+    def outcome(self, ordinal: int) -> Optional[str]:
+        """What became of a request, None as long as it waits."""
+        told = ctypes.c_uint32()
+        if self._owner() is None:
+            check(LIBRARY.bolt_lose(self.handle))
+        check(LIBRARY.bolt_outcome(self.handle, ordinal, told))
+        if told.value == WAITS:
+            state = self.state()
+            # (behind the end none waits: the library never took it)
+            return LOST if state.has_ended and not state.pending else None
+        # (nothing was committed by what no byte of has gone out)
+        return LOST if OUTCOMES[told.value] == UNKNOWN and not self.went else OUTCOMES[told.value]
+
+    def response(self, ordinal: int) -> list[Any]:
+        """The fields of a request's summary."""
+        check(LIBRARY.bolt_response(self.handle, ordinal, self._buffer, MESSAGE, self._length))
+        return unpack_message(self._bytes[:self._length.value].tobytes())[1]
+
+    def take_rows(self, ordinal: int) -> list[list[Any]]:
+        """The rows that are held of a request, which are dropped here."""
+        held, left, rows = ctypes.c_uint64(), ctypes.c_uint64(), []
+        check(LIBRARY.bolt_rows(self.handle, ordinal, held, left))
+        row, handle, buffer, text, length = LIBRARY.bolt_row, self.handle, self._buffer, self._bytes, self._length
+        for index in range(held.value):
+            if code := row(handle, ordinal, index, buffer, MESSAGE, length):
+                raise NotSent(code)
+            # (behind the two bytes of a row stands the list of its cells)
+            rows.append(unpack(text[2:length.value].tobytes()))
+        if rows:
+            check(LIBRARY.bolt_drop_rows(handle, ordinal))
+        return rows

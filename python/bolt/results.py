@@ -1,13 +1,12 @@
-"""Rows by name, and a result that is pulled as it is read."""
+"""Rows by name, how a result ended, and what is held of one that is pulled as it is read."""
 from __future__ import annotations
 
 import dataclasses
-from typing import TYPE_CHECKING, Any, Iterator, Mapping, Optional, Sequence, Union
+from typing import Any, Iterator, Mapping, Optional, Sequence, Union
 
+from .core import Core, Steps
 from .errors import LOST, Request
-
-if TYPE_CHECKING:
-    from .connection import Connection
+from .times import heard
 
 
 class Record(Sequence[Any]):
@@ -71,77 +70,59 @@ class Summary:
         return self.metadata.get("bookmark")
 
 
-class Result:
-    """The records of a query, pulled from the server as they are read, so many at once as `Connection.fetch` says. What is left of them is pulled
-    when something else is asked of the connection, and kept."""
+class Pulled:
+    """What is held of the records of a query. They are pulled as they are read, so many at once as `fetch` says."""
 
-    def __init__(self, connection: Connection, run: Request, pull: Request, text: str) -> None:
-        self._connection, self._run, self._last, self._text = connection, run, pull, text
-        self._rows: list[list[Any]] = []
+    def __init__(self, session: Core, run: Request, pull: Request, text: str, fetch: int) -> None:
+        self._session, self._run, self._last, self._text, self._fetch = session, run, pull, text, fetch
+        self._rows: list[list[Any]] = list(pull.rows)
         self._read = 0
-        self._take()
-
-    def _take(self) -> None:
-        """Keeps the rows of the last pull."""
-        self._rows += self._last.rows
 
     @property
     def _has_more(self) -> bool:
         return bool(self._last.metadata.get("has_more"))
 
-    def _more(self, count: int) -> None:
+    def _more(self, count: int) -> Steps[None]:
         """Pulls so many more, all with -1."""
-        self._last = self._connection._pulled(self._text, count)
-        self._take()
+        self._last = self._session.ask_pull(self._text, count)
+        yield from self._session._settling()
+        self._rows += self._last.rows
 
-    def _finish(self) -> None:
+    def _finish(self) -> Steps[None]:
         """Pulls what is left, and keeps it."""
         while self._has_more:
-            self._more(-1)
+            yield from self._more(-1)
+
+    def _refill(self) -> Steps[None]:
+        """Pulls more once all that is held was read, which isn't kept twice."""
+        while self._is_read and self._has_more:
+            self._rows, self._read = [], 0
+            yield from self._more(self._fetch)
+
+    @property
+    def _is_read(self) -> bool:
+        return self._read == len(self._rows)
+
+    def _next(self) -> Record:
+        """The next record, which is held."""
+        self._read += 1
+        return Record(self.keys(), [heard(it, self._session.version) for it in self._rows[self._read - 1]])
+
+    def _held(self) -> Iterator[Record]:
+        """The records that are held and weren't read yet."""
+        while not self._is_read:
+            yield self._next()
+
+    def _summary(self) -> Summary:
+        return Summary(self._last.outcome or LOST, self._last.metadata)
 
     def keys(self) -> list[str]:
         """The names of the columns."""
         return list(self._run.metadata.get("fields", []))
 
-    def _record(self, row: list[Any]) -> Record:
-        return Record(self.keys(), [self._connection._heard(it) for it in row])
 
-    def __iter__(self) -> Iterator[Record]:
-        return self
-
-    def __next__(self) -> Record:
-        while self._read == len(self._rows):
-            if not self._has_more:
-                raise StopIteration
-            # (what was read isn't kept twice)
-            self._rows, self._read = [], 0
-            self._more(self._connection.fetch)
-        self._read += 1
-        return self._record(self._rows[self._read - 1])
-
-    def data(self) -> list[dict[str, Any]]:
-        """The records that weren't read yet, each by name."""
-        return [it.data() for it in self]
-
-    def values(self) -> list[list[Any]]:
-        """The records that weren't read yet, each as a list."""
-        return [it.values() for it in self]
-
-    def single(self) -> Record:
-        """The only record; ValueError if there are none or several."""
-        records = list(self)
-        if len(records) != 1:
-            raise ValueError(f"one record is wanted, and there are {len(records)}")
-        return records[0]
-
-    def consume(self) -> Summary:
-        """Passes over what is left, and tells how the result ended."""
-        self._finish()
-        self._read = len(self._rows)
-        return self.summary
-
-    @property
-    def summary(self) -> Summary:
-        """How the result ended; what is left of it is pulled first, and kept."""
-        self._finish()
-        return Summary(self._last.outcome or LOST, self._last.metadata)
+def only(records: list[Record]) -> Record:
+    """The only record; ValueError if there are none or several."""
+    if len(records) != 1:
+        raise ValueError(f"one record is wanted, and there are {len(records)}")
+    return records[0]

@@ -9,7 +9,7 @@ import time
 from typing import Any, Callable, Optional
 
 from .connection import Connection, Transaction
-from .errors import COMMITTED, UNKNOWN, Broken, NotSent, Refused
+from .errors import COMMITTED, UNKNOWN, BoltError, Broken, NotSent, Refused
 
 LOG = logging.getLogger("bolt")
 
@@ -40,6 +40,47 @@ def pause(tried: int) -> float:
     return float(min(5.0, 0.05 * 2 ** tried)) * random.uniform(0.5, 1)
 
 
+class Tries:
+    """The tries of a transaction under a token, and what is known of it by how they ended."""
+
+    def __init__(self, token: Optional[str], tries: int, within: Optional[float], pause: Callable[[int], float]) -> None:
+        self.token = secrets.token_hex(16) if token is None else token
+        self._tries, self._pause, self._within, self._begun = tries, pause, within, time.monotonic()
+        self._tried, self._is_doubtful, self._error = 0, False, None  # type: int, bool, Optional[Exception]
+
+    def pause(self) -> Optional[float]:
+        """The seconds to wait before the next try, None where none is left."""
+        if self._tried == self._tries:
+            return None
+        self._tried += 1
+        return self._pause(self._tried - 1) if self._tried > 1 else 0
+
+    @property
+    def is_late(self) -> bool:
+        return self._within is not None and self._tried > 1 and time.monotonic() - self._begun > self._within
+
+    def failed(self, why: BoltError) -> Optional[Known]:
+        """What is known behind a try that failed so, if that is the end of them."""
+        LOG.debug("%s, try %s: %s", self.token, self._tried, why)
+        self._error = why
+        if isinstance(why, Refused):
+            if why.code == CLASHES:
+                return Known(CLASH, self.token, error=why)
+            if why.code.startswith(FINAL) and not self._is_doubtful:
+                return Known(REFUSED, self.token, error=why)
+        if isinstance(why, Broken):
+            if why.outcome == COMMITTED:
+                # (what the work asked behind it was lost)
+                return Known(STANDS, self.token)
+            self._is_doubtful = self._is_doubtful or why.outcome == UNKNOWN
+        if isinstance(why, NotSent) and not self._is_doubtful:
+            raise why
+        return None
+
+    def over(self) -> Known:
+        return Known(OPEN if self._is_doubtful else ABSENT, self.token, error=self._error)
+
+
 def until_known(connect: Callable[[], Connection], work: Callable[[Transaction], Any], token: Optional[str] = None, *, tries: int = 10,
                 within: Optional[float] = None, pause: Callable[[int], float] = pause) -> Known:
     """Does the work in a transaction under the token, each time over a new connection, until it is known whether it stands: so many tries at most, and
@@ -47,34 +88,17 @@ def until_known(connect: Callable[[], Connection], work: Callable[[Transaction],
 
     The work has to ask the same each time. An exception of its own ends all, as does `NotSent` before anything is in doubt; with the token the
     transaction may be sent again later."""
-    token = secrets.token_hex(16) if token is None else token
-    begun, doubtful = time.monotonic(), False
-    error: Optional[Exception] = None
-    for tried in range(tries):
-        if tried:
-            time.sleep(pause(tried))
-        if within is not None and time.monotonic() - begun > within:
+    sent = Tries(token, tries, within, pause)
+    while (seconds := sent.pause()) is not None:
+        time.sleep(seconds)
+        if sent.is_late:
             break
         try:
             with connect() as connection:
-                with connection.transaction(token=token) as found:
+                with connection.transaction(token=sent.token) as found:
                     value = work(found)
-                return Known(STANDS, token, value, found.bookmark)
-        except Refused as why:
-            error = why
-            if why.code == CLASHES:
-                return Known(CLASH, token, error=why)
-            if why.code.startswith(FINAL) and not doubtful:
-                return Known(REFUSED, token, error=why)
-        except Broken as why:
-            error = why
-            if why.outcome == COMMITTED:
-                # (what the work asked behind it was lost)
-                return Known(STANDS, token)
-            doubtful = doubtful or why.outcome == UNKNOWN
-        except NotSent as why:
-            if not doubtful:
-                raise
-            error = why
-        LOG.debug("%s, try %s: %s", token, tried + 1, error)
-    return Known(OPEN if doubtful else ABSENT, token, error=error)
+                return Known(STANDS, sent.token, value, found.bookmark)
+        except BoltError as why:
+            if known := sent.failed(why):
+                return known
+    return sent.over()

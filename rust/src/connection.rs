@@ -1,7 +1,7 @@
 //! A connection over any stream.
 
 use crate::error::{Error, Outcome, Request};
-use crate::ffi::{Client, CLOSED, FULL, HALTED, LOSSES, MEMORY, MESSAGE, ROW, SUMMARY, VERSION};
+use crate::ffi::{Client, CLOSED, FULL, HALTED, MEMORY, MESSAGE, PIPELINE};
 use crate::value::{dict, put, Reading, Value};
 use std::io::{self, Read, Write};
 
@@ -44,7 +44,10 @@ pub struct Connection<S> {
     client: Client,
     buffer: Vec<u8>,
     requests: Vec<Request>,
+    /// The ordinal of the first of them.
     first: u64,
+    /// Of how many of them all is taken that was told.
+    told: usize,
     is_settled: bool,
     went_out: bool,
     /// Why nothing more is sent.
@@ -79,6 +82,7 @@ impl<S: Read + Write> Connection<S> {
             buffer: vec![0; MESSAGE],
             requests: Vec::new(),
             first: 0,
+            told: 0,
             is_settled: true,
             went_out: false,
             cut: None,
@@ -114,12 +118,14 @@ impl<S: Read + Write> Connection<S> {
     fn ask(&mut self, text: &str, tag: u8, fields: Vec<Value>) -> Result<usize, Error> {
         let state = self.client.state();
         if self.is_settled && state.has_ended == 0 {
+            self.client.settle();
             self.requests.clear();
             self.first = state.first;
+            self.told = 0;
             self.is_settled = false;
             self.went_out = false;
         }
-        self.client.submit(&message(tag, fields)).map_err(|(code, told)| {
+        self.client.ask(&message(tag, fields)).map_err(|(code, told)| {
             let rule: String = if told.rule == 0 { String::new() } else { [(told.rule >> 8) as u8 as char, told.rule as u8 as char].iter().collect() };
             Error::NotSent { code, rule, place: told.place }
         })?;
@@ -134,7 +140,7 @@ impl<S: Read + Write> Connection<S> {
 
     /// A RUN and a PULL of all its rows, both or neither. Answers the place of the RUN; behind it stands the PULL.
     pub fn ask_run(&mut self, query: &Query, write: bool, token: Option<&str>) -> Result<usize, Error> {
-        if self.client.state().pending as usize > LOSSES - 2 {
+        if self.client.state().pending as usize > PIPELINE - 2 {
             return Err(refusal(FULL));
         }
         let run = self.ask(&format!("RUN {}", query.text), 0x10, vec![Value::from(query.text.as_str()), query.params.clone(), extra(write, token)])?;
@@ -158,67 +164,58 @@ impl<S: Read + Write> Connection<S> {
     }
 
     /// Sends all that waits. Where the stream takes no more, nothing more is sent, and what the server has said may still be heard.
-    fn send(&mut self) -> Result<(), Error> {
+    fn send(&mut self) {
         while self.cut.is_none() {
-            let count = match self.client.take(&mut self.buffer) {
-                Ok(count) => count,
-                Err(_) => return Err(self.lose("out of memory", None)),
-            };
+            let count = self.client.unsent(&mut self.buffer);
             if count == 0 {
                 self.cut = self.stream.flush().err();
                 break;
             }
             self.went_out = true;
             self.cut = self.stream.write_all(&self.buffer[..count]).err();
+            self.client.sent(count);
+        }
+    }
+
+    /// Takes what was told of the requests since: their outcomes, their rows, and what their summaries hold.
+    fn take(&mut self) -> Result<(), u32> {
+        while let Some(request) = self.requests.get_mut(self.told) {
+            let ordinal = self.first + self.told as u64;
+            for index in 0..self.client.rows(ordinal) {
+                let length = self.client.row(ordinal, index, &mut self.buffer)?;
+                if let Some(Value::List(cells)) = first_field(&self.buffer[..length]) {
+                    request.rows.push(cells);
+                }
+            }
+            self.client.drop_rows(ordinal);
+            request.outcome = self.client.outcome(ordinal);
+            if request.outcome.is_none() {
+                return Ok(());
+            }
+            let length = self.client.response(ordinal, &mut self.buffer)?;
+            request.metadata = first_field(&self.buffer[..length]).unwrap_or(Value::Null);
+            self.told += 1;
         }
         Ok(())
     }
 
-    /// The fields of the row or summary that was heard last.
-    fn heard(&mut self) -> Result<Vec<Value>, Error> {
-        match self.client.message(&mut self.buffer) {
-            Ok(length) => Ok(Reading(&self.buffer[..length]).structure().map_or(Vec::new(), |(_, fields)| fields)),
-            Err(_) => Err(self.lose("out of memory", None)),
-        }
-    }
-
-    /// Feeds a piece to the end of an item, and answers how many bytes were used: all behind the client's end, where nothing is heard.
-    fn hear(&mut self, piece: &[u8]) -> Result<usize, Error> {
+    /// Feeds a piece. Behind the client's end nothing is heard.
+    fn hear(&mut self, piece: &[u8]) -> Result<(), Error> {
+        let fed = self.client.feed(piece);
+        let taken = self.take();
         let state = self.client.state();
-        let heard = match self.client.feed(piece) {
-            Ok(heard) => heard,
-            Err(CLOSED) => return Ok(piece.len()),
-            Err(MEMORY) => return Err(self.lose("out of memory", None)),
-            Err(_) if state.version == 0 => return Err(self.lose("not Bolt: the answer isn't a version that was offered", None)),
-            Err(_) => return Err(self.lose("the server sent what no server may", None)),
-        };
-        match heard.kind {
-            VERSION if heard.version == 0 => return Err(self.lose("the server took no version", None)),
-            ROW => {
-                let row = self.heard()?.into_iter().next();
-                let place = (state.first - self.first) as usize;
-                if let (Some(Value::List(cells)), Some(request)) = (row, self.requests.get_mut(place)) {
-                    request.rows.push(cells);
-                }
-            }
-            SUMMARY => {
-                let place = (heard.ordinal - self.first) as usize;
-                if let Some(request) = self.requests.get_mut(place) {
-                    request.outcome = Some(Outcome::of(u64::from(heard.outcome)));
-                }
-                let metadata = self.heard()?.into_iter().next();
-                if let (Some(metadata), Some(request)) = (metadata, self.requests.get_mut(place)) {
-                    request.metadata = metadata;
-                }
-            }
-            _ => {}
+        match fed.and(taken) {
+            Ok(()) | Err(CLOSED) if state.version == 0 && state.has_ended == 1 => Err(self.lose("the server took no version", None)),
+            Ok(()) | Err(CLOSED) => Ok(()),
+            Err(MEMORY) => Err(self.lose("out of memory", None)),
+            Err(_) if state.version == 0 => Err(self.lose("not Bolt: the answer isn't a version that was offered", None)),
+            Err(_) => Err(self.lose("the server sent what no server may", None)),
         }
-        Ok(heard.used)
     }
 
     /// Sends what waits, and hears a piece of the server's bytes.
     fn exchange(&mut self) -> Result<(), Error> {
-        self.send()?;
+        self.send();
         let mut piece = [0; 4096];
         let (count, error) = match self.stream.read(&mut piece) {
             Ok(count) => (count, None),
@@ -234,26 +231,16 @@ impl<S: Read + Write> Connection<S> {
             };
             return Err(self.lose(why, error));
         }
-        let mut rest = &piece[..count];
-        while !rest.is_empty() {
-            let used = self.hear(rest)?;
-            rest = &rest[used..];
-        }
-        Ok(())
+        self.hear(&piece[..count])
     }
 
-    /// Nothing is heard any more: what became of each request is known.
+    /// Nothing is heard any more: the account has what became of each request.
     fn end(&mut self) {
-        for loss in self.client.lost() {
-            if let Some(request) = self.requests.get_mut(loss.ordinal.wrapping_sub(self.first) as usize) {
-                request.outcome = Some(Outcome::of(loss.outcome));
-            }
-        }
-        for request in &mut self.requests {
+        self.client.lose();
+        for (request, ordinal) in self.requests.iter_mut().zip(self.first..) {
+            let told = self.client.outcome(ordinal);
             // (nothing was committed by what no byte of has gone out)
-            if request.outcome.is_none() || !self.went_out {
-                request.outcome = Some(Outcome::Lost);
-            }
+            request.outcome = if told == Some(Outcome::Unknown) && !self.went_out { Some(Outcome::Lost) } else { told };
         }
         self.is_settled = true;
     }
@@ -328,6 +315,11 @@ impl<S: Read + Write> Connection<S> {
         self.settle()?;
         Ok(runs.into_iter().map(|run| self.answer(run)).collect())
     }
+}
+
+/// The first field of a message.
+fn first_field(bytes: &[u8]) -> Option<Value> {
+    Reading(bytes).structure().and_then(|(_, fields)| fields.into_iter().next())
 }
 
 fn refusal(code: u32) -> Error {

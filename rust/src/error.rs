@@ -22,14 +22,16 @@ pub enum Outcome {
 }
 
 impl Outcome {
-    pub(crate) fn of(number: u64) -> Outcome {
+    /// By its number in bolt.h; none where nothing is known.
+    pub(crate) fn of(number: u32) -> Option<Outcome> {
         match number {
-            0 => Outcome::Done,
-            1 => Outcome::Committed,
-            2 => Outcome::Refused,
-            3 => Outcome::Ignored,
-            4 => Outcome::Lost,
-            _ => Outcome::Unknown,
+            0 => Some(Outcome::Done),
+            1 => Some(Outcome::Committed),
+            2 => Some(Outcome::Refused),
+            3 => Some(Outcome::Ignored),
+            4 => Some(Outcome::Lost),
+            5 => Some(Outcome::Unknown),
+            _ => None,
         }
     }
 }

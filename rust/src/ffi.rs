@@ -1,5 +1,6 @@
 //! The calls of libbolt.a, as include/bolt.h declares them, and what they answer as types.
 
+use crate::error::Outcome;
 use std::ffi::c_void;
 
 #[repr(C)]
@@ -9,28 +10,10 @@ pub(crate) struct Handle {
 
 #[repr(C)]
 #[derive(Clone, Copy, Default)]
-pub(crate) struct Heard {
-    pub used: usize,
-    pub ordinal: u64,
-    pub kind: u32,
-    pub version: u32,
-    pub outcome: u32,
-    pub phase: u32,
-}
-
-#[repr(C)]
-#[derive(Clone, Copy, Default)]
-pub(crate) struct Submitted {
+pub(crate) struct Asked {
     pub ordinal: u64,
     pub rule: u64,
     pub place: u64,
-}
-
-#[repr(C)]
-#[derive(Clone, Copy, Default)]
-pub(crate) struct Loss {
-    pub ordinal: u64,
-    pub outcome: u64,
 }
 
 #[repr(C)]
@@ -45,77 +28,114 @@ pub(crate) struct Standing {
     pub padding: u32,
 }
 
-pub(crate) const LOSSES: usize = 32;
+/// How many requests may wait.
+pub(crate) const PIPELINE: usize = 32;
 pub(crate) const MESSAGE: usize = 65_536;
 pub(crate) const FULL: u32 = 2;
 pub(crate) const CLOSED: u32 = 4;
 pub(crate) const MEMORY: u32 = 5;
-pub(crate) const VERSION: u32 = 1;
-pub(crate) const ROW: u32 = 2;
-pub(crate) const SUMMARY: u32 = 3;
 pub(crate) const HALTED: u32 = 6;
 
 extern "C" {
-    fn bolt_open(c: *mut Handle, versions: u32) -> u32;
+    fn bolt_open(c: *mut Handle, versions: u32, rows: usize) -> u32;
     fn bolt_close(c: *mut Handle);
-    fn bolt_submit(c: *mut Handle, message: *const u8, length: usize, submitted: *mut Submitted) -> u32;
-    fn bolt_take(c: *mut Handle, into: *mut u8, room: usize, taken: *mut usize) -> u32;
-    fn bolt_feed(c: *mut Handle, piece: *const u8, length: usize, heard: *mut Heard) -> u32;
-    fn bolt_message(c: *mut Handle, into: *mut u8, room: usize, length: *mut usize) -> u32;
-    fn bolt_lost(c: *mut Handle, into: *mut Loss, room: usize, count: *mut usize) -> u32;
+    fn bolt_ask(c: *mut Handle, message: *const u8, length: usize, asked: *mut Asked) -> u32;
+    fn bolt_unsent(c: *mut Handle, into: *mut u8, room: usize, length: *mut usize) -> u32;
+    fn bolt_sent(c: *mut Handle, count: usize) -> u32;
+    fn bolt_feed(c: *mut Handle, piece: *const u8, length: usize, used: *mut usize) -> u32;
+    fn bolt_outcome(c: *mut Handle, ordinal: u64, outcome: *mut u32) -> u32;
+    fn bolt_response(c: *mut Handle, ordinal: u64, into: *mut u8, room: usize, length: *mut usize) -> u32;
+    fn bolt_rows(c: *mut Handle, ordinal: u64, held: *mut u64, left: *mut u64) -> u32;
+    fn bolt_row(c: *mut Handle, ordinal: u64, index: u64, into: *mut u8, room: usize, length: *mut usize) -> u32;
+    fn bolt_drop_rows(c: *mut Handle, ordinal: u64) -> u32;
+    fn bolt_lose(c: *mut Handle) -> u32;
+    fn bolt_settle(c: *mut Handle) -> u32;
     fn bolt_state(c: *mut Handle, state: *mut Standing) -> u32;
 }
 
-/// A client of the library. Each call does what bolt.h says of it; a code that isn't 0 is why it did nothing. It stays on its thread, as a pointer does.
+/// A client of the library, with the account of its requests. Each call does what bolt.h says of it; a code that isn't 0 is why it did nothing. It stays on its
+/// thread, as a pointer does.
 pub(crate) struct Client {
     handle: Handle,
 }
 
-// Each pointer below is that of a value or slice of the call's own, with its own length; an empty slice's isn't null.
+// Each pointer below is that of a value or slice of the call's own, with its own length; an empty slice's isn't null. A client is there, so that a call which has no
+// other code answers 0.
 impl Client {
+    /// All rows are kept until they are taken.
     pub fn open(versions: u32) -> Result<Client, u32> {
         let mut client = Client { handle: Handle { at: std::ptr::null_mut() } };
-        code(unsafe { bolt_open(&mut client.handle, versions) })?;
+        code(unsafe { bolt_open(&mut client.handle, versions, isize::MAX as usize) })?;
         Ok(client)
     }
 
-    pub fn submit(&mut self, message: &[u8]) -> Result<u64, (u32, Submitted)> {
-        let mut told = Submitted::default();
-        match unsafe { bolt_submit(&mut self.handle, message.as_ptr(), message.len(), &mut told) } {
+    pub fn ask(&mut self, message: &[u8]) -> Result<u64, (u32, Asked)> {
+        let mut told = Asked::default();
+        match unsafe { bolt_ask(&mut self.handle, message.as_ptr(), message.len(), &mut told) } {
             0 => Ok(told.ordinal),
             code => Err((code, told)),
         }
     }
 
-    pub fn take(&mut self, into: &mut [u8]) -> Result<usize, u32> {
-        let mut taken = 0;
-        code(unsafe { bolt_take(&mut self.handle, into.as_mut_ptr(), into.len(), &mut taken) })?;
-        Ok(taken)
-    }
-
-    pub fn feed(&mut self, piece: &[u8]) -> Result<Heard, u32> {
-        let mut heard = Heard::default();
-        code(unsafe { bolt_feed(&mut self.handle, piece.as_ptr(), piece.len(), &mut heard) })?;
-        Ok(heard)
-    }
-
-    pub fn message(&mut self, into: &mut [u8]) -> Result<usize, u32> {
+    /// Copies the next bytes that are to be sent, and answers how many.
+    pub fn unsent(&mut self, into: &mut [u8]) -> usize {
         let mut length = 0;
-        code(unsafe { bolt_message(&mut self.handle, into.as_mut_ptr(), into.len(), &mut length) })?;
+        let _code = unsafe { bolt_unsent(&mut self.handle, into.as_mut_ptr(), into.len(), &mut length) };
+        length.min(into.len())
+    }
+
+    pub fn sent(&mut self, count: usize) {
+        let _code = unsafe { bolt_sent(&mut self.handle, count) };
+    }
+
+    /// Feeds a piece. What it says is in the account, also where a code is told.
+    pub fn feed(&mut self, piece: &[u8]) -> Result<(), u32> {
+        let mut used = 0;
+        code(unsafe { bolt_feed(&mut self.handle, piece.as_ptr(), piece.len(), &mut used) })
+    }
+
+    /// What became of a request, once that is known.
+    pub fn outcome(&mut self, ordinal: u64) -> Option<Outcome> {
+        let mut outcome = 0;
+        let _code = unsafe { bolt_outcome(&mut self.handle, ordinal, &mut outcome) };
+        Outcome::of(outcome)
+    }
+
+    pub fn response(&mut self, ordinal: u64, into: &mut [u8]) -> Result<usize, u32> {
+        let mut length = 0;
+        code(unsafe { bolt_response(&mut self.handle, ordinal, into.as_mut_ptr(), into.len(), &mut length) })?;
         Ok(length)
     }
 
-    /// What became of each request that waited: its ordinal and the number of its outcome.
-    pub fn lost(&mut self) -> Vec<Loss> {
-        let (mut into, mut count) = ([Loss::default(); LOSSES], 0);
-        // (it has room for all, so it answers 0)
-        let _code = unsafe { bolt_lost(&mut self.handle, into.as_mut_ptr(), LOSSES, &mut count) };
-        into[..count.min(LOSSES)].to_vec()
+    /// How many rows of a request are held.
+    pub fn rows(&mut self, ordinal: u64) -> u64 {
+        let (mut held, mut left) = (0, 0);
+        let _code = unsafe { bolt_rows(&mut self.handle, ordinal, &mut held, &mut left) };
+        held
+    }
+
+    pub fn row(&mut self, ordinal: u64, index: u64, into: &mut [u8]) -> Result<usize, u32> {
+        let mut length = 0;
+        code(unsafe { bolt_row(&mut self.handle, ordinal, index, into.as_mut_ptr(), into.len(), &mut length) })?;
+        Ok(length)
+    }
+
+    pub fn drop_rows(&mut self, ordinal: u64) {
+        let _code = unsafe { bolt_drop_rows(&mut self.handle, ordinal) };
+    }
+
+    /// No byte comes any more.
+    pub fn lose(&mut self) {
+        let _code = unsafe { bolt_lose(&mut self.handle) };
+    }
+
+    /// Forgets what was told; none waits.
+    pub fn settle(&mut self) {
+        let _code = unsafe { bolt_settle(&mut self.handle) };
     }
 
     pub fn state(&mut self) -> Standing {
         let mut state = Standing::default();
-        // (of a client that is there it answers 0)
         let _code = unsafe { bolt_state(&mut self.handle, &mut state) };
         state
     }

@@ -1,4 +1,4 @@
-//! A driver of Bolt 4.4, 5.0 and 5.1 over the proved client of libbolt.a, for any stream, with the standard library alone.
+//! A driver of Bolt 4.4, 5.0 and 5.1 over the proved driver of libbolt.a, for any stream, with the standard library alone.
 //!
 //! ```no_run
 //! use bolt::{until_known, Connection, Login, Query};

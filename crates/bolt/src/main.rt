@@ -5,13 +5,12 @@ mod command_line;
 mod reasons;
 mod script_file;
 mod sockets;
-mod standard_streams;
 
 use command_line::{refuse, words_of};
 use commands::{CommandLine, asked, command};
+use programs::fill_closed;
 use script_file::replay_file;
 use sockets::{loop_through, serve_on, shell_at};
-use standard_streams::fill_closed;
 use std::process::ExitCode;
 use streams::Over;
 

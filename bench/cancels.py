@@ -1,0 +1,297 @@
+"""What `bolt.aio` does through cuts, cancellations and interrupts, and for who runs queries: rows that `bench/languages` tries, each against a server of its own."""
+import asyncio
+import contextlib
+import ssl
+import sys
+import tempfile
+import warnings
+
+import bolt
+import breaks
+import drives
+import proxy
+from bolt import aio
+
+
+def connected(port, **words):
+    return aio.connect("127.0.0.1", port, auth=drives.USER, **words)
+
+
+# Works, each of which puts a key.
+
+async def by_steps(connection, key):
+    async with connection.transaction() as tx:
+        await tx.run("PUT", key=key, value=1)
+
+
+async def in_one(connection, key):
+    async with connection.pipeline() as asked:
+        asked.begin()
+        asked.run("PUT", key=key, value=1)
+        asked.commit()
+
+
+async def alone(connection, key):
+    await connection.run("PUT", key=key, value=1)
+
+
+WORKS = by_steps, in_one, alone
+
+
+def of_commit(work, connection):
+    """What became of the request that commits, None where it wasn't asked."""
+    return {it.text: it.outcome for it in connection.session.requests}.get("PULL of PUT" if work is alone else "COMMIT")
+
+
+def says(port, version, work, key, **cut):
+    """What became of the request that commits, and how many bytes passed each way."""
+    async def main():
+        async with await connected(way.port, versions=version) as connection:
+            way.arm()
+            with contextlib.suppress(bolt.Broken):
+                await work(connection, key)
+            return of_commit(work, connection), dict(way.passed)
+
+    way = proxy.Proxy(port, **cut)
+    told = asyncio.run(main())
+    way.over.join()
+    return told
+
+
+class Cancelled:
+    """A work whose task is cancelled where it waits for the time of a number: at once, or when what it waits for has come."""
+
+    def __init__(self, steps, number, at_once):
+        self.steps, self.number, self.at_once, self.passed = steps, number, at_once, 0
+
+    def __await__(self):
+        step, word = self.steps.send, None
+        while True:
+            try:
+                waited = step(word)
+            except StopIteration as done:
+                return done.value
+            self.passed += 1
+            if self.passed == self.number:
+                task = asyncio.current_task()
+                if self.at_once or waited is None:
+                    task.cancel()
+                else:
+                    waited.add_done_callback(lambda _: task.cancel())
+            try:
+                step, word = self.steps.send, (yield waited)
+            except BaseException as why:
+                step, word = self.steps.throw, why
+
+
+def broken_off(port, version, work, key, breaking):
+    """What became of the request that commits, whether the state is defined then, and whether what breaks it off came; `breaking` does the work, and answers
+    what came of it."""
+    async def main():
+        async with await connected(port, versions=version) as connection:
+            came = await breaking(work(connection, key))
+            told = of_commit(work, connection)
+            code = await code_of(connection.run("ONE"))
+        # It goes on, or something is to be settled, or it has ended; once it is closed each request has its outcome, and the one that was told stays.
+        is_defined = code in (0, bolt.library.NOT_ALLOWED, bolt.library.CLOSED, bolt.library.NO_CLIENT)
+        is_known = all(it.outcome for it in connection.session.requests)
+        return told, is_defined and is_known and (code == 0 or told in (None, of_commit(work, connection))), came
+
+    return asyncio.run(main())
+
+
+async def code_of(call):
+    try:
+        await call
+    except bolt.NotSent as why:
+        return why.code
+    return 0
+
+
+def all_broken_off(port, name, versions, ways, step=1):
+    """Whether a work that is broken off at each of its places, or at one of so many, by these ways, leaves a true account and a defined state; and how many these
+    are. A way answers, of a number, what does the work: that answers whether it was broken off as it should, None if the work has no such place."""
+    wrong, keys = [], {}
+    for version in versions:
+        for work in WORKS:
+            for way in ways:
+                number = 1
+                while True:
+                    key = f"{name}{version}{work.__name__}{ways.index(way)}-{number}"
+                    outcome, is_defined, came = broken_off(port, version, work, key, way(number))
+                    if came is None:
+                        break
+                    keys[key] = outcome
+                    wrong += [] if is_defined and came else [f"{key} {outcome} {is_defined} {came}"]
+                    number += step
+    with bolt.Session("127.0.0.1", port, breaks.USER) as connection:
+        for key, outcome in keys.items():
+            is_there = connection.run("GET", {"key": key}, write=False) == [[1]]
+            wrong += [] if breaks.is_right(outcome, is_there) else [f"{key} {outcome} {is_there}"]
+    if wrong:
+        print(f"{name}:", *wrong[:9])
+    return not wrong and len(keys) > 20, len(keys)
+
+
+def cancelling(at_once):
+    def way(number):
+        async def breaking(steps):
+            work = Cancelled(steps, number, at_once)
+            try:
+                await work
+            except asyncio.CancelledError:
+                return True
+            return None if work.passed < number else False
+        return breaking
+    return way
+
+
+def cancels(port):
+    """Cancellations at each place where a work waits, at once, and as the answer comes."""
+    return all_broken_off(port, "cancelled", (44, 50, 51), (cancelling(True), cancelling(False)))
+
+
+KINDS = asyncio.CancelledError, KeyboardInterrupt, breaks.Interrupt
+
+
+def interrupting(number):
+    async def breaking(steps):
+        interrupt, came = breaks.Interrupted(number, KINDS), None
+        sys.settrace(interrupt)
+        try:
+            await steps
+        except (*KINDS, bolt.BoltError) as why:
+            came = why
+        finally:
+            sys.settrace(None)
+        return came is interrupt.raised if interrupt.raised else None
+    return breaking
+
+
+def interrupts(port):
+    """Interrupts at each third line of the package that a work runs."""
+    return all_broken_off(port, "interrupted", (51,), (interrupting,), 3)
+
+
+def connecting(port):
+    asyncio.run(aio.connect("127.0.0.1", port, auth=drives.USER, timeout=0.4))
+
+
+def ends(port):
+    return breaks.ends(port, connecting)
+
+
+# What it does for who runs queries.
+
+async def raised(call):
+    try:
+        await call
+    except Exception as why:
+        return why
+    return None
+
+
+async def reads_rows(port):
+    """Whether records are pulled as they are read, and are kept where something else is asked meanwhile."""
+    async with await connected(port, fetch=2) as connection:
+        records = await connection.run("ROWS", n=5)
+        first = await records.__anext__()
+        other = await (await connection.run("ROWS", n=1)).single()
+        rest = [it["i"] async for it in records]
+        kept = await connection.run("ROWS", n=5)
+        summary = await kept.consume()
+        three = await (await connection.run("ROWS", n=3)).data()
+        several = await raised((await connection.run("ROWS", n=2)).single())
+        return (first == [1] and other == [1] and rest == [2, 3, 4, 5] and summary.outcome == bolt.COMMITTED and await kept.values() == []
+                and three == [{"i": 1}, {"i": 2}, {"i": 3}] and isinstance(several, ValueError))
+
+
+async def transacts(port):
+    """Whether a transaction commits at the block's end, and not where an exception or a FAILURE ends it; a pipeline's records are there at its end."""
+    async with await connected(port) as connection:
+        async with connection.transaction() as tx:
+            await tx.run("PUT", key="stays", value=1)
+            seen = await (await tx.run("GET", key="stays")).values()
+        is_kept = (seen, tx.outcome, tx.bookmark[:3]) == ([[1]], bolt.COMMITTED, "bk:")
+        with contextlib.suppress(KeyError):
+            async with connection.transaction() as tx:
+                await tx.run("PUT", key="goes", value=1)
+                raise KeyError
+        with contextlib.suppress(bolt.Refused):
+            async with connection.transaction() as tx:
+                await tx.run("PUT", key="goes", value=1)
+                await tx.run("NOPE")
+        async with connection.transaction() as tx:
+            await tx.run("PUT", key="goes", value=1)
+            await tx.rollback()
+        async with connection.pipeline() as asked:
+            asked.begin()
+            got = asked.run("GET", key="stays")
+            asked.commit()
+        return is_kept and await (await connection.read("GET", key="goes")).values() == [] and [it["value"] for it in got] == [1]
+
+
+async def keeps_to_a_task(port):
+    """Whether a second task is told that the first has the connection, whose call goes on; and a connection that is dropped says so, with each outcome."""
+    connection = await connected(port)
+    first = asyncio.ensure_future(connection.run("ROWS", n=3))
+    await asyncio.sleep(0)
+    # (its frames hold the connection)
+    second = (await raised(connection.run("ONE"))).with_traceback(None)
+    rows = await (await first).values()
+    # (the loop holds what it called last)
+    await asyncio.sleep(0)
+    asked = connection.session.ask_begin()
+    with warnings.catch_warnings(record=True) as told:
+        warnings.simplefilter("always")
+        del connection, first
+    return (type(second), second.code, rows, asked.outcome) == (bolt.NotSent, 1, [[1], [2], [3]], bolt.LOST) and any(it.category is ResourceWarning for it in told)
+
+
+async def tells_errors(port):
+    unreached, stranger = await raised(connected(1)), await raised(aio.connect("127.0.0.1", port, auth=("user", "no")))
+    async with await connected(port) as connection:
+        unpacked = await raised(connection.run("ECHO", x={1}))
+        goes_on = await (await connection.run("ONE")).single() == [1]
+    return ((type(unreached), unreached.why, type(unreached.__cause__)) == (bolt.Broken, bolt.UNREACHED, ConnectionRefusedError)
+            and (type(stranger), stranger.code[-12:], type(unpacked)) == (bolt.Refused, "Unauthorized", TypeError) and goes_on)
+
+
+def put(key, value):
+    async def work(tx):
+        await tx.run("PUT", key=key, value=value)
+        return value
+    return work
+
+
+async def tells_fates(port):
+    """Whether a transaction is sent until it is known, through cuts of its first attempt, either way; and what is known of one that can't stand."""
+    connect, now = lambda: connected(port), lambda _: 0
+    made = await aio.until_known(connect, put("fates", 1))
+    clash = await aio.until_known(connect, put("fates", 2), made.token)
+    refused = await aio.until_known(connect, lambda tx: tx.run("NOPE"))
+    absent = await aio.until_known(lambda: connected(1), put("fates", 3), tries=2, pause=now)
+    fates = []
+    for way in ("told", "asked"):
+        for at in range(0, 400, 19):
+            with proxy.Door(port, [{way: at}]) as door:
+                there = door.listener.getsockname()[1]
+                fates.append((await aio.until_known(lambda: connected(there), put(f"{way} {at}", at), pause=now)).fate)
+    return ((made.fate, made.value, clash.fate, refused.fate, absent.fate) == (bolt.STANDS, 1, bolt.CLASH, bolt.REFUSED, bolt.ABSENT)
+            and set(fates) == {bolt.STANDS})
+
+
+async def encrypts(port):
+    """Whether a connection goes through TLS to a server whose certificate is known, and not to another."""
+    if not drives.shutil.which("openssl"):
+        return True
+    with tempfile.TemporaryDirectory() as folder:
+        tunnel = drives.Tunnel(port, folder)
+        there = tunnel.listener.getsockname()[1]
+        async with await aio.connect("localhost", there, auth=drives.USER, tls=ssl.create_default_context(cafile=tunnel.certificate)) as connection:
+            said = await (await connection.run("ROWS", n=1024)).values()
+        stranger = await raised(aio.connect("localhost", there, auth=drives.USER, tls=True))
+    return (len(said), type(stranger), type(stranger.__cause__)) == (1024, bolt.Broken, ssl.SSLCertVerificationError)
+
+
+DRIVES = (reads_rows, transacts, keeps_to_a_task, tells_errors, tells_fates, encrypts)

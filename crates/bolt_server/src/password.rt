@@ -1,0 +1,25 @@
+//! The password of the one user.
+ghost use Rattle.std.specs.Prelude.{◌≡◌};
+
+use std::alloc::{AllocError, Global};
+use std::{fs, io};
+
+/// The first line of a text, without its end.
+fn first_line(text: &str) -> &str {
+    match text.lines().next() {
+        Some(line) => line,
+        None => "",
+    }
+}
+
+/// The password: the first line of the file, or `pass` where none is named.
+pub(crate) fn password_of(rt: &HostRuntime, file: Option<&str>) -> io::Result<String> {
+    let alloc = rt.alloc();
+    match file {
+        None => Ok(String::from_str(alloc, "pass")?),
+        Some(file) => {
+            let text = fs::read_to_string(rt, file)?;
+            Ok(String::from_str(alloc, first_line(text.as_str()))?)
+        }
+    }
+}

@@ -1,0 +1,9 @@
+-- What is printed of an end.
+use Rattle.session.specs.declared.kinds.Cause.{Cause}
+use Rattle.lines.specs.declared.line.Parting.{Parting}
+use Rattle.lines.specs.declared.line.Parting.TheVariants.{Whole, Cut}
+
+-- the cause of an end, whether or not all that the session had said was taken out
+abbrev pub cause_of : Parting → Cause
+cause_of (Whole cause) = cause
+cause_of (Cut cause) = cause

@@ -1,0 +1,11 @@
+//! A server of many connections at a port: what serves whoever comes and prints each end, and what is said when it ends.
+#![tactic(auto)]
+
+mod printed;
+mod reasons;
+mod serving;
+
+pub use hosts::Limits;
+pub use reasons::{Reason, put_reason};
+pub use serving::serve_at;
+pub use sockets::Place;

@@ -1,0 +1,100 @@
+//! The journal of a server, printed a line for each connection.
+ghost use Rattle.std.specs.Prelude.{◌≡◌, None, [], ◌∷◌};
+ghost use Rattle.std.specs.Fmt.{decimal};
+ghost use Rattle.programs.specs.Names.{cause_code};
+ghost use Rattle.programs.specs.Serving.{conn_line};
+ghost use Rattle.programs.specs.Stopping.{Gets};
+ghost use Rattle.hosts.specs.Running.{TellsMore};
+ghost use Rattle.listening.specs.Printing.{cause_of};
+
+use hosts::{Journal, Parting};
+use itoa::Buffer;
+use programs::cause_code;
+use server::Cause;
+use std::cell::Cell;
+use streams::{Sink, write_all};
+
+/// The journal of a server: prints `conn K En` of each connection whose session was given up, its number and the cause of its end. Takes no
+/// memory.
+#[derive(Drop)]
+pub(crate) struct Printed<'a, O> {
+    out: &'a mut O,
+    has_failed: &'a Cell<bool>,
+}
+
+impl<'a, O: Sink> Printed<'a, O> {
+    /// Prints so, and sets the cell where a line isn't taken.
+    pub(crate) fn new(out: &'a mut O, has_failed: &'a Cell<bool>) -> Printed<'a, O> {
+        Printed { out, has_failed }
+    }
+}
+
+/// The cause that is printed: `Lost` and the like, whether or not all that the session had said was taken out.
+fn cause_of(parting: Parting) -> Cause
+    ensures { result ≡ cause_of parting }
+{
+    match parting {
+        Parting::Whole(cause) | Parting::Cut(cause) => cause,
+    }
+}
+
+/// Writes a text, as far as it is taken.
+fn tell<O: Sink>(text: &[u8], out: &mut O)
+    ensures { Gets (O.has_failed out.old) (O.has_failed out.new) (O.taken out.old) (O.taken out.new)
+        text.now }
+{
+    let _ = write_all(out, text);
+}
+
+/// Writes a number in decimal, as far as it is taken.
+fn tell_number<O: Sink>(number: u64, out: &mut O)
+    ensures { Gets (O.has_failed out.old) (O.has_failed out.new) (O.taken out.old) (O.taken out.new)
+        (decimal number) }
+{
+    let mut digits = Buffer::new();
+    tell(digits.format(number).as_bytes(), out);
+}
+
+/// Writes the code of a cause, as far as it is taken.
+fn tell_cause<O: Sink>(cause: Cause, out: &mut O)
+    ensures { Gets (O.has_failed out.old) (O.has_failed out.new) (O.taken out.old) (O.taken out.new)
+        (cause_code cause) }
+{
+    tell(cause_code(cause).as_bytes(), out);
+}
+
+/// Writes the end of a line; whether it was taken.
+fn end_line<O: Sink>(out: &mut O) -> bool
+    ensures { Gets (O.has_failed out.old) (O.has_failed out.new) (O.taken out.old) (O.taken out.new)
+        (10 ∷ []) }
+{
+    write_all(out, b"\n").is_ok()
+}
+
+/// Writes `conn K En` on a line; whether its end was taken. An output that has failed takes nothing more.
+fn put_end<O: Sink>(conn: u64, cause: Cause, out: &mut O) -> bool
+    ensures { Gets (O.has_failed out.old) (O.has_failed out.new) (O.taken out.old) (O.taken out.new)
+        (conn_line conn cause) }
+{
+    tell(b"conn ", out);
+    tell_number(conn, out);
+    tell(b" ", out);
+    tell_cause(cause, out);
+    end_line(out)
+}
+
+impl<'a, O: Sink> Journal for Printed<'a, O> {
+    ghost use Rattle.std.specs.Prelude.{None};
+
+    ghost told = { λ _. None };
+
+    fn note(&mut self, conn: u64, parting: Parting)
+        ensures told { TellsMore None None (record { conn = conn; parting = parting } ∷ []) }
+        ensures line { Gets (O.has_failed self.old.out.now) (O.has_failed self.new.out.now)
+            (O.taken self.old.out.now) (O.taken self.new.out.now) (conn_line conn (cause_of parting)) }
+    {
+        if !put_end(conn, cause_of(parting), self.out) {
+            self.has_failed.set(true);
+        }
+    }
+}

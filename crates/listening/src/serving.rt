@@ -1,0 +1,78 @@
+//! A server at a port.
+
+ghost use Rattle.std.specs.Prelude.{◌≡◌, [], true, IfOk, IfErr, OnOk, IsErrOf, string_bytes};
+ghost use Rattle.std.specs.Io.KnownBytes.{Appends};
+ghost use Rattle.server.specs.Views.{rest_of};
+ghost use Rattle.listening.specs.Serving.{IsUnbound, Reaches, listening_line};
+
+use crate::printed::Printed;
+use crate::reasons::{Reason, unbound};
+use engine::{Engine, Gate};
+use hosts::{Limits, Stopped, serve};
+use server::Server;
+use sockets::{Network, Place};
+use std::alloc::{AllocError, Global};
+use std::cell::Cell;
+use std::io;
+use std::net::Net;
+use std::time::Clock;
+use streams::{Sink, write_all};
+
+fn listening_text(alloc: Global, port: u16) -> Result<String, AllocError>
+    ensures { IfOk result (λ t. string_bytes t ≡ listening_line port) }
+{
+    let text = format!(in alloc; "listening {port}\n")?;
+    Ok(text)
+}
+
+/// Prints the port at which connections are taken.
+fn put_listening<O: Sink>(alloc: Global, port: u16, out: &mut O) -> Result<(), Reason>
+    ensures told { OnOk result (Appends (O.taken out.old) (O.taken out.new) (listening_line port)) }
+    ensures written { IsErrOf result Reason.OutputFailed → O.has_failed out.new ≡ true }
+{
+    let Ok(text) = listening_text(alloc, port) else {
+        return Err(Reason::Memory);
+    };
+    match write_all(out, text.as_bytes()) {
+        Ok(()) => Ok(()),
+        Err(_) => Err(Reason::OutputFailed),
+    }
+}
+
+/// Serves at this place whoever comes, many at once: prints `listening PORT`, and then `conn K En` as each connection ends, its number and
+/// the cause of its end. It answers why it ends: the port isn't had, the wait for all connections or the output fails, or no memory is there
+/// to begin. Want of memory later, and every failure of a connection, ends that connection alone.
+pub fn serve_at<R: Net + Clock + Drop, E: Engine, G: Gate, O: Sink>(
+    rt: &R,
+    alloc: Global,
+    place: Place<'_>,
+    limits: &Limits,
+    server: &mut Server<E, G>,
+    out: &mut O,
+) -> Reason
+    requires { (rest_of E.entries server.old).sessions ≡ [] }
+    ensures reaches { Reaches E.answer G.welcomes (rest_of E.entries server.old) (rest_of E.entries server.new) }
+    // Where the port isn't had, nothing is served.
+    ensures unbound { IsUnbound result → rest_of E.entries server.new ≡ rest_of E.entries server.old }
+{
+    let has_failed = Cell::new(false);
+    let mut network = match Network::bind(rt, alloc, place, &has_failed) {
+        Ok(network) => network,
+        Err(error) => return unbound(error),
+    };
+    let port = match network.address() {
+        Ok(address) => address.port(),
+        Err(error) => return unbound(error),
+    };
+    if let Err(reason) = put_listening(alloc, port, out) {
+        return reason;
+    }
+    let mut journal = Printed::new(out, &has_failed);
+    match serve(alloc, server, &mut network, &mut journal, limits) {
+        Stopped::Memory => Reason::Memory,
+        Stopped::Failed => match network.error() {
+            Some(error) => Reason::Unwaited(*error),
+            None => Reason::OutputFailed,
+        },
+    }
+}

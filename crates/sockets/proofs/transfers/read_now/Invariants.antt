@@ -1,0 +1,6 @@
+use Rattle.std.specs.Io.KnownBytes.{Keeps}
+use Rattle.sockets.proofs.transfers.read_now.Given as goal
+
+-- nothing was read
+abbrev pub invariant-loop : goal.invariant-loop
+invariant-loop g l = Keeps (g.R.Read.remaining l.fn.stream) (g.R.Read.remaining l.stream)

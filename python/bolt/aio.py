@@ -1,0 +1,314 @@
+"""The driver for asyncio: the calls of `bolt`, awaited.
+
+    async with await aio.connect("127.0.0.1", 7687, auth=("user", "pass")) as connection:
+        async for record in await connection.run("ROWS", n=3): print(record["i"])
+
+A cancellation in the midst of a call is as an interrupt: it ends the connection, and `session.requests` has what became of each request. One task at a time has
+a connection.
+"""
+from __future__ import annotations
+
+import asyncio
+import contextlib
+import ssl
+from typing import Any, AsyncIterator, Awaitable, Callable, Iterator, Optional, Union
+
+from .core import Answer, Core, Steps
+from .errors import INTERRUPTED, TIMED_OUT, UNREACHED, BoltError, Broken, NotSent, Request
+from .library import MESSAGE, NOT_ALLOWED
+from .queries import Pipeline, Queries, Transacting
+from .results import Pulled, Record, Summary, only
+from .retry import STANDS, Known, Tries, pause
+from .versions import NEWEST
+
+
+class AsyncSession(Core):
+    """A session of a server over streams of asyncio. Requests are asked, and go out as one pipeline when they are settled."""
+
+    _reader: Optional[asyncio.StreamReader] = None
+    _writer: Optional[asyncio.StreamWriter] = None
+    _is_late = _is_busy = False
+
+    async def _open_at(self, host: str, port: int, tls: Optional[ssl.SSLContext], agent: str, auth: tuple[str, str, str]) -> None:
+        try:
+            await self._connect(host, port, tls)
+            await self._do(self._opening(agent, dict(zip(("scheme", "principal", "credentials"), auth))))
+        except BaseException:
+            self._free()
+            raise
+
+    async def _connect(self, host: str, port: int, tls: Optional[ssl.SSLContext]) -> None:
+        opening = asyncio.ensure_future(asyncio.open_connection(host, port, limit=MESSAGE, ssl=tls, server_hostname=host if tls else None))
+        opening.add_done_callback(self._connected)
+        try:
+            # (unlike wait_for, this can't take a cancellation for an answer)
+            await asyncio.wait({opening}, timeout=self._left())
+        finally:
+            opening.cancel()
+        if not self._writer:
+            raise (not opening.cancelled() and opening.done() and opening.exception()) or TimeoutError(TIMED_OUT)
+
+    def _connected(self, opening: asyncio.Future[tuple[asyncio.StreamReader, asyncio.StreamWriter]]) -> None:
+        if not opening.cancelled() and not opening.exception():
+            self._reader, self._writer = opening.result()
+            if self._why:
+                self._shut()
+
+    def _shut(self) -> None:
+        # (the loop may be closed already)
+        with contextlib.suppress(RuntimeError):
+            if self._writer:
+                self._writer.transport.abort()
+
+    def _give_up(self) -> None:
+        self._is_late = True
+        self._shut()
+
+    @contextlib.contextmanager
+    def _in_time(self) -> Iterator[None]:
+        """At the end of the call's time the socket is closed, and what has come till then is still heard."""
+        left, self._is_late = self._left(), False
+        timer = None if left is None else asyncio.get_running_loop().call_later(left, self._give_up)
+        try:
+            yield
+        finally:
+            if timer:
+                timer.cancel()
+
+    async def _send(self) -> None:
+        """Sends what waits. Where the server takes no more, what it has said may still be heard."""
+        while not self._cut and (piece := self._open.unsent()):
+            try:
+                if self._is_late or self._left() == 0:
+                    raise TimeoutError(TIMED_OUT)
+                assert self._writer
+                self._open.went = True
+                self._writer.write(piece)
+                self._open.sent(len(piece))
+                await self._writer.drain()
+            except OSError as why:
+                self._cut = self._failed(why)
+
+    async def _receive(self) -> bytes:
+        """The next bytes of the server, none where no more come."""
+        try:
+            assert self._reader
+            piece = await self._reader.read(MESSAGE)
+        except OSError as why:
+            self._cut = self._cut or self._failed(why)
+            return b""
+        if not piece and self._is_late:
+            self._cut = self._cut or TimeoutError(TIMED_OUT)
+        return piece
+
+    def _failed(self, why: OSError) -> OSError:
+        return TimeoutError(TIMED_OUT) if self._is_late else why.with_traceback(None)
+
+    async def _steps(self, steps: Steps[Answer]) -> Answer:
+        if self._is_busy:
+            raise NotSent(NOT_ALLOWED, hint="another task has the connection")
+        self._is_busy = True
+        try:
+            with self._in_time():
+                while True:
+                    try:
+                        next(steps)
+                    except StopIteration as done:
+                        answer: Answer = done.value
+                        return answer
+                    await self._send()
+                    self._hear(await self._receive())
+        finally:
+            self._is_busy = False
+
+    async def _do(self, steps: Steps[Answer]) -> Answer:
+        """Does a call step by step; where that is broken off, as by a cancellation, the client ends."""
+        try:
+            return await self._steps(steps)
+        except BoltError:
+            raise
+        except BaseException:
+            self._is_busy = False
+            self._end(INTERRUPTED)
+            raise
+
+    async def _call(self, steps: Steps[Answer]) -> Answer:
+        """Does a call in its time."""
+        self._bound()
+        return await self._do(steps)
+
+    async def settle(self) -> list[Request]:
+        """Sends what was asked and hears all answers, and answers the requests asked since all was settled. The first FAILURE is raised, after a
+        RESET where the session still ignores what it is asked."""
+        return await self._call(self._settling())
+
+    async def close(self) -> None:
+        """Says goodbye where nothing waits, and frees the client. What was asked and isn't settled isn't sent any more. A second close does nothing."""
+        try:
+            self._bound()
+            if self._writer and self._says_goodbye():
+                with self._in_time():
+                    await self._send()
+                    self._writer.close()
+                    await self._writer.wait_closed()
+        except (NotSent, OSError):
+            pass
+        finally:
+            self._free()
+
+
+class AsyncResult(Pulled):
+    """The records of a query, pulled from the server as they are read, so many at once as `AsyncConnection.fetch` says. What is left of them is pulled
+    when something else is asked of the connection, and kept."""
+
+    _session: AsyncSession
+
+    def __aiter__(self) -> AsyncResult:
+        return self
+
+    async def __anext__(self) -> Record:
+        if self._is_read:
+            await self._session._call(self._refill())
+            if self._is_read:
+                raise StopAsyncIteration
+        return self._next()
+
+    async def data(self) -> list[dict[str, Any]]:
+        """The records that weren't read yet, each by name."""
+        return [it.data() async for it in self]
+
+    async def values(self) -> list[list[Any]]:
+        """The records that weren't read yet, each as a list."""
+        return [it.values() async for it in self]
+
+    async def single(self) -> Record:
+        """The only record; ValueError if there are none or several."""
+        return only([it async for it in self])
+
+    async def consume(self) -> Summary:
+        """Passes over what is left, and tells how the result ended."""
+        found = await self.summary()
+        self._read = len(self._rows)
+        return found
+
+    async def summary(self) -> Summary:
+        """How the result ended; what is left of it is pulled first, and kept."""
+        await self._session._call(self._finish())
+        return self._summary()
+
+
+class AsyncTransaction(Transacting):
+    """A transaction that is open. `bookmark` is that of its entry, once it is committed."""
+
+    _connection: AsyncConnection
+
+    async def run(self, text: str, /, **parameters: Any) -> AsyncResult:
+        """Runs a query in the transaction."""
+        found: AsyncResult = await self._connection.session._call(self._running(text, parameters))
+        return found
+
+    async def commit(self) -> None:
+        """Commits. `Broken` tells by its `outcome` whether that can have been done; `Refused` says that nothing was committed."""
+        await self._connection.session._call(self._committing())
+
+    async def rollback(self) -> None:
+        await self._connection.session._call(self._rolling_back())
+
+
+class AsyncConnection(Queries[AsyncSession, AsyncResult]):
+    """A connection. `timeout` bounds each call as a whole, in seconds; `fetch` is how many records are pulled at once.
+
+    `session` is what stands below: requests that are asked and settled, and what became of each."""
+
+    _results = AsyncResult
+
+    async def __aenter__(self) -> AsyncConnection:
+        return self
+
+    async def __aexit__(self, *_: object) -> None:
+        await self.close()
+
+    async def close(self) -> None:
+        """Says goodbye, and frees what is held. A second close does nothing."""
+        self._open_result = None
+        await self.session.close()
+
+    async def run(self, text: str, /, **parameters: Any) -> AsyncResult:
+        """Runs a query of its own, which is committed with its last record."""
+        return await self.session._call(self._running(*self._packed(text, parameters)))
+
+    async def read(self, text: str, /, **parameters: Any) -> AsyncResult:
+        """Runs a query that may not write."""
+        return await self.session._call(self._running(*self._packed(text, parameters, False)))
+
+    @contextlib.asynccontextmanager
+    async def transaction(self, write: bool = True, token: Optional[str] = None) -> AsyncIterator[AsyncTransaction]:
+        """A transaction, under the token if there is one. It is committed when the block ends, and rolled back when an exception ends it."""
+        await self.session._call(self._beginning(write, token))
+        found = AsyncTransaction(self, token)
+        try:
+            yield found
+        except BaseException:
+            if found.is_open:
+                found.is_open = False
+                # (where the connection is gone, or a FAILURE came, nothing is open any more)
+                with contextlib.suppress(BoltError):
+                    await self.reset()
+            raise
+        if found.is_open:
+            await found.commit()
+
+    @contextlib.asynccontextmanager
+    async def pipeline(self) -> AsyncIterator[Pipeline[AsyncResult]]:
+        """Requests that go out at once when the block ends, before an answer is read. An exception in the block closes the connection, and none goes
+        out."""
+        await self.session._call(self._settling_open())
+        found = Pipeline(self)
+        try:
+            yield found
+        except BaseException:
+            await self.close()
+            raise
+        await self.session.settle()
+        found._fill()
+
+    async def reset(self) -> None:
+        """Ends whatever is open: a result, and a transaction, which is dropped."""
+        self._open_result = None
+        session = self.session
+        await session._call(session._at_once(session._submit, *session._packed("RESET", 0x0F)))
+
+
+async def connect(host: str, port: int = 7687, *, auth: Optional[tuple[str, str]] = None, tls: Union[None, bool, ssl.SSLContext] = None,
+                  timeout: Optional[float] = 10, agent: str = "bolt.py/1", versions: int = NEWEST, fetch: int = 1000) -> AsyncConnection:
+    """Connects and logs in, as `bolt.connect` does."""
+    context = ssl.create_default_context() if tls is True else tls or None
+    session = AsyncSession(versions, timeout)
+    try:
+        await session._open_at(host, port, context, agent, ("none", "", "") if auth is None else ("basic", *auth))
+    except OSError as why:
+        raise Broken([], UNREACHED) from why
+    return AsyncConnection(session, fetch)
+
+
+async def until_known(connect: Callable[[], Awaitable[AsyncConnection]], work: Callable[[AsyncTransaction], Awaitable[Any]], token: Optional[str] = None, *,
+                      tries: int = 10, within: Optional[float] = None, pause: Callable[[int], float] = pause) -> Known:
+    """Does the work in a transaction under the token until it is known whether it stands, as `bolt.until_known` does. A cancellation ends all; with the token
+    the transaction may be sent again later."""
+    sent = Tries(token, tries, within, pause)
+    while (seconds := sent.pause()) is not None:
+        await asyncio.sleep(seconds)
+        if sent.is_late:
+            break
+        try:
+            async with await connect() as connection:
+                async with connection.transaction(token=sent.token) as found:
+                    value = await work(found)
+                return Known(STANDS, sent.token, value, found.bookmark)
+        except BoltError as why:
+            if known := sent.failed(why):
+                return known
+    return sent.over()
+
+
+__all__ = ["AsyncConnection", "AsyncResult", "AsyncSession", "AsyncTransaction", "connect", "until_known"]

@@ -1,0 +1,277 @@
+"""A session without a socket: requests are asked, and what has to be exchanged until they are settled is told step by step. The proved driver of libbolt.so
+keeps the protocol and the account; `session` and `aio` have the sockets."""
+from __future__ import annotations
+
+import functools
+import time
+import warnings
+from typing import Any, Callable, Generator, NoReturn, Optional, TypeVar
+
+from .errors import (BAD_ANSWER, CLOSED_HERE, ENDED, FAILED, GONE, INTERRUPTED, NO_MEMORY, NO_VERSION, NOT_BOLT, REFUSED, TIMED_OUT,
+                     BoltError, Broken, NotSent, Refused, Request)
+from .library import CLOSED, FULL, LIBRARY, MEMORY, NO_CLIENT, NOT_ALLOWED, OK, PIPELINE, Asked, Client, Standing, check
+from .values import pack_structure
+from .versions import V5_1, VERSIONS
+
+PHASES = ("FRESH", "UNAUTH", "READY", "STREAMING", "TX_READY", "TX_STREAMING", "HALTED", "DEFUNCT")
+Answer = TypeVar("Answer")
+# What a call does, step by step: behind each, what waits is to be sent, and a piece of the server's bytes to be heard.
+Steps = Generator[None, None, Answer]
+
+
+def extra(write: bool, token: Optional[str]) -> dict[str, Any]:
+    """The entries of a BEGIN or a RUN beside its text: the mode where that is to read, and the token where there is one."""
+    if not isinstance(write, bool):
+        raise TypeError("write is True or False")
+    return {**({} if write else {"mode": "r"}), **({} if token is None else {"tx_metadata": {"token": token}})}
+
+
+def fault_of(code: int, asked: Asked) -> NotSent:
+    """The fault of a request: which rule of the message was broken, and where."""
+    rule = asked.rule.to_bytes(2, "big").decode() if asked.rule else ""
+    return NotSent(code, rule, asked.place if rule[:1] in ("P", "S") else None)
+
+
+def ends(call: Callable[..., Answer]) -> Callable[..., Answer]:
+    """A call that ends the client where it is broken off, as by an interrupt: bytes are gone then, and no answer may be taken for another's."""
+    @functools.wraps(call)
+    def whole(self: Core, *words: Any) -> Answer:
+        try:
+            return call(self, *words)
+        except BoltError:
+            raise
+        except BaseException:
+            self._end(INTERRUPTED)
+            raise
+    return whole
+
+
+class Core:
+    """A session without its socket. `timeout` is that of each call as a whole, in seconds; None for none. What isn't settled when it has passed is told by
+    `Broken`, and the connection is gone.
+
+    `requests` are those asked since all was settled, in order; they stay until the next is asked."""
+
+    _client: Optional[Client] = None
+
+    def __init__(self, versions: int, timeout: Optional[float]) -> None:
+        if type(versions) is not int or versions not in VERSIONS:
+            raise ValueError("versions is NEWEST, V4_4, V5_0 or V5_1")
+        self.version, self.timeout = V5_1, timeout
+        self.requests: list[Request] = []
+        self._told = 0  # how many of them have what their summary holds
+        self._settled = True  # whether all of them are, and were told
+        self._cut: Optional[OSError] = None  # why nothing more is sent
+        self._why: Optional[str] = None  # why the client has ended
+        self._client = Client(versions, self)
+        self._bound()
+
+    def _bound(self) -> None:
+        """A call begins: by when it has to be done."""
+        self._until = None if self.timeout is None else time.monotonic() + self.timeout
+
+    def _left(self) -> Optional[float]:
+        """The seconds that are left for the call, None where it has no end."""
+        return None if self._until is None else max(0, self._until - time.monotonic())
+
+    def __del__(self) -> None:
+        if self._client and self._client.handle.at:
+            warnings.warn("a connection was dropped that wasn't closed", ResourceWarning, source=self)
+            self._free()
+
+    @property
+    def _open(self) -> Client:
+        if self._client is None:
+            raise NotSent(NO_CLIENT)
+        return self._client
+
+    def _state(self) -> Standing:
+        return self._open.state()
+
+    def _shut(self) -> None:
+        """Closes the socket, where there is one."""
+        raise NotImplementedError
+
+    # What is asked.
+
+    def ask(self, text: str, tag: int, *fields: Any) -> Request:
+        """Asks a request, by its tag and its fields, and answers it: it goes out when it is settled, and not before. `text` is what it is called
+        where it is told of."""
+        return self._submit(*self._packed(text, tag, *fields))
+
+    def _packed(self, text: str, tag: int, *fields: Any) -> tuple[str, bytes]:
+        return text, pack_structure(tag, fields, self.version)
+
+    def _forget(self) -> None:
+        """The account begins anew: what it had of the requests before, they have."""
+        self._all()
+        check(LIBRARY.bolt_settle(self._open.handle))
+        self.requests, self._told, self._open.went, self._settled = [], 0, False, False
+
+    @ends
+    def _submit(self, text: str, message: bytes) -> Request:
+        state, asked, client = self._state(), Asked(), self._open
+        if self._settled and not state.has_ended:
+            self._forget()
+        # (noted before the library has it: an exception may come between any two steps)
+        self.requests.append(request := Request(text, account=client, ordinal=state.first + state.pending))
+        code = LIBRARY.bolt_ask(client.handle, message, len(message), asked)
+        if code:
+            self.requests.pop()
+            raise fault_of(code, asked) if code != CLOSED else NotSent(code, hint=self._why or "")
+        return request
+
+    def ask_begin(self, write: bool = True, token: Optional[str] = None) -> Request:
+        """A BEGIN: of a transaction to write unless `write` is False, under the token if there is one."""
+        return self.ask("BEGIN", 0x11, extra(write, token))
+
+    @ends
+    def _submit_both(self, text: str, run: bytes, pull: bytes) -> Request:
+        if self._state().pending > PIPELINE - 2:
+            raise NotSent(FULL)
+        self._submit(f"RUN {text}", run)
+        try:
+            return self._submit(f"PULL of {text}", pull)
+        except NotSent:
+            # (memory ran out between the two)
+            self._lose(NO_MEMORY)
+
+    def ask_run(self, text: str, parameters: Optional[dict[str, Any]] = None, write: bool = True, token: Optional[str] = None, count: int = -1) -> Request:
+        """A RUN and a PULL of so many of its rows, of all with -1, both or neither: the latter, which has the rows and the outcome."""
+        return self._submit_both(*self._run(text, parameters, write, token, count))
+
+    def _run(self, text: str, parameters: Optional[dict[str, Any]], write: bool, token: Optional[str], count: int = -1) -> tuple[str, bytes, bytes]:
+        run = pack_structure(0x10, (text, {} if parameters is None else parameters, extra(write, token)), self.version)
+        return text, run, pack_structure(0x3F, ({"n": count},), self.version)
+
+    def ask_pull(self, text: str, count: int = -1) -> Request:
+        """A PULL of so many more rows of the result that is open, of all with -1."""
+        return self.ask(f"PULL of {text}", 0x3F, {"n": count})
+
+    def ask_commit(self) -> Request:
+        return self.ask("COMMIT", 0x12)
+
+    def ask_rollback(self) -> Request:
+        return self.ask("ROLLBACK", 0x13)
+
+    def ask_reset(self) -> Request:
+        return self.ask("RESET", 0x0F)
+
+    # What is heard.
+
+    def _take(self) -> None:
+        """Takes what was told of the requests since: their rows, and what their summaries hold."""
+        while self._told < len(self.requests):
+            request = self.requests[self._told]
+            request.rows += self._open.take_rows(request.ordinal)
+            if request.outcome is None:
+                return
+            request.metadata = (self._open.response(request.ordinal) or [{}])[0]
+            self._told += 1
+
+    def _hear(self, piece: bytes) -> None:
+        """Feeds a piece of the server's bytes, none where no more come. At a bad answer, at one that can't be told, and where memory ran out, the connection is
+        given up."""
+        if not piece:
+            self._lose(reason(self._cut))
+        code = self._open.feed(piece)
+        try:
+            self._take()
+        except NotSent as why:
+            code = code or why.code
+        state = self._state()
+        if code not in (OK, CLOSED):
+            self._lose(NO_MEMORY if code == MEMORY else BAD_ANSWER if state.version else NOT_BOLT)
+        if state.has_ended and not state.version:
+            self._lose(NO_VERSION)
+
+    def _end(self, why: str) -> None:
+        """Nothing is heard any more: the account has what became of each request. This may be broken off and done again."""
+        if self._client and self._client.handle.at:
+            self._why = self._why or why
+            check(LIBRARY.bolt_lose(self._client.handle))
+        self._shut()
+
+    def _lose(self, why: str) -> NoReturn:
+        """The connection is gone, or given up: what became of each request is told."""
+        self._end(why)
+        self._settled = True
+        raise Broken(self._all(), self._why or why) from self._cut
+
+    def _all(self) -> list[Request]:
+        """The requests, each of which has its outcome for itself where it is known."""
+        for it in self.requests:
+            _ = it.outcome
+        return list(self.requests)
+
+    def _says_goodbye(self) -> bool:
+        """Whether a GOODBYE is asked, which is where nothing waits."""
+        state, (_, message) = self._state(), self._packed("GOODBYE", 0x02)
+        if state.has_ended or state.pending:
+            return False
+        check(LIBRARY.bolt_ask(self._open.handle, message, len(message), Asked()))
+        return True
+
+    def _free(self) -> None:
+        """Ends the client, and frees it once each request has its outcome."""
+        self._end(CLOSED_HERE)
+        if self._client:
+            self._all()
+            self._client.close()
+
+    # Calls, step by step.
+
+    def _opening(self, agent: str, login: dict[str, str]) -> Steps[None]:
+        while not self._state().version:
+            yield
+        self.version = self._state().version
+        self.ask("HELLO", 0x01, {"user_agent": agent, **({} if self.version >= V5_1 else login)})
+        if self.version >= V5_1:
+            self.ask("LOGON", 0x6A, login)
+        yield from self._settling()
+
+    def _settling(self) -> Steps[list[Request]]:
+        while self._state().awaits:
+            yield
+        if self._state().has_ended:
+            self._end(ENDED)
+        requests = [] if self._settled else self._all()
+        refused = next((it for it in requests if it.outcome == REFUSED), None)
+        if refused and not self._why and PHASES[self._state().phase] == "HALTED":
+            yield from self._going_on()
+            self.requests = requests
+        self._settled = True
+        if refused:
+            raise Refused(refused.metadata.get("code", ""), refused.metadata.get("message", ""), requests)
+        if requests and self._why:
+            raise Broken(requests, self._why) from self._cut
+        return requests
+
+    def _going_on(self) -> Steps[None]:
+        """Resets the session; where that can't be, the connection is gone."""
+        try:
+            self.ask_reset()
+        except NotSent:
+            # (memory ran out)
+            self._lose(NO_MEMORY)
+        while self._state().awaits:
+            yield
+
+    def _alone(self) -> None:
+        """Refused where something was asked before and isn't settled, which would go out too."""
+        if any(it.outcome is None for it in self.requests):
+            raise NotSent(NOT_ALLOWED, hint="what was asked before isn't settled")
+
+    def _at_once(self, submit: Callable[..., Request], *packed: Any) -> Steps[Request]:
+        """Asks what is packed and settles it."""
+        self._alone()
+        request = submit(*packed)
+        yield from self._settling()
+        return request
+
+
+def reason(failed: Optional[OSError]) -> str:
+    """Why a connection is gone whose socket failed so, or came to its end where that is None."""
+    if failed is None or isinstance(failed, ConnectionError):
+        return GONE
+    return TIMED_OUT if isinstance(failed, TimeoutError) else FAILED

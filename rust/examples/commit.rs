@@ -1,0 +1,42 @@
+//! commit ADDRESS PORT KEY: puts a key in a transaction, all of it in one pipeline, and prints what became of each of its requests, and where the connection
+//! broke, why.
+
+use bolt::{Connection, Error, Login, Query, Request};
+use std::net::TcpStream;
+use std::process::ExitCode;
+
+fn commit(stream: TcpStream, key: &str) -> Result<Vec<Request>, Error> {
+    let login = Login { agent: "commit/1".into(), principal: "user".into(), credentials: "pass".into() };
+    let mut connection = Connection::open(stream, &login)?;
+    connection.ask_begin(true, None)?;
+    connection.ask_run(&Query::new("PUT", [("key", key.into()), ("value", 1.into())]), true, None)?;
+    connection.ask_commit()?;
+    Ok(connection.settle()?.to_vec())
+}
+
+fn main() -> ExitCode {
+    let words: Vec<String> = std::env::args().skip(1).collect();
+    let [address, port, key] = words.as_slice() else {
+        eprintln!("commit ADDRESS PORT KEY");
+        return ExitCode::from(2);
+    };
+    let Ok(stream) = TcpStream::connect(format!("{address}:{port}")) else {
+        eprintln!("no server");
+        return ExitCode::from(2);
+    };
+    let told = commit(stream, key);
+    let requests = match &told {
+        Ok(requests) => requests.as_slice(),
+        Err(error) => {
+            println!("{error}");
+            error.requests()
+        }
+    };
+    for request in requests {
+        // (each has one, once they are settled or the stream is gone)
+        if let Some(outcome) = request.outcome {
+            println!("{}: {outcome:?}", request.text);
+        }
+    }
+    if told.is_ok() { ExitCode::SUCCESS } else { ExitCode::from(3) }
+}
