@@ -1,7 +1,7 @@
 /* bolt.h: the proved driver of Bolt 4.4, 5.0 and 5.1, for C and for what calls C.
  *
  * It does no input or output. It puts out bytes, which the caller sends, and is fed the bytes that the caller receives, in whatever pieces they
- * come. What they say is kept in an account of each request: its outcome, its summary, its rows. Where the connection breaks, the account says
+ * come. What they say is kept in an account of each request: its outcome, its summary, its rows. If the connection breaks, the account says
  * of each request that still waits whether the server may have committed by it (BOLT_UNKNOWN) or can't have (BOLT_LOST).
  *
  *     bolt_client c = {0};
@@ -9,7 +9,7 @@
  *     if (bolt_ask(&c, message, length, &asked) != BOLT_OK) ..;        (once bolt_state tells a version)
  *     while (bolt_unsent(&c, buffer, sizeof buffer, &n) == BOLT_OK && n)
  *         bolt_sent(&c, (size_t)send(fd, buffer, n < sizeof buffer ? n : sizeof buffer, 0)) ..;
- *     size_t got = (size_t)recv(fd, buffer, sizeof buffer, 0) ..;      (at its end, or where it fails: bolt_lose)
+ *     size_t got = (size_t)recv(fd, buffer, sizeof buffer, 0) ..;      (at its end, or if it fails: bolt_lose)
  *     if (bolt_feed(&c, buffer, got, &used) != BOLT_OK) bolt_lose(&c);
  *     bolt_outcome(&c, asked.ordinal, &outcome);                       (BOLT_WAITS, BOLT_COMMITTED, ..)
  *     for (uint64_t i = 0; bolt_row(&c, ordinal, i, row, sizeof row, &n) == BOLT_OK; i++)
@@ -19,13 +19,13 @@
  *
  * What the caller owes, and nothing checks: a handle is {0} before its first call, is given to one call at a time, is
  * read, written and copied by these calls alone, and stays on the thread that opened it. Each pointer is to as many items
- * as the call says, is aligned for them, isn't null (where there are none, neither), and no two of one call overlap.
+ * as the call says, is aligned for them, isn't null (if there are none, neither), and no two of one call overlap.
  * malloc, realloc and free are those of one allocator, and their blocks are aligned as C has it.
  *
  * What a proof shows: no call reads or writes outside of what it was given, overflows or ends the process, whatever the
  * bytes are; want of memory is answered by BOLT_MEMORY, and then nothing has changed but by what bolt_feed has used; each call does with a
  * handle's client what its contract says; of a null handle bolt_open makes a client, bolt_close does nothing, and each other call says
- * BOLT_NO_CLIENT and leaves it null. Where a call answers another code than BOLT_OK, what it would have filled in is as it was, but for the
+ * BOLT_NO_CLIENT and leaves it null. If a call answers another code than BOLT_OK, what it would have filled in is as it was, but for the
  * rule and the place that bolt_ask tells, and for `used` of bolt_feed.
  */
 #ifndef BOLT_H
@@ -38,7 +38,7 @@
 extern "C" {
 #endif
 
-/* A client with its account, or none where `at` is null. */
+/* A client with its account, or none if `at` is null. */
 typedef struct { void *at; } bolt_client;
 
 /* What a call answers. */
@@ -88,10 +88,10 @@ typedef struct {
 
 /* Where a client stands. */
 typedef struct {
-    uint64_t first;      /* the ordinal of the first request that waits; where none does, that of the next */
+    uint64_t first;      /* the ordinal of the first request that waits; if none does, that of the next */
     uint32_t pending;    /* how many wait, at most 32 */
     uint32_t phase;      /* that of the last summary, BOLT_FRESH before one */
-    uint32_t version;    /* 44, 50, 51, or 0 where none is known */
+    uint32_t version;    /* 44, 50, 51, or 0 if none is known */
     uint32_t has_ended;  /* 1: by itself, by a bad answer, or by bolt_lose */
     uint32_t awaits;     /* 1: an answer is still to come */
     uint32_t padding;
@@ -129,7 +129,7 @@ uint32_t bolt_unsent(bolt_client *c, uint8_t *into, size_t room, size_t *length)
 uint32_t bolt_sent(bolt_client *c, size_t count);
 
 /* Uses the bytes of the server, item after item, and tells how many it used, whatever the code: what they say is in the account. BOLT_OK, and not
- * all were used, only where `rows` rows of the one request that waits are held: drop them, and feed the rest. Where others wait behind it, rows past
+ * all were used, only if `rows` rows of the one request that waits are held: drop them, and feed the rest. If others wait behind it, rows past
  * `rows` are counted and not kept. CLOSED and BAD_PEER at the bytes behind those that were used, MEMORY (feed them again). No bytes: BOLT_OK. */
 uint32_t bolt_feed(bolt_client *c, const uint8_t *piece, size_t length, size_t *used);
 
@@ -144,7 +144,7 @@ enum { BOLT_MESSAGE = 65536 };
 /* Tells how many rows of a request are held, and how many came behind them that aren't kept: none of one that the account hasn't. Takes no memory. */
 uint32_t bolt_rows(bolt_client *c, uint64_t ordinal, uint64_t *held, uint64_t *left);
 
-/* Copies a row that is held, the first at index 0, as bolt_response does (B1 71 and a list). NOT_HEARD where there is none at the index. */
+/* Copies a row that is held, the first at index 0, as bolt_response does (B1 71 and a list). NOT_HEARD if there is none at the index. */
 uint32_t bolt_row(bolt_client *c, uint64_t ordinal, uint64_t index, uint8_t *into, size_t room, size_t *length);
 
 /* The rows of a request aren't held any more. More of it may come while it waits. Takes no memory. */
@@ -152,14 +152,14 @@ uint32_t bolt_drop_rows(bolt_client *c, uint64_t ordinal);
 
 /* Reads the value that begins at the offset *at of a message's bytes, in PackStream, and moves *at behind it: of a list, a dictionary and a
  * structure behind its head alone, so that its members come next (of a dictionary a key, its value, a key ..). A text isn't checked to be UTF-8,
- * as those of rows and summaries are. NO_VALUE where none begins there (at the end too), or it is cut off. Takes no handle and no memory. */
+ * as those of rows and summaries are. NO_VALUE if none begins there (at the end too), or it is cut off. Takes no handle and no memory. */
 uint32_t bolt_value_at(const uint8_t *bytes, size_t length, size_t *at, bolt_value *value);
 
 /* No byte comes any more: the client has ended, and the account has the outcome of each request that waited. A second call changes nothing. Takes
  * no memory. */
 uint32_t bolt_lose(bolt_client *c);
 
-/* Outcomes, summaries and rows are forgotten, so that the account doesn't grow. NOT_ALLOWED where a request waits. Takes no memory. */
+/* Outcomes, summaries and rows are forgotten, so that the account doesn't grow. NOT_ALLOWED if a request waits. Takes no memory. */
 uint32_t bolt_settle(bolt_client *c);
 
 /* Tells where the client stands. Takes no memory. */

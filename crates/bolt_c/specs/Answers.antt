@@ -39,7 +39,7 @@ abbrev pub asked_by : Result RequestView MsgFault → Result RequestView Refusal
 asked_by (Ok q) = Ok q
 asked_by (Err e) = Err (refusal.NoRequest e)
 
--- the same at the version that is known; before one is known nothing is allowed
+-- that request at the version that is known; before one is known nothing is allowed
 abbrev pub asked : Option Version → List ℕ → Result RequestView Refusal
 asked None bytes = Err refusal.NotAllowed
 asked (Some v) bytes = asked_by (request_of v bytes)

@@ -91,7 +91,7 @@ abbrev pub code_by : {A E : Type 0} → (E → ℕ) → Result A E → ℕ
 code_by f (Ok x) = 0
 code_by f (Err e) = f e
 
--- what a call fills in: nothing where it tells a fault
+-- what a call fills in: nothing if it tells a fault
 abbrev pub filled : {A E : Type 0} → Result A E → A → A
 filled (Ok x) before = x
 filled (Err e) before = before

@@ -1,5 +1,6 @@
 -- What a whole piece makes of a client and of the account of its requests.
-use Rattle.std.specs.Prelude.{◌≡◌, ◌≤◌, ◌<◌, ℕ, false, Option, Some, None, Ok, Err, List, [], ◌∷◌, length, drop}
+use Rattle.std.specs.Prelude.{◌≡◌, ◌⊎◌, ◌≤◌, ◌<◌, ℕ, false, Option, Some, None, Ok, Err, List, [], ◌∷◌, length, drop}
+use Rattle.client.specs.Held.{WantsRoom}
 use Rattle.client.specs.Rest.{Rest}
 use Rattle.driver.specs.declared.faults.FeedFault.{FeedFault}
 use Rattle.driver.specs.declared.faults.FeedFault.TheVariants as feed_fault
@@ -33,11 +34,12 @@ FedBy (n ∷ ns) from piece to left =
     × FedBy ns (fed from piece) (drop n piece) to left
 
 -- Why no more of a piece was used: none is left, or the next call refuses what is left. Want of memory changes nothing, and comes in an open
--- client that isn't full.
+-- client that isn't full, if a request waits or what is left wants room.
 abbrev pub Stops : Stand → List ℕ → Option FeedFault → Stand → Type 0
 Stops s left None to = (left ≡ []) × (to ≡ s)
 Stops s left (Some feed_fault.Memory) to =
     (0 < length left) × (to ≡ s) × (s.rest.knows.over ≡ false) × (is_full s.rest.knows s.account ≡ false)
+    × ((0 < length s.rest.knows.waiting) ⊎ WantsRoom s.rest.item left)
 Stops s left (Some e) to =
     (0 < length left) × ((tracked_feed s.rest s.account left).answer ≡ Err e) × (to ≡ fed s left)
 

@@ -54,7 +54,7 @@ pub struct Standing {
     pub version: u32,
     /// 1 if the client has ended, else 0.
     pub has_ended: u32,
-    /// 1 where an answer is still to come, else 0.
+    /// 1 if an answer is still to come, else 0.
     pub awaits: u32,
     /// 0.
     pub padding: u32,
@@ -130,7 +130,7 @@ pub(crate) fn refusal_code(refusal: &Refusal) -> u32
     }
 }
 
-/// Tells the rule that a message breaks, and where; nothing where it is refused for another reason.
+/// Tells the rule that a message breaks, and where; nothing if it is refused for another reason.
 pub(crate) fn tell_rule(refusal: Refusal, asked: &mut Asked)
     ensures { asked.new ≡ refused_in refusal asked.old }
 {

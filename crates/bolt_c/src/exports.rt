@@ -16,7 +16,7 @@ use crate::values::{Value, value_at};
 use std::alloc::Global;
 
 /// Holds a new client, whose offer is to be sent, and of whose requests at most so many rows each are kept; what it held before is freed. Answers
-/// 10 where the wish is none of 0, 44, 50 and 51, and 5 for want of memory: nothing has changed then.
+/// 10 if the wish is none of 0, 44, 50 and 51, and 5 for want of memory: nothing has changed then.
 #[unsafe(no_mangle)]
 pub extern "C" fn bolt_open(alloc: Global, handle: &mut Handle, versions: u32, rows: usize) -> u32
     ensures { Opens handle.old.held (wish_of versions) rows result handle.new.held }
@@ -111,7 +111,7 @@ pub extern "C" fn bolt_sent(alloc: Global, handle: &mut Handle, count: usize) ->
 }
 
 /// Uses bytes of the server, item after item, and tells how many, whatever it answers: what they say is in the account. Answers 0 if none is left,
-/// and where as many rows of the one request that waits are held as may be: it goes on once they are dropped. Else 4 where the client has ended, 6
+/// and if as many rows of the one request that waits are held as may be: it goes on once they are dropped. Else 4 if the client has ended, 6
 /// at a bad answer, 5 for want of memory, which may be fed again.
 #[unsafe(no_mangle)]
 pub extern "C" fn bolt_feed(
@@ -203,7 +203,7 @@ pub extern "C" fn bolt_rows(
     OK
 }
 
-/// The bytes of a row that is held of a request, as `bolt_response` has those of its summary. Answers 9 where none is held at the index.
+/// The bytes of a row that is held of a request, as `bolt_response` has those of its summary. Answers 9 if none is held at the index.
 #[unsafe(no_mangle)]
 pub extern "C" fn bolt_row(
     alloc: Global,
@@ -271,7 +271,7 @@ pub extern "C" fn bolt_lose(alloc: Global, handle: &mut Handle) -> u32
     OK
 }
 
-/// What was told is forgotten. Answers 1 where a request waits: nothing has changed then. Takes no memory.
+/// What was told is forgotten. Answers 1 if a request waits: nothing has changed then. Takes no memory.
 #[unsafe(no_mangle)]
 pub extern "C" fn bolt_settle(alloc: Global, handle: &mut Handle) -> u32
     ensures { OnHeld handle.old.held handle.new.held (result ≡ 100) (Settling result) }

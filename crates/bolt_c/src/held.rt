@@ -46,7 +46,7 @@ pub(crate) fn put(bytes: &[u8], into: &mut [u8])
     into[..count].copy_from_slice(&bytes[..count]);
 }
 
-/// The bytes of a message go into the buffer, as many as there is room for; how many there are. Where they aren't told nothing has changed.
+/// The bytes of a message go into the buffer, as many as there is room for; how many there are. If they aren't told nothing has changed.
 fn tell(text: Result<BytesMut, MessageFault>, into: &mut [u8]) -> Result<usize, MessageFault>
     ensures ok { IfOk text (λ t. (result ≡ Ok (length t.items)) × Writes t.items into.old into.new) }
     ensures err { IfErr text (λ e. (result ≡ Err e) × (into.new ≡ into.old)) }

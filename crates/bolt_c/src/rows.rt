@@ -64,7 +64,7 @@ fn put_row(row: &[Cell], out: &mut Adding) -> Result<(), Unspelled>
     put_list(out, row, ROOM)
 }
 
-/// The bytes of the message of a row without structures, spelled from where it stands; or none, where it has one, is past its limit or memory ran
+/// The bytes of the message of a row without structures, spelled from where it stands; or none, if it has one, is past its limit or memory ran
 /// out.
 fn spelled_plain(alloc: Global, row: &[Cell]) -> Option<BytesMut>
     ensures { IfSome result (λ text. (v : AnyVersion)
