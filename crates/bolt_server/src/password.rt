@@ -12,7 +12,7 @@ fn first_line(text: &str) -> &str {
     }
 }
 
-/// The password: the first line of the file, or `pass` where none is named.
+/// The password: the first line of the file, or `pass` if none is named.
 pub(crate) fn password_of(rt: &HostRuntime, file: Option<&str>) -> io::Result<String> {
     let alloc = rt.alloc();
     match file {

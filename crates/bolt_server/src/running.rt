@@ -28,7 +28,7 @@ fn limits_of(asked: &Asked<'_>) -> Limits {
     }
 }
 
-/// Says why the password isn't had: `fault I1`, and on the next line the file and the system's reason, where there is memory for it. It answers the exit
+/// Says why the password isn't had: `fault I1`, and on the next line the file and the system's reason, if there is memory for it. It answers the exit
 /// status.
 fn put_unread<W: Sink>(alloc: Global, file: &str, error: &io::Error, err: &mut W) -> u8 {
     if error.kind() == ErrorKind::OutOfMemory {

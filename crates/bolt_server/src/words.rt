@@ -9,7 +9,7 @@ pub(crate) struct Asked<'a> {
     pub(crate) port: u16,
     pub(crate) host: &'a str,
     pub(crate) user: &'a str,
-    /// The file of the password, where one is named.
+    /// The file of the password, if one is named.
     pub(crate) password_file: Option<&'a str>,
     pub(crate) sessions: Option<u16>,
     /// The name that the server tells.
@@ -22,7 +22,7 @@ pub(crate) struct Asked<'a> {
     pub(crate) last: u32,
 }
 
-/// An option with a value that is asked for only where it is another.
+/// An option with a value that is asked for only if it is another.
 fn option<'a>(
     alloc: Global,
     name: &'a str,

@@ -78,7 +78,7 @@ fn unbound_words(
     error_words(alloc, place.as_str(), error)
 }
 
-/// What is said beside the fault, where the system has said why.
+/// What is said beside the fault, if the system has said why.
 fn words_of(alloc: Global, host: &str, port: u16, reason: Reason) -> Result<String, AllocError>
     ensures { IfOk result (λ words. IsSaidOf host.now port reason (string_bytes words)) }
 {
@@ -101,7 +101,7 @@ pub fn put_reason<W: Sink>(alloc: Global, host: &str, port: u16, reason: Reason,
     status
 }
 
-/// Says what the system said, where there is memory for it.
+/// Says what the system said, if there is memory for it.
 fn put_words<W: Sink>(alloc: Global, host: &str, port: u16, reason: Reason, err: &mut W)
     ensures { (words : List ℕ) × ((words ≡ []) ⊎ IsSaidOf host.now port reason words)
         × Gets (W.has_failed err.old) (W.has_failed err.new) (W.taken err.old) (W.taken err.new) words }

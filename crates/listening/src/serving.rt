@@ -52,7 +52,7 @@ pub fn serve_at<R: Net + Clock + Drop, E: Engine, G: Gate, O: Sink>(
 ) -> Reason
     requires { (rest_of E.entries server.old).sessions ≡ [] }
     ensures reaches { Reaches E.answer G.welcomes (rest_of E.entries server.old) (rest_of E.entries server.new) }
-    // Where the port isn't had, nothing is served.
+    // If the port isn't had, nothing is served.
     ensures unbound { IsUnbound result → rest_of E.entries server.new ≡ rest_of E.entries server.old }
 {
     let has_failed = Cell::new(false);

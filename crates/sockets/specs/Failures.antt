@@ -5,7 +5,7 @@ use Rattle.sockets.specs.declared.failures.Refusal.{Refusal}
 use Rattle.sockets.specs.declared.failures.Refusal.TheVariants.{Nobody, Next, Later}
 
 -- Nobody waits where the accept would wait. The next may be tried where the network failed for the one who waited (accept(2), "Error
--- handling"), or where a signal came. For every other failure somebody waits still.
+-- handling"), or if a signal came. For every other failure somebody waits still.
 abbrev pub refusal_of : ErrorKind → Refusal
 refusal_of WouldBlock = Nobody
 refusal_of Interrupted = Next

@@ -24,14 +24,14 @@ const MAX_EVENTS: usize = 64;
 /// How many that are gone before they are accepted are passed over at once.
 const MAX_GONE: u32 = 64;
 
-/// Where a server listens, and for how many.
+/// If a server listens, and for how many.
 #[derive(Clone, Copy)]
 pub struct Place<'a> {
     /// The name or the address of this machine at which it listens.
     pub host: &'a str,
     /// The port, or 0 for any that is free.
     pub port: u16,
-    /// The most connections at once, where there is a bound beside that of the server. One counts until all that it is owed was written.
+    /// The most connections at once, if there is a bound beside that of the server. One counts until all that it is owed was written.
     pub most: Option<usize>,
 }
 
@@ -56,7 +56,7 @@ pub struct Network<'a, R: Drop> {
     listener: TcpListener,
     guest: Option<TcpStream>,
     peers: Vec<Peer>,
-    /// The most connections that aren't finished, where that is bounded.
+    /// The most connections that aren't finished, if that is bounded.
     most: Option<usize>,
     /// Whether somebody may wait who wasn't greeted since there were so many.
     waits: bool,
@@ -115,7 +115,7 @@ impl<'a, R: Net + Clock + Drop> Network<'a, R> {
         self.listener.local_addr()
     }
 
-    /// Why the wait failed, where it did.
+    /// Why the wait failed, if it did.
     pub fn error(&self) -> Option<&io::Error>
         ensures { option_copied result ≡ self.now.error }
     {
