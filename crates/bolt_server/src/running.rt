@@ -17,14 +17,18 @@ const STEPS: u32 = 64;
 
 const READS: u32 = 4;
 
+fn milliseconds(seconds: u32) -> u64 {
+    u64::from(seconds) * 1000
+}
+
 /// How long is waited for a peer, as it was asked for.
 fn limits_of(asked: &Asked<'_>) -> Limits {
     Limits {
         steps: STEPS,
         reads: READS,
-        silence: u64::from(asked.silence) * 1000,
-        arrival: u64::from(asked.arrival) * 1000,
-        last: u64::from(asked.last) * 1000,
+        silence: milliseconds(asked.silence),
+        arrival: milliseconds(asked.arrival),
+        last: milliseconds(asked.last),
     }
 }
 

@@ -43,7 +43,7 @@ fn seconds<'a>(alloc: Global, name: &'a str, default: &'a str, help: &'a str) ->
 }
 
 /// The words that there may be.
-fn command(alloc: Global) -> Result<Command<'static>, AllocError> {
+fn command<'a>(alloc: Global) -> Result<Command<'a>, AllocError> {
     let port = Arg::new(alloc, "port")
         .value_name("PORT")
         .required(true)

@@ -1,4 +1,6 @@
 //! Peers in memory, and who is told of their ends.
+ghost use Rattle.std.specs.Prelude.{◌≤◌, length};
+ghost use Rattle.lines.specs.Peers.{got_count, told_count};
 
 use hosts::{Journal, Parting};
 use lines::{Failed, Got, Greeting, Peers, Readiness, Ready};
@@ -86,7 +88,9 @@ impl Guest {
         self.may_take = self.takes;
     }
 
-    fn read(&mut self, buffer: &mut [u8]) -> Result<Got, Failed> {
+    fn read(&mut self, buffer: &mut [u8]) -> Result<Got, Failed>
+        ensures within { got_count result ≤ length buffer.new }
+    {
         let (_, rest) = self
             .sends
             .as_slice()
@@ -110,7 +114,9 @@ impl Guest {
         })
     }
 
-    fn write(&mut self, bytes: &[u8]) -> Result<usize, Failed> {
+    fn write(&mut self, bytes: &[u8]) -> Result<usize, Failed>
+        ensures within { told_count result ≤ length bytes.now }
+    {
         if self.after == After::Breaks && self.sent == self.sends.len() {
             return Err(Failed);
         }

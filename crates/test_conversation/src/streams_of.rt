@@ -1,5 +1,9 @@
 //! Streams that give and take a little at once, and fail.
 
+ghost use Rattle.std.specs.Prelude.{◌≡◌, [], IfOk};
+ghost use Rattle.engine.specs.Prelude.{ledger_of};
+ghost use Rattle.server.specs.Views.{rest_of};
+
 use engine::{Engine, FixedTable, OneUser};
 use server::{Cause, Server};
 use serves::serve_one;
@@ -79,7 +83,9 @@ impl Sink for Drip {
 }
 
 /// A new server.
-pub fn server(alloc: Global) -> Result<Table, Fail> {
+pub fn server(alloc: Global) -> Result<Table, Fail>
+    ensures { IfOk result (λ server. (rest_of ledger_of server).sessions ≡ []) }
+{
     let gate = OneUser::new(alloc, "user", "pass")?;
     Ok(Server::new(alloc, FixedTable::new(alloc), gate))
 }
