@@ -6,7 +6,7 @@ mod connected;
 
 use connected::{Connection, chunk};
 use std::io::{BufRead, BufReader, Read};
-use std::net::TcpStream;
+use std::net::{TcpListener, TcpStream};
 use std::process::{Child, Command, Stdio};
 use std::thread;
 use std::time::Instant;
@@ -57,7 +57,8 @@ fn main() {
         thread::scope(|scope| (0..CLIENTS).for_each(|_| drop(scope.spawn(|| trips(port, TRIPS)))));
         at_once = at_once.max((CLIENTS * TRIPS) as f64 / begin.elapsed().as_secs_f64());
         server.kill().and_then(|()| server.wait()).expect("an end");
-        let (mut server, port) = start(&[bolt, "serve", "0", &CLIENTS.to_string()]);
+        let free = TcpListener::bind(("127.0.0.1", 0)).and_then(|taken| taken.local_addr()).expect("a port").port();
+        let (mut server, port) = start(&[bolt, "serve", &free.to_string(), &CLIENTS.to_string()]);
         let begin = Instant::now();
         (0..CLIENTS).for_each(|_| drop(trips(port, TRIPS)));
         in_turn = in_turn.max((CLIENTS * TRIPS) as f64 / begin.elapsed().as_secs_f64());
