@@ -1,31 +1,31 @@
 -- The first key that stands before it too.
-use Rattle.std.proofs.Common.{◌≡◌, ◌<◌, ◌≤◌, ◌+◌, ℕ, List, [], ◌∷◌, ◌++◌, length, take, get_or, string_bytes, Bool, true, false, ◌==◌, Result, Ok, Err, refl, sym, ap, subst, ◌∙◌, arith, below_more, eqb-true}
+use Rattle.std.proofs.Common.{String, Global, ◌≡◌, ◌<◌, ◌≤◌, ◌+◌, ℕ, List, [], ◌∷◌, ◌++◌, length, take, get_or, string_bytes, Bool, true, false, ◌==◌, Result, Ok, Err, refl, sym, ap, subst, ◌∙◌, arith, below_more, eqb-true}
 use Rattle.std.proofs.lemmas.Bool.{eqb-false}
 use Rattle.std.proofs.lemmas.List.{map_more, get_or-map}
 use Rattle.packstream.specs.declared.fault.Reason.{Reason}
 use Rattle.packstream.specs.declared.fault.Reason.TheVariants as reason
-use Rattle.packstream.specs.Prelude.{Tree, is_among, first_fault, faults_in, Pair, names, stands_before, IsFirstTwin}
+use Rattle.packstream.specs.Prelude.{Tree, is_among, first_fault, faults_in, names, stands_before, IsFirstTwin}
 use Rattle.packstream.proofs.Checking.{fault_again}
 
-abbrev pub AllNew : List Pair → ℕ → Type 0
+abbrev pub AllNew : {A : Type 0} → List (String Global × A) → ℕ → Type 0
 AllNew es i = (k : ℕ) → k < i → stands_before es k ≡ false
 
-name_is : (es : List Pair) (i : ℕ) (e : Pair) → i < length es → e ≡ get_or es i e → get_or (names es) i [] ≡ string_bytes e.0
-name_is es i e h is = get_or-map (λ (y : Pair). string_bytes y.0) es i e [] h ∙ ap (λ (y : Pair). string_bytes y.0) (sym is)
+name_is : {A : Type 0} (es : List (String Global × A)) (i : ℕ) (e : String Global × A) → i < length es → e ≡ get_or es i e → get_or (names es) i [] ≡ string_bytes e.0
+name_is {A = A} es i e h is = get_or-map (λ (y : String Global × A). string_bytes y.0) es i e [] h ∙ ap (λ (y : String Global × A). string_bytes y.0) (sym is)
 
 -- whether a pair's key stands before it
-pub before_is : (es : List Pair) (i : ℕ) (e : Pair) → i < length es → e ≡ get_or es i e → stands_before es i ≡ is_among (string_bytes e.0) (names (take i es))
+pub before_is : {A : Type 0} (es : List (String Global × A)) (i : ℕ) (e : String Global × A) → i < length es → e ≡ get_or es i e → stands_before es i ≡ is_among (string_bytes e.0) (names (take i es))
 before_is es i e h is = ap (λ (s : List ℕ). is_among s (names (take i es))) (name_is es i e h is)
 
-pub new_more : (es : List Pair) (i : ℕ) (e : Pair) → i < length es → e ≡ get_or es i e → AllNew es i → is_among (string_bytes e.0) (names (take i es)) ≡ false → AllNew es (i + 1)
+pub new_more : {A : Type 0} (es : List (String Global × A)) (i : ℕ) (e : String Global × A) → i < length es → e ≡ get_or es i e → AllNew es i → is_among (string_bytes e.0) (names (take i es)) ≡ false → AllNew es (i + 1)
 new_more es i e h is all f = below_more (λ k. stands_before es k ≡ false) i all (before_is es i e h is ∙ f)
 
-same_by : (es : List Pair) (n i : ℕ) (b : Bool) → (i == n) ≡ b → IsFirstTwin es n → i ≤ n → i < length es → stands_before es i ≡ b
+same_by : {A : Type 0} (es : List (String Global × A)) (n i : ℕ) (b : Bool) → (i == n) ≡ b → IsFirstTwin es n → i ≤ n → i < length es → stands_before es i ≡ b
 same_by es n i true e t le lt = let at : i ≡ n = eqb-true _ _ e in subst (λ (k : ℕ). stands_before es k ≡ true) (sym at) (t.twin (omega arith))
 same_by es n i false e t le lt = let off : i ≡ n → ⊥ = eqb-false _ _ e in t.fresh i (omega arith)
 
 -- up to the first twin, a key stands before it exactly where it is that
-pub twin_is : (es : List Pair) (n i : ℕ) (e : Pair) → IsFirstTwin es n → i ≤ n → i < length es → e ≡ get_or es i e → (i == n) ≡ is_among (string_bytes e.0) (names (take i es))
+pub twin_is : {A : Type 0} (es : List (String Global × A)) (n i : ℕ) (e : String Global × A) → IsFirstTwin es n → i ≤ n → i < length es → e ≡ get_or es i e → (i == n) ≡ is_among (string_bytes e.0) (names (take i es))
 twin_is es n i e t le lt is = sym (same_by es n i (i == n) refl t le lt) ∙ before_is es i e lt is
 
 -- what passes isn't the twin
@@ -34,5 +34,5 @@ still_before n i h at next t true e le f = absurd (let two : ◌≡◌ {A = Resu
 still_before n i h at next t false e le f = let off : i ≡ n → ⊥ = eqb-false _ _ e in omega arith
 
 -- names with one more
-pub names_more : (es : List Pair) (i : ℕ) (e : Pair) → i < length es → e ≡ get_or es i e → names (take (i + 1) es) ≡ names (take i es) ++ string_bytes e.0 ∷ []
-names_more es i e h is = map_more (λ (x : Pair). string_bytes x.0) es i e h ∙ ap (λ (y : Pair). names (take i es) ++ string_bytes y.0 ∷ []) (sym is)
+pub names_more : {A : Type 0} (es : List (String Global × A)) (i : ℕ) (e : String Global × A) → i < length es → e ≡ get_or es i e → names (take (i + 1) es) ≡ names (take i es) ++ string_bytes e.0 ∷ []
+names_more {A = A} es i e h is = map_more (λ (x : String Global × A). string_bytes x.0) es i e h ∙ ap (λ (y : String Global × A). names (take i es) ++ string_bytes y.0 ∷ []) (sym is)

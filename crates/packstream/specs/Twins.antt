@@ -9,15 +9,15 @@ abbrev pub Pair : Type 0
 Pair = String Global × Value
 
 -- the keys of pairs, in order, by their bytes
-abbrev pub names : List Pair → List (List ℕ)
+abbrev pub names : {A : Type 0} → List (String Global × A) → List (List ℕ)
 names es = map (λ e. string_bytes e.0) es
 
 -- the key of the pair with this index is one of those before it
-abbrev pub stands_before : List Pair → ℕ → Bool
+abbrev pub stands_before : {A : Type 0} → List (String Global × A) → ℕ → Bool
 stands_before es k = is_among (get_or (names es) k []) (names (take k es))
 
 -- n is the index of the first such pair, or the number of pairs if there is none
-pub record IsFirstTwin (es : List Pair) (n : ℕ) : Type 0 where
+pub record IsFirstTwin {A : Type 0} (es : List (String Global × A)) (n : ℕ) : Type 0 where
   pub within : n ≤ length es
   pub fresh : (k : ℕ) → k < n → stands_before es k ≡ false
   pub twin : n < length es → stands_before es n ≡ true

@@ -1,8 +1,7 @@
 //! Bytes out of values.
 ghost use Rattle.std.specs.Prelude.{◌≡◌, ◌≤◌, ◌<◌, ◌+◌, ◌∷◌, [], ◌++◌, length};
-ghost use Rattle.packstream.specs.Canon.{long_head, head, int_bytes, text_bytes, canon, canon_all, canon_entries, IsShortest};
+ghost use Rattle.packstream.specs.Canon.{long_head, text_bytes, canon, canon_all, canon_entries, IsShortest};
 ghost use Rattle.std.specs.Prelude.{string_bytes};
-ghost use Rattle.byteorder.specs.Endian.{big_bytes};
 ghost use Rattle.packstream.specs.Tree.{list, dict, structure};
 ghost use Rattle.packstream.specs.Good.{IsSound, AreSound, HaveSoundValues};
 ghost use Rattle.packstream.specs.View.{tree, trees, trees_of, entries, entries_of};
@@ -22,72 +21,10 @@ use crate::output::Adding;
 use crate::packed::Packed;
 use crate::sizes::value_size;
 use crate::value::Value;
+use crate::writing::{put_float, put_head, put_int, put_short_bytes, put_short_text};
 use bytes::BytesMut;
-use std::alloc::AllocError;
-use std::mem;
-
-/// Room for a small value, made at once.
-const SMALL: usize = 128;
-
-#[tactic(auto, unfolding(crate::specs::Canon::long_head))]
-fn put_long(out: &mut Adding, marker: u8, n: u32) -> Result<(), AllocError>
-    requires { marker ≤ 253 }
-    ensures before { out.new.before ≡ out.old.before }
-    ensures ok { OnOk result (out.new.more ≡ out.old.more ++ long_head marker n) }
-{
-    if n < 0x100 {
-        out.push_and_extend(marker, &(n as u8).to_be_bytes())
-    } else if n < 0x10000 {
-        out.push_and_extend(marker + 1, &(n as u16).to_be_bytes())
-    } else {
-        out.push_and_extend(marker + 2, &n.to_be_bytes())
-    }
-}
-
-#[tactic(auto, unfolding(crate::specs::Canon::head))]
-fn put_head(out: &mut Adding, tiny: u8, marker: u8, n: u32) -> Result<(), AllocError>
-    requires tiny { tiny ≤ 240 }
-    requires marker { marker ≤ 253 }
-    ensures before { out.new.before ≡ out.old.before }
-    ensures ok { OnOk result (out.new.more ≡ out.old.more ++ head tiny marker n) }
-{
-    if n < 16 {
-        out.push(tiny + n as u8)?;
-        Ok(())
-    } else {
-        put_long(out, marker, n)
-    }
-}
-
-/// In place: neither a list's loop nor `put_value` has a call for an integer.
-#[tactic(auto, unfolding(crate::specs::Canon::int_bytes))]
-#[inline(always)]
-fn put_int(out: &mut Adding, n: i64) -> Result<(), AllocError>
-    ensures before { out.new.before ≡ out.old.before }
-    ensures ok { OnOk result (out.new.more ≡ out.old.more ++ int_bytes n) }
-{
-    if -16 <= n && n <= 127 {
-        out.extend_from_slice(&(n as i8).to_be_bytes())
-    } else if -128 <= n && n <= 127 {
-        out.push_and_extend(0xC8, &(n as i8).to_be_bytes())
-    } else if -32_768 <= n && n <= 32_767 {
-        out.push_and_extend(0xC9, &(n as i16).to_be_bytes())
-    } else if -2_147_483_648 <= n && n <= 2_147_483_647 {
-        out.push_and_extend(0xCA, &(n as i32).to_be_bytes())
-    } else {
-        out.push_and_extend(0xCB, &n.to_be_bytes())
-    }
-}
-
-fn put_float(out: &mut Adding, bits: u64) -> Result<(), AllocError>
-    ensures before { out.new.before ≡ out.old.before }
-    ensures ok { OnOk result (out.new.more ≡ out.old.more ++ (0xC1 ∷ big_bytes 8 bits)) }
-{
-    out.push_and_extend(0xC1, &bits.to_be_bytes())
-}
 
 /// A text, in place: the loop over a dictionary's pairs has no call for a key.
-#[tactic(auto, using(crate::proofs::Putting::parts))]
 #[inline]
 fn put_key(out: &mut Adding, key: &str) -> Result<(), Unwritten>
     ensures before { out.new.before ≡ out.old.before }
@@ -96,8 +33,7 @@ fn put_key(out: &mut Adding, key: &str) -> Result<(), Unwritten>
     if key.len() > MAX_SIZE {
         return Err(Unwritten::Size);
     }
-    put_head(out, 0x80, 0xD0, key.len() as u32)?;
-    out.extend_from_slice(key.as_bytes())?;
+    put_short_text(out, key)?;
     Ok(())
 }
 
@@ -110,7 +46,6 @@ fn put_text(out: &mut Adding, text: &str) -> Result<(), Unwritten>
     put_key(out, text)
 }
 
-#[tactic(auto, using(crate::proofs::Putting::parts))]
 #[inline(never)]
 fn put_bytes(out: &mut Adding, bytes: &[u8]) -> Result<(), Unwritten>
     ensures before { out.new.before ≡ out.old.before }
@@ -120,8 +55,7 @@ fn put_bytes(out: &mut Adding, bytes: &[u8]) -> Result<(), Unwritten>
     if bytes.len() > MAX_SIZE {
         return Err(Unwritten::Size);
     }
-    put_long(out, 0xCC, bytes.len() as u32)?;
-    out.extend_from_slice(bytes)?;
+    put_short_bytes(out, bytes)?;
     Ok(())
 }
 
@@ -297,14 +231,7 @@ pub fn encode(packed: &Packed, out: &mut BytesMut) -> Result<(), PackFault>
         → (r ≡ reason.Size) × (o ≡ 0) }
     ensures err { OnErr result (out.new.items ≡ out.old.items) }
 {
-    let alloc = *out.allocator();
-    if out.capacity() == 0 {
-        let Ok(room) = Vec::with_capacity(alloc, SMALL) else {
-            return Err(PackFault::Memory);
-        };
-        *out = BytesMut::from_vec(room);
-    }
-    let mut adding = Adding::to(mem::replace(out, BytesMut::new(alloc)));
+    let mut adding = Adding::to(out);
     match spell(&mut adding, packed) {
         Ok(()) => {
             *out = adding.keep();

@@ -8,7 +8,7 @@ use std::collections::BTreeSet;
 
 /// The keys of a dictionary so far, each behind its hash. By hashes most keys are told apart without a look at their
 /// bytes; where two are equal, the bytes are compared, so keys that were chosen to collide cost no more than that.
-pub(crate) type Seen<'a> = BTreeSet<(u64, &'a str)>;
+pub type Seen<'a> = BTreeSet<(u64, &'a str)>;
 
 #[tactic(auto, unfolding(crate::specs::Hashing::hash_more))]
 fn hash_of(key: &str) -> u64
@@ -23,8 +23,8 @@ fn hash_of(key: &str) -> u64
     hash
 }
 
-/// Whether the key is none of those seen, which it joins.
-pub(crate) fn is_new<'a>(seen: &mut Seen<'a>, key: &'a str) -> Result<bool, AllocError>
+/// Whether the key is none of those seen, which it joins; or want of memory.
+pub fn is_new<'a>(seen: &mut Seen<'a>, key: &'a str) -> Result<bool, AllocError>
     ensures answer { (before : List (List ℕ)) → Knows seen.old before
         → IfOk result (λ b. b ≡ not (is_among key.now before)) }
     ensures seen { (before : List (List ℕ)) → Knows seen.old before

@@ -1,16 +1,18 @@
 //! The first key of a dictionary that stands before it too.
-ghost use Rattle.std.specs.Prelude.{IfOk};
+ghost use Rattle.std.specs.Prelude.{◌≡◌, IfOk, map, string_bytes};
+ghost use Rattle.packstream.specs.Good.{is_among};
 ghost use Rattle.packstream.specs.Twins.{IsFirstTwin};
 
-use crate::decoder::{FEW, has_key};
 use crate::seen::is_new;
-use crate::value::Value;
 use std::alloc::{AllocError, Global};
 use std::collections::BTreeSet;
 
+/// Dictionaries of up to so many entries look for equal keys by comparing all; larger ones use an ordered set, so that no input costs a square.
+pub const FEW: u64 = 16;
+
 /// How keys are told from those before them.
 #[derive(Clone, Copy)]
-pub(crate) enum Lookup {
+pub enum Lookup {
     /// Each is compared with each before it, which takes no memory.
     Compared,
     /// Among many, each is looked up in a set, for which memory is taken.
@@ -18,7 +20,7 @@ pub(crate) enum Lookup {
 }
 
 /// The index of the first pair whose key stands before it too, or the number of pairs.
-pub(crate) fn first_twin(lookup: Lookup, pairs: &[(String, Value)]) -> usize
+pub fn first_twin<T>(lookup: Lookup, pairs: &[(String, T)]) -> usize
     ensures { IsFirstTwin pairs.now result }
 {
     match lookup {
@@ -28,7 +30,7 @@ pub(crate) fn first_twin(lookup: Lookup, pairs: &[(String, Value)]) -> usize
 }
 
 /// If there is no memory for the set, it does without.
-fn twin_looked_up(alloc: Global, pairs: &[(String, Value)]) -> usize
+fn twin_looked_up<T>(alloc: Global, pairs: &[(String, T)]) -> usize
     ensures { IsFirstTwin pairs.now result }
 {
     if pairs.len() as u64 <= FEW {
@@ -40,7 +42,7 @@ fn twin_looked_up(alloc: Global, pairs: &[(String, Value)]) -> usize
     at
 }
 
-fn twin_in_set(alloc: Global, pairs: &[(String, Value)]) -> Result<usize, AllocError>
+fn twin_in_set<T>(alloc: Global, pairs: &[(String, T)]) -> Result<usize, AllocError>
     ensures { IfOk result (IsFirstTwin pairs.now) }
 {
     let mut seen = BTreeSet::new(alloc);
@@ -53,7 +55,7 @@ fn twin_in_set(alloc: Global, pairs: &[(String, Value)]) -> Result<usize, AllocE
     Ok(pairs.len())
 }
 
-fn twin_compared(pairs: &[(String, Value)]) -> usize
+fn twin_compared<T>(pairs: &[(String, T)]) -> usize
     ensures { IsFirstTwin pairs.now result }
 {
     for (i, pair) in pairs.iter().enumerate() {
@@ -63,4 +65,16 @@ fn twin_compared(pairs: &[(String, Value)]) -> usize
         }
     }
     pairs.len()
+}
+
+/// Whether one of the pairs has the key.
+pub fn has_key<T>(pairs: &[(String, T)], key: &str) -> bool
+    ensures { result ≡ is_among key.now (map (λ e. string_bytes e.0) pairs.now) }
+{
+    for pair in pairs {
+        if key == pair.0.as_str() {
+            return true;
+        }
+    }
+    false
 }

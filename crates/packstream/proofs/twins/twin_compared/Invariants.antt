@@ -2,4 +2,4 @@ use Rattle.packstream.proofs.FirstTwin.{AllNew}
 use Rattle.packstream.proofs.twins.twin_compared.Given as goal
 
 abbrev pub invariant-loop-i : goal.invariant-loop-i
-invariant-loop-i l = AllNew l.pairs l.i
+invariant-loop-i g l = AllNew l.pairs l.i

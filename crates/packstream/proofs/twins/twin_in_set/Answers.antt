@@ -5,7 +5,7 @@ use Rattle.packstream.proofs.FirstTwin.{new_more, names_more}
 use Rattle.packstream.proofs.twins.twin_in_set.Goals as goal
 
 pub loop-i-preserved : goal.loop-i-preserved
-loop-i-preserved c =
+loop-i-preserved g c =
     let es = c.args.pairs.now in
     let e = c.index-pairs-i.result in
     let i = c.loop-i.i in

@@ -4,4 +4,4 @@ use Rattle.packstream.proofs.FirstTwin.{AllNew}
 use Rattle.packstream.proofs.twins.twin_in_set.Given as goal
 
 abbrev pub invariant-loop-i : goal.invariant-loop-i
-invariant-loop-i l = AllNew l.pairs l.i × Knows l.seen (names (take l.i l.pairs))
+invariant-loop-i g l = AllNew l.pairs l.i × Knows l.seen (names (take l.i l.pairs))

@@ -1,6 +1,0 @@
-use Rattle.std.proofs.Common.{◌≡◌, drop}
-use Rattle.packstream.specs.Prelude.{is_among, names}
-use Rattle.packstream.proofs.decoder.has_key.Given as goal
-
-abbrev pub invariant-loop-pair : goal.invariant-loop-pair
-invariant-loop-pair l = is_among l.key (names (drop l.pair-index l.pairs)) ≡ is_among l.key (names l.pairs)
