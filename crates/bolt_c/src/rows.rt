@@ -5,11 +5,11 @@ ghost use Rattle.packstream.specs.Canon.{canon};
 ghost use Rattle.packstream.specs.Good.{IsGood, depth};
 ghost use Rattle.packstream.specs.Tree.{list};
 ghost use Rattle.packstream.specs.View.{trees_of};
-ghost use Rattle.cells.specs.Faults.{structures};
 ghost use Rattle.cells.specs.Shape.{shapes};
+ghost use Rattle.cells.specs.Writing.{IsWritable};
+ghost use Rattle.structures.specs.Form.{form};
 ghost use Rattle.messages.specs.View.{Record, response_view};
 ghost use Rattle.messages.specs.Writing.{response_spelling};
-ghost use Rattle.wire.specs.declared.Version.{Version as AnyVersion};
 ghost use Rattle.bolt_c.specs.Answers.{message_fault_of};
 
 use crate::answers::MessageFault;
@@ -51,28 +51,26 @@ fn record_of(alloc: Global, row: &[Cell]) -> Result<Response, AllocError>
     Ok(Response::Record(row.to_vec(alloc)?))
 }
 
-/// Adds the message of a row without structures.
-fn put_row(row: &[Cell], out: &mut Adding) -> Result<(), Unspelled>
+/// Adds the message of a row, in the form of the version.
+fn put_row(version: Version, row: &[Cell], out: &mut Adding) -> Result<(), Unspelled>
     ensures before { out.new.before ≡ out.old.before }
     ensures spelled { OnOk result (out.new.more
-        ≡ (out.old.more ++ 0xB1 ∷ 0x71 ∷ []) ++ canon (list (trees_of (shapes row.now)))) }
-    ensures good { OnOk result (IsGood (list (trees_of (shapes row.now)))) }
-    ensures deep { OnOk result (depth (list (trees_of (shapes row.now))) ≤ 31) }
-    ensures plain { OnOk result (structures (list (trees_of (shapes row.now))) ≡ []) }
+        ≡ (out.old.more ++ 0xB1 ∷ 0x71 ∷ []) ++ canon (form version (list (trees_of (shapes row.now))))) }
+    ensures good { OnOk result (IsGood (form version (list (trees_of (shapes row.now))))) }
+    ensures deep { OnOk result (depth (form version (list (trees_of (shapes row.now)))) ≤ 31) }
+    ensures writable { OnOk result (IsWritable version (list (trees_of (shapes row.now)))) }
 {
     out.extend_from_slice(&[0xB1, 0x71])?;
-    put_list(out, row, ROOM)
+    put_list(out, version, row, ROOM)
 }
 
-/// The bytes of the message of a row without structures, spelled from where it stands; or none, if it has one, is past its limit or memory ran
-/// out.
-fn spelled_plain(alloc: Global, row: &[Cell]) -> Option<BytesMut>
-    ensures { IfSome result (λ text. (v : AnyVersion)
-        → response_spelling v (Record (shapes row.now)) ≡ Ok text.items) }
+/// The bytes of the message of a row, spelled from where it stands; or none, if it can't be written, is past its limit or memory ran out.
+fn spelled_short(alloc: Global, version: Version, row: &[Cell]) -> Option<BytesMut>
+    ensures { IfSome result (λ text. response_spelling version (Record (shapes row.now)) ≡ Ok text.items) }
 {
     let mut text = BytesMut::new(alloc);
     let mut adding = Adding::to(&mut text);
-    let Ok(()) = put_row(row, &mut adding) else {
+    let Ok(()) = put_row(version, row, &mut adding) else {
         return None;
     };
     let text = adding.keep();
@@ -82,7 +80,7 @@ fn spelled_plain(alloc: Global, row: &[Cell]) -> Option<BytesMut>
     Some(text)
 }
 
-/// The bytes of the message of a row, or why it isn't told. A row without structures is spelled from where it stands; of another a copy is.
+/// The bytes of the message of a row, or why it isn't told. A row that can be written is spelled from where it stands; of another a copy is judged.
 pub(crate) fn spelled_row(
     alloc: Global,
     version: Version,
@@ -93,7 +91,7 @@ pub(crate) fn spelled_row(
     ensures err { IfErr result (λ e. (e ≡ MessageFault.Memory → ⊥) → message_fault_of
         (response_spelling version (Record (shapes row.now))) ≡ Err e) }
 {
-    if let Some(text) = spelled_plain(alloc, row) {
+    if let Some(text) = spelled_short(alloc, version, row) {
         return Ok(text);
     }
     match record_of(alloc, row) {

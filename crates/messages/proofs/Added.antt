@@ -1,34 +1,29 @@
--- A message without a value between: bytes that were added one after the other are its spelling, and what was read of its parts one after the other is read of it.
-use Rattle.std.proofs.Common.{◌≡◌, ◌≤◌, ◌<◌, ◌+◌, ℕ, ℤ, pos, int_le, false, true, Bool, List, [], ◌∷◌, ◌++◌, length, Option, None, Result, Ok, Err, codes, refl, ap, sym, subst, ◌∙◌, append_assoc, arith, IfOk, FitsSigned, w64, IsUtf8}
+-- A message that is written without a value: bytes that were added one after the other are its spelling.
+use Rattle.std.proofs.Common.{◌≡◌, ◌≤◌, ◌<◌, ◌+◌, ℕ, ℤ, pos, int_le, false, true, Bool, List, [], ◌∷◌, ◌++◌, length, Option, None, Result, Ok, Err, codes, refl, ap, sym, subst, ◌∙◌, append_assoc, arith, FitsSigned, w64, IsUtf8}
 use Rattle.std.proofs.lemmas.List.{append-nil, length-append}
 use Rattle.packstream.specs.declared.fault.Reason.{Reason as PackReason}
-use Rattle.packstream.specs.Prelude.{Tree, int, text, list, dict, structure, Trees, no_trees, tree_then, Entries, no_entries, entry_then, head, text_bytes, canon, IsGood, depth, first_fault, faults_in, entries_of, marker, AreBytes, Spells}
+use Rattle.packstream.specs.Prelude.{Tree, int, text, list, dict, structure, Trees, no_trees, tree_then, Entries, no_entries, entry_then, head, text_bytes, canon, IsGood, depth, first_fault, faults_in, entries_of}
 use Rattle.packstream.proofs.Checking.{bad_when}
 use Rattle.wire.specs.declared.Version.{Version}
 use Rattle.wire.proofs.Fronts.{nil_left}
-use Rattle.cells.specs.Prelude.{scan, fault as structure_fault, structures, structures_in, structures_under, fault_of_structure}
-use Rattle.structures.specs.Prelude.{HasGoodForm, typed, typed_all, typed_under}
+use Rattle.cells.specs.Prelude.{scan, fault as structure_fault, structures, structures_in, structures_under, fault_of_structure, IsWritable}
+use Rattle.structures.specs.Prelude.{HasGoodForm, form, typed, typed_all, typed_under}
 use Rattle.messages.specs.declared.request.Mode.{Mode}
 use Rattle.messages.specs.declared.request.Mode.TheVariants.{Read, Write}
 use Rattle.messages.specs.declared.request.Count.{Count}
 use Rattle.messages.specs.declared.request.Count.TheVariants.{All, Of}
 use Rattle.messages.specs.declared.fault.MsgFault.{MsgFault}
-use Rattle.messages.specs.Prelude.{Row, Run, request_view, response_view, Begin, ◌>>=◌, request_contents, count_tree, contents_of_message, Contents, response_contents, cell_put, Means, Req, Resp, with_dict, transaction_put, rows_put, mode_pairs, count_number, packed_by, spelling_within, spelling_of_tree, form_put, Adds, AddsEntries, SpellsForm}
-use Rattle.messages.proofs.Fields.{put_value}
-use Rattle.messages.proofs.Rounds.{put_alone, asks_back, tells_back, request_back, response_back}
+use Rattle.messages.specs.Prelude.{Row, Run, ◌>>=◌, request_contents, count_tree, contents_of_message, Contents, cell_put, Means, with_dict, transaction_put, rows_put, mode_pairs, count_number, packed_by, spelling_within, spelling_of_tree, form_put, Adds, AddsEntries, AddsCells}
+use Rattle.messages.proofs.Fields.{put_value, put_formed}
+use Rattle.messages.proofs.Rounds.{put_alone}
 use Rattle.messages.proofs.Sent.{sized_fits, means_of}
-use Rattle.packstream.specs.declared.marker.Size.TheVariants.{Here}
-use Rattle.packstream.proofs.Only.{canon_spells}
-use Rattle.scanner.specs.Fronts.{SpellsFront}
-use Rattle.messages.specs.declared.request.Request.{Request}
-use Rattle.messages.specs.declared.response.Response.{Response}
 
 right_none : {A : Type 0} (xs ys : List A) → xs ++ ys ≡ [] → ys ≡ []
 right_none [] ys h = h
 right_none (x ∷ xs) ys h = absurd cc
 
 mutual
-  itself : (t : Tree) → structures t ≡ [] → typed t ≡ t
+  pub itself : (t : Tree) → structures t ≡ [] → typed t ≡ t
   itself (list ts) h = ap list (all_themselves ts h)
   itself (dict es) h = ap dict (under_themselves es h)
   itself (structure tag ts) h = absurd cc
@@ -52,7 +47,7 @@ pub put_itself : (v : Version) (t : Tree) → IsGood t → structures t ≡ [] �
 put_itself v t g h = put_value v t t (good_form v t g h)
 
 -- Pieces.
-three : (old h x y : List ℕ) → old ++ h ++ x ++ y ≡ old ++ (h ++ (x ++ y))
+pub three : (old h x y : List ℕ) → old ++ h ++ x ++ y ≡ old ++ (h ++ (x ++ y))
 three old h x y = append_assoc (old ++ h) x y ∙ append_assoc old h (x ++ y)
 
 -- the head of a structure, then its three fields
@@ -81,7 +76,7 @@ run_good s t u h g d k e =
     record { deep = omega (arith, d, e); sound = (omega arith, (tt, (g.sound, (k.sound, tt)))); plain = (omega arith, (h, (g.plain, (k.plain, tt)))) }
 
 -- A structure of one field: its head was added, and then the field.
-field_added : (f : Result Tree MsgFault) (tag : ℕ) (t : Tree) (old mid new : List ℕ) → tag < 256 → f ≡ Ok (structure tag (tree_then t no_trees)) → mid ≡ old ++ 0xB1 ∷ tag ∷ [] → new ≡ mid ++ canon t → IsGood t → depth t ≤ 31 → Adds f old new
+pub field_added : (f : Result Tree MsgFault) (tag : ℕ) (t : Tree) (old mid new : List ℕ) → tag < 256 → f ≡ Ok (structure tag (tree_then t no_trees)) → mid ≡ old ++ 0xB1 ∷ tag ∷ [] → new ≡ mid ++ canon t → IsGood t → depth t ≤ 31 → Adds f old new
 field_added f tag t old mid new h is a b g d = record {
   value = structure tag (tree_then t no_trees);
   is = is;
@@ -94,20 +89,28 @@ pub in_dict : (tag : ℕ) (r : Result Entries MsgFault) (old mid new : List ℕ)
 in_dict tag r old mid new h e a = field_added (with_dict tag r) tag (dict a.entries) old mid new h (ap (λ x. with_dict tag x) a.is) e a.added a.good a.deep
 
 -- and of one field of cells
+pub field_of_cells : (v : Version) (s : Tree → Contents) (tag : ℕ) (c : Tree) (old mid new : List ℕ) → tag < 256 → ((x : Tree) → cell_put v c ≡ Ok x → form_put v (s c) ≡ Ok (structure tag (tree_then x no_trees)))
+    → mid ≡ old ++ 0xB1 ∷ tag ∷ [] → AddsCells v c mid new → Adds (form_put v (s c)) old new
+field_of_cells v s tag c old mid new h is a p = field_added (form_put v (s c)) tag p.value old mid new h (is p.value p.is) a p.added p.good p.deep
+
+-- without structures, which are written as themselves
 pub cells_added : (v : Version) (s : Tree → Contents) (tag : ℕ) (t u : Tree) (old mid new : List ℕ) → tag < 256 → ((x : Tree) → cell_put v x ≡ Ok x → form_put v (s x) ≡ Ok (structure tag (tree_then x no_trees))) → t ≡ u
     → mid ≡ old ++ 0xB1 ∷ tag ∷ [] → new ≡ mid ++ canon t → IsGood t → depth t ≤ 31 → structures t ≡ [] → Adds (form_put v (s u)) old new
 cells_added v s tag t u old mid new h is e a b g d n = subst (λ x. Adds (form_put v (s x)) old new) e (field_added (form_put v (s t)) tag t old mid new h (is t (put_itself v t g n)) a b g d)
 
+-- cells that can be written are added in their form
+pub formed_cells : (v : Version) (t u : Tree) (old new : List ℕ) → t ≡ u → new ≡ old ++ canon (form v t) → IsGood (form v t) → depth (form v t) ≤ 31 → IsWritable v t → AddsCells v u old new
+formed_cells v t u old new e a g d w = subst (λ x. AddsCells v x old new) e (record { value = form v t; is = put_formed v t w g; good = g; deep = d; added = a })
+
 -- A RUN.
-pub run_added : (v : Version) (s : List ℕ) (ps qs : List (List ℕ × Tree)) (m : Mode) (token : Option (List ℕ)) (old a b c new : List ℕ) → ps ≡ qs → a ≡ old ++ 0xB3 ∷ 0x10 ∷ [] → b ≡ a ++ text_bytes s → IsUtf8 s
-    → c ≡ b ++ canon (dict (entries_of ps)) → IsGood (dict (entries_of ps)) → depth (dict (entries_of ps)) ≤ 31 → structures (dict (entries_of ps)) ≡ []
-    → AddsEntries (transaction_put m token) c new → Adds (form_put v (request_contents (Run s qs m token))) old new
-run_added v s ps qs m token old a b c new e p q u r g d n t = subst (λ xs. Adds (form_put v (request_contents (Run s xs m token))) old new) e (record {
-  value = structure 0x10 (tree_then (text s) (tree_then (dict (entries_of ps)) (tree_then (dict t.entries) no_trees)));
-  is = rw (t.is, put_itself v (dict (entries_of ps)) g n) refl;
-  good = run_good s (dict (entries_of ps)) (dict t.entries) u g d t.good t.deep;
-  added = three_fields 0x10 (text s) (dict (entries_of ps)) (dict t.entries) old a b c new p q r t.added;
-})
+pub run_added : (v : Version) (s : List ℕ) (ps : List (List ℕ × Tree)) (m : Mode) (token : Option (List ℕ)) (old a b c new : List ℕ) → a ≡ old ++ 0xB3 ∷ 0x10 ∷ [] → b ≡ a ++ text_bytes s → IsUtf8 s
+    → AddsCells v (dict (entries_of ps)) b c → AddsEntries (transaction_put m token) c new → Adds (form_put v (request_contents (Run s ps m token))) old new
+run_added v s ps m token old a b c new p q u r t = record {
+  value = structure 0x10 (tree_then (text s) (tree_then r.value (tree_then (dict t.entries) no_trees)));
+  is = rw (t.is, r.is) refl;
+  good = run_good s r.value (dict t.entries) u r.good r.deep t.good t.deep;
+  added = three_fields 0x10 (text s) r.value (dict t.entries) old a b c new p q r.added t.added;
+}
 
 -- Entries.
 by_test : (z : ℤ) (b : Bool) → int_le (pos 1) z ≡ b → rows_put (Of z) ≡ (count_number (int z) >>= λ t. Ok (entry_then (codes "n") t no_entries))
@@ -172,93 +175,3 @@ module _ (f : Result Tree MsgFault) (old new : List ℕ) (a : Adds f old new) (s
   -- what says the form again stands for the message
   pub means : (v : Version) (table : List Row) (s : Contents) → ((t : Tree) → f ≡ Ok t → contents_of_message v table t ≡ Ok s) → (b : List ℕ) → (f >>= spelling_of_tree) ≡ Ok b → Means v table s b
   means v table s back b e = means_of f a.value v table s b a.is a.good (back a.value a.is) e
-
--- ---- spellings
-
--- a structure without fields, of one and of three
-plain_spelled : (tag : ℕ) → tag < 256 → Spells (structure tag no_trees) (0xB0 ∷ tag ∷ [])
-unfolding marker
-plain_spelled tag small = ((omega arith, (small, tt)), ([], refl, (0xB0, refl, refl)))
-
-three_spelled : (tag : ℕ) (t u w : Tree) (b c d : List ℕ) → tag < 256 → AreBytes b → SpellsFront t c b → SpellsFront u d c → Spells w d → Spells (structure tag (tree_then t (tree_then u (tree_then w no_trees)))) (0xB3 ∷ tag ∷ b)
-unfolding marker
-three_spelled tag t u w b c d small bytes s r q =
-    ((omega arith, (small, bytes)), (b, (s.0, c, s.1.1, (r.0, d, r.1.1, (d, [], q.1, refl, sym (append-nil d)), r.2), s.2), (0xB3, refl, refl)))
-
--- the entry of a number of rows
-pub rows_spelled : (z : ℤ) (w b rest : List ℕ) → AreBytes w → w ≡ 0xA1 ∷ 0x81 ∷ 0x6E ∷ b → rest ≡ [] → SpellsFront (int z) rest b → Spells (dict (entry_then (codes "n") (int z) no_entries)) w
-unfolding marker lib.Utf8.encode
-rows_spelled z w b rest bytes is none s = (
-  bytes,
-  (
-    Here 1,
-    [],
-    0x81 ∷ 0x6E ∷ b,
-    (refl, refl),
-    (
-      0x81 ∷ 0x6E ∷ [],
-      s.0,
-      rest,
-      record { size = Here 1; field = []; sized = (refl, refl); utf8 = (codes "n", (refl, refl)); begins = (0x81, refl, refl) },
-      s.1.1,
-      none,
-      ap (λ x. 0x81 ∷ 0x6E ∷ x) s.2,
-    ),
-    (0xA1, refl, is),
-  ),
-)
-
--- the entries of a transaction without a token
-mode_spelled : (m : Mode) (b : List ℕ) → b ≡ canon (dict (entries_of (mode_pairs m))) → Spells (dict (entries_of (mode_pairs m))) b
-unfolding head
-mode_spelled Read b e = subst (Spells (dict (entries_of (mode_pairs Read)))) (sym e) (canon_spells (dict (entries_of (mode_pairs Read))) (mode_good Read) (omega arith))
-mode_spelled Write b e = subst (Spells (dict (entries_of (mode_pairs Write)))) (sym e) (canon_spells (dict (entries_of (mode_pairs Write))) (mode_good Write) (omega arith))
-
--- ---- messages
-
-pub plain_scanned : (form : Result Tree MsgFault) (tag : ℕ) → tag < 256 → form ≡ Ok (structure tag no_trees) → SpellsForm form (0xB0 ∷ tag ∷ [])
-plain_scanned form tag small is = record { value = structure tag no_trees; is = is; good = plain_good tag small; spelled = plain_spelled tag small }
-
--- a structure of one field
-pub field_scanned : (f : Result Tree MsgFault) (tag : ℕ) (t : Tree) (b : List ℕ) → tag < 256 → f ≡ Ok (structure tag (tree_then t no_trees)) → IsGood t → depth t ≤ 31 → Spells t b → SpellsForm f (0xB1 ∷ tag ∷ b)
-unfolding marker
-field_scanned f tag t b small is g deep s = record {
-  value = structure tag (tree_then t no_trees);
-  is = is;
-  good = field_good tag t small g deep;
-  spelled = ((omega arith, (small, s.0)), (b, (b, [], s.1, refl, sym (append-nil b)), (0xB1, refl, refl)));
-}
-
--- of a number of rows
-pub rows_scanned : (tag : ℕ) (c : Count) (z : ℤ) (b : List ℕ) → tag < 256 → count_number (count_tree c) ≡ Ok (int z) → IsGood (dict (entry_then (codes "n") (int z) no_entries)) → Spells (dict (entry_then (codes "n") (int z) no_entries)) b
-    → SpellsForm (with_dict tag (rows_put c)) (0xB1 ∷ tag ∷ b)
-rows_scanned tag c z b small e g s = field_scanned _ tag (dict (entry_then (codes "n") (int z) no_entries)) b small (rw (count_named c, e) refl) g (omega arith) s
-
-pub begin_scanned : (v : Version) (m : Mode) (b : List ℕ) → b ≡ canon (dict (entries_of (mode_pairs m))) → SpellsForm (form_put v (request_contents (Begin m None))) (0xB1 ∷ 0x11 ∷ b)
-begin_scanned v m b e = field_scanned _ 0x11 (dict (entries_of (mode_pairs m))) b (omega arith) (rw (put_alone m) refl) (mode_good m) (mode_deep m) (mode_spelled m b e)
-
--- and of cells that come last
-pub cells_scanned : (v : Version) (f : Result Tree MsgFault) (tag : ℕ) (t : Tree) (b rest : List ℕ) → tag < 256 → (cell_put v t ≡ Ok t → f ≡ Ok (structure tag (tree_then t no_trees))) → rest ≡ [] → SpellsFront t rest b → IsGood t → depth t ≤ 31 → structures t ≡ []
-    → SpellsForm f (0xB1 ∷ tag ∷ b)
-cells_scanned v f tag t b rest small is none s g deep n =
-    field_scanned f tag t b small (is (put_itself v t g n)) g deep (subst (Spells t) (sym (s.2 ∙ ap (λ r. s.0 ++ r) none ∙ append-nil s.0)) s.1)
-
--- a RUN, whose text is in UTF-8
-pub run_scanned : (v : Version) (s u : List ℕ) (ps : List (List ℕ × Tree)) (m : Mode) (b c d : List ℕ) → AreBytes b → u ≡ s → SpellsFront (text u) c b → IsGood (text u)
-    → SpellsFront (dict (entries_of ps)) d c → IsGood (dict (entries_of ps)) → depth (dict (entries_of ps)) ≤ 31 → structures (dict (entries_of ps)) ≡ []
-    → d ≡ canon (dict (entries_of (mode_pairs m))) → SpellsForm (form_put v (request_contents (Run s ps m None))) (0xB3 ∷ 0x10 ∷ b)
-run_scanned v s u ps m b c d bytes same t tg p g deep n e = subst (λ x. SpellsForm (form_put v (request_contents (Run x ps m None))) (0xB3 ∷ 0x10 ∷ b)) same (record {
-  value = structure 0x10 (tree_then (text u) (tree_then (dict (entries_of ps)) (tree_then (dict (entries_of (mode_pairs m))) no_trees)));
-  is = rw (put_alone m, put_itself v (dict (entries_of ps)) g n) refl;
-  good = run_good u (dict (entries_of ps)) (dict (entries_of (mode_pairs m))) tg.plain g deep (mode_good m) (mode_deep m);
-  spelled = three_spelled 0x10 (text u) (dict (entries_of ps)) (dict (entries_of (mode_pairs m))) b c d (omega arith) bytes t p (mode_spelled m d e);
-})
-
--- what spells the form of a message stands for the message
-pub request_scanned : {E : Type 0} (v : Version) (b : List ℕ) (r : Result Request E) → IfOk r (λ x. SpellsForm (form_put v (request_contents (request_view x))) b) → IfOk r (λ x. Req v (request_view x) b)
-request_scanned v b (Ok x) h = record { value = h.value; good = h.good; spelled = h.spelled; says = (asks_back v (request_view x) h.value (request_back v x) h.is).told }
-request_scanned v b (Err e) h = tt
-
-pub response_scanned : {E : Type 0} (v : Version) (b : List ℕ) (r : Result Response E) → IfOk r (λ x. SpellsForm (form_put v (response_contents (response_view x))) b) → IfOk r (λ x. Resp v (response_view x) b)
-response_scanned v b (Ok x) h = record { value = h.value; good = h.good; spelled = h.spelled; says = (tells_back v (response_view x) h.value (response_back v x) h.is).told }
-response_scanned v b (Err e) h = tt

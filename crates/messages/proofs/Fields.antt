@@ -3,7 +3,7 @@ use Rattle.std.proofs.Common.{◌≡◌, List, [], ◌∷◌, length, false, ◌
 use Rattle.packstream.specs.Prelude.{dict, text, Trees, no_trees, tree_then, Tree, list, Entries, count, IsGood, tree, trees, trees_of, first_fault, faults_in}
 use Rattle.packstream.specs.declared.value.Value.{Value, Text as TextCase, the_lemmas}
 use Rattle.packstream.proofs.Putting.{len_trees}
-use Rattle.cells.specs.Prelude.{text_of, shape, scan, fault as structure_fault, structures}
+use Rattle.cells.specs.Prelude.{text_of, shape, scan, fault as structure_fault, structures, IsWritable}
 use Rattle.messages.specs.Prelude.{no_field, one_field, run_parts, entries_of_dict, members_of_list, only_dict, contents_of_login, contents_of_run, as_dict, as_list, Name, Others, Named, ignored, extra, text_field, cells, cell_list, credentials, RUN, of_transaction, ◌>>=◌, contents, contents_of_named, contents_of_row, contents_of_extra, cell_of_field, contents_of_mode, contents_of_metadata, lookup, cell_by, Answers, of_cell, value_by, form_by, cell_put}
 use Rattle.wire.specs.declared.Version.{Version}
 use Rattle.wire.specs.Prelude.{hello_has_login}
@@ -101,6 +101,10 @@ read_fault_is v t cell_fault.Memory h n = absurd (n refl)
 pub put_value : (v : Version) (s t : Tree) → Writes v s (Ok t) → cell_put v s ≡ Ok t
 put_value v s t h = ap (λ r. form_by r (form v s)) h.writable.1 ∙ ap (λ u. value_by (first_fault (faults_in 0 false u) 0) u) (form_again v s t h.formed)
     ∙ good_value t (first_fault (faults_in 0 false t) 0) refl h.good
+
+-- a cell that can be written, and whose form is good, is written in it
+pub put_formed : (v : Version) (s : Tree) → IsWritable v s → IsGood (form v s) → cell_put v s ≡ Ok (form v s)
+put_formed v s w g = ap (λ r. form_by r (form v s)) w.1 ∙ good_value (form v s) (first_fault (faults_in 0 false (form v s)) 0) refl g
 
 pub put_fault : (v : Version) (s : Tree) (e : CellFault) → Writes v s (Err e) → (of_cell e ≡ fault.Memory → ⊥) → cell_put v s ≡ Err (of_cell e)
 put_fault v s (cell_fault.Refused r k) h n = ap (λ x. form_by x (form v s)) h

@@ -8,3 +8,6 @@ pub mod Samples
 pub mod Fitting
 pub mod Layouts
 pub mod Added
+pub mod Named
+pub mod Kept
+pub mod Scanned

@@ -14,6 +14,7 @@ use Rattle.messages.specs.declared.request.Count.{Count}
 use Rattle.wire.specs.Versions.{every_version}
 use Rattle.messages.specs.Table.{credentials, of_transaction, how_many, RUN}
 use Rattle.messages.specs.Reading.{◌>>=◌, Contents, contents, is_token, lookup, contents_of_mode, contents_of_metadata, contents_of_named, cell_of_field, mode_tree, token_tree, count_tree}
+use Rattle.messages.specs.View.{AuthView}
 use Rattle.messages.specs.Writing.{named_put}
 
 -- a value that may be there, seen as its tree
@@ -132,3 +133,20 @@ abbrev pub count_number : Tree → Result Tree MsgFault
 count_number null = Ok (int (negsuc 0))
 count_number (int z) = if int_le (pos 1) z then Ok (int z) else Err fault.Extra
 count_number t = Err fault.Extra
+
+-- the entries by which a client says who it is
+abbrev pub login_pairs : AuthView → List (List ℕ × Tree)
+login_pairs a =
+    (codes "scheme", text a.scheme)
+    ∷ (codes "principal", text a.principal)
+    ∷ (codes "credentials", text a.credentials)
+    ∷ []
+
+-- the entries of HELLO: the client's name, and who it is if it is said there
+abbrev pub hello_pairs : List ℕ → Option AuthView → List (List ℕ × Tree)
+hello_pairs a None = (codes "user_agent", text a) ∷ []
+hello_pairs a (Some l) = (codes "user_agent", text a) ∷ login_pairs l
+
+-- the entries of FAILURE
+abbrev pub error_pairs : List ℕ → List ℕ → List (List ℕ × Tree)
+error_pairs c m = (codes "code", text c) ∷ (codes "message", text m) ∷ []

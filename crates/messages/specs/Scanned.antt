@@ -1,13 +1,56 @@
--- Which bytes spell the form of a message. Private functions and proofs alone need it.
-use Rattle.std.specs.Prelude.{◌≡◌, ℕ, List, Result, Ok}
-use Rattle.packstream.specs.Tree.{Tree}
-use Rattle.packstream.specs.Good.{IsGood}
-use Rattle.packstream.specs.Spelling.{Spells}
-use Rattle.messages.specs.declared.fault.MsgFault.{MsgFault}
+-- What bytes say that are read without a value. Private functions and proofs alone need it.
+use Rattle.std.specs.Prelude.{◌≡◌, ◌≤◌, ◌++◌, ℕ, List, Option, None, Some, Ok}
+use Rattle.std.specs.Borrow.{Bor}
+use Rattle.packstream.specs.Tree.{Tree, Trees, Entries, dict, list}
+use Rattle.packstream.specs.Good.{IsGood, depth}
+use Rattle.packstream.specs.Spelling.{Spells, SpellsText, SpellsTree}
+use Rattle.wire.specs.declared.Version.{Version}
+use Rattle.cells.specs.declared.cell.Cell.{Cell}
+use Rattle.cells.specs.Shape.{shape}
+use Rattle.scanner.specs.Fronts.{SpellsFront}
+use Rattle.messages.specs.Table.{Named, Others}
+use Rattle.messages.specs.Reading.{cell_of_field, contents_of_named, contents_of_extra}
 
--- the form is a good value, which these bytes spell
-pub record SpellsForm (form : Result Tree MsgFault) (b : List ℕ) : Type 0 where
-  pub value : Tree
-  pub is : form ≡ Ok value
-  pub good : IsGood value
-  pub spelled : Spells value b
+-- the front of the bytes spells an entry, and rest follows it
+abbrev pub SpellsEntry : List ℕ → Tree → List ℕ → List ℕ → Type 0
+SpellsEntry k t rest b =
+    (key : List ℕ) × (front : List ℕ) × SpellsText k key × SpellsTree t front
+    × (b ≡ key ++ (front ++ rest))
+
+-- the bytes spell a good dictionary whose named entries say this, the others being ignored or refused
+pub record SpellsExtra (v : Version) (others : Others) (ns : List Named) (xs : List Tree) (b : List ℕ) : Type 0 where
+  pub entries : Entries
+  pub good : IsGood (dict entries)
+  pub deep : depth (dict entries) ≤ 31
+  pub spelled : Spells (dict entries) b
+  pub told : contents_of_extra v others ns entries ≡ Ok xs
+
+-- the bytes spell a good dictionary whose named entries say what these say
+pub record SpellsNamed (es : Entries) (b : List ℕ) : Type 0 where
+  pub entries : Entries
+  pub good : IsGood (dict entries)
+  pub deep : depth (dict entries) ≤ 31
+  pub spelled : Spells (dict entries) b
+  pub told : (v : Version) (ns : List Named)
+      → contents_of_named v ns entries ≡ contents_of_named v ns es
+
+-- the front of the bytes spells a good dictionary, which is this dictionary of cells at the version, and rest follows it
+pub record SpellsDict (v : Version) (cell : Tree) (rest b : List ℕ) : Type 0 where
+  pub entries : Entries
+  pub good : IsGood (dict entries)
+  pub deep : depth (dict entries) ≤ 31
+  pub spelled : SpellsFront (dict entries) rest b
+  pub told : cell_of_field v (dict entries) ≡ Ok cell
+
+-- the front of the bytes spells a good list, which is this list of cells at the version, and rest follows it
+pub record SpellsList (v : Version) (cell : Tree) (rest b : List ℕ) : Type 0 where
+  pub members : Trees
+  pub good : IsGood (list members)
+  pub deep : depth (list members) ≤ 31
+  pub spelled : SpellsFront (list members) rest b
+  pub told : cell_of_field v (list members) ≡ Ok cell
+
+-- a cell that may be there, seen as its tree
+abbrev pub SeenCell : Option (Bor Cell) → Option Tree → Type 0
+SeenCell None o = o ≡ None
+SeenCell (Some x) o = o ≡ Some (shape x.now)

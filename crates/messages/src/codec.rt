@@ -12,12 +12,12 @@ ghost use Rattle.messages.specs.Messages.{Req, Resp, NoRequest, NoResponse, Gave
 ghost use Rattle.messages.specs.Writing.{Appends, spelling_within, spelling_of_tree, request_spelling, response_spelling};
 
 use crate::fault::MsgFault;
-use crate::reader::{request_of_value, response_of_value};
+use crate::read_requests::{request_of_value, scan_request};
+use crate::read_responses::{response_of_value, scan_response};
 use crate::request::Request;
 use crate::response::Response;
-use crate::scan::{scan_request, scan_response};
-use crate::spelling::{spell_request, spell_response};
-use crate::values::{request_value, response_value};
+use crate::write_requests::{request_value, spell_request};
+use crate::write_responses::{response_value, spell_response};
 use bytes::BytesMut;
 use packstream::{PackFault, Packed, Value, decode, encode};
 use std::alloc::Global;
@@ -27,7 +27,7 @@ fn request_in(alloc: Global, version: Version, bytes: &[u8]) -> Result<Request, 
     ensures { Answers (λ r. request_contents (request_view r)) result
         (contents_in version requests bytes.now) }
 {
-    if let Ok(request) = scan_request(alloc, bytes) {
+    if let Ok(request) = scan_request(alloc, version, bytes) {
         return Ok(request);
     }
     let packed = decode(alloc, bytes)?;
@@ -38,7 +38,7 @@ fn response_in(alloc: Global, version: Version, bytes: &[u8]) -> Result<Response
     ensures { Answers (λ r. response_contents (response_view r)) result
         (contents_in version responses bytes.now) }
 {
-    if let Ok(response) = scan_response(alloc, bytes) {
+    if let Ok(response) = scan_response(alloc, version, bytes) {
         return Ok(response);
     }
     let packed = decode(alloc, bytes)?;
@@ -113,7 +113,7 @@ pub fn write_request(
         ((b : List ℕ) → request_spelling version (request_view request.now) ≡ Ok b
         → Req version (request_view request.now) b) }
 {
-    if spell_request(request, out) {
+    if spell_request(version, request, out) {
         return Ok(());
     }
     let value = request_value(*out.allocator(), version, request)?;
@@ -135,7 +135,7 @@ pub fn write_response(
         ((b : List ℕ) → response_spelling version (response_view response.now) ≡ Ok b
         → Resp version (response_view response.now) b) }
 {
-    if spell_response(response, out) {
+    if spell_response(version, response, out) {
         return Ok(());
     }
     let value = response_value(*out.allocator(), version, response)?;

@@ -4,20 +4,24 @@
 //! `requests_arrive` and `says_arrive`, and who hands a message on on `texts_read_back`.
 #![tactic(auto)]
 
-mod clone;
+mod cell_entries;
 mod codec;
 mod entries;
 mod fault;
 pub mod laws;
-mod of_fields;
 mod of_packed;
-mod reader;
+mod put_entries;
+mod read_parts;
+mod read_requests;
+mod read_responses;
 mod request;
 mod response;
-mod scan;
-mod spelling;
+mod scan_entries;
+pub mod short_ways;
 mod tags;
-mod values;
+mod write_parts;
+mod write_requests;
+mod write_responses;
 
 pub use codec::{read_request, read_response, write_request, write_response};
 pub use fault::MsgFault;

@@ -8,7 +8,8 @@ ghost use Rattle.messages.specs.Reading.{Answers, request_contents, response_con
 ghost use Rattle.messages.specs.Messages.{Req, Resp, NoRequest, NoResponse, Gave, UnlessMemory, request_of as request_by, response_of as response_by};
 
 use crate::fault::MsgFault;
-use crate::reader::{request_of_value, response_of_value};
+use crate::read_requests::request_of_value;
+use crate::read_responses::response_of_value;
 use crate::request::Request;
 use crate::response::Response;
 use packstream::Packed;

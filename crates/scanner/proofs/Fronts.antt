@@ -1,9 +1,12 @@
 -- What was read from the front of bytes: a good tree, which that front spells.
-use Rattle.std.proofs.Common.{◌≡◌, ℕ, ◌≤◌, List, Result, Ok, Err, subst, arith, IfOk}
+use Rattle.std.proofs.Common.{◌≡◌, ℕ, ◌≤◌, List, Result, Ok, Err, subst, arith, true, IfOk}
 use Rattle.packstream.specs.Prelude.{Tree, IsGood, depth, AreBytes, layer, inner}
 use Rattle.packstream.proofs.Bounds.{good_spelled}
 use Rattle.packstream.proofs.Ranges.{front_bytes}
 use Rattle.packstream.proofs.Sound.{sound}
+use Rattle.wire.specs.declared.Version.{Version}
+use Rattle.cells.specs.Prelude.{all_fine, fault_of_structure, structures, IsWritable}
+use Rattle.cells.proofs.Fine.{scan_fine}
 use Rattle.scanner.specs.Fronts.{SpellsFront}
 
 -- the front of b spells the good tree t, which nests at most so deep, and rest follows it
@@ -28,3 +31,8 @@ pub fronts : {X E : Type 0} (r : Result X E) (view : X → Tree) (rest : X → L
     → IfOk r (λ x. SpellsFront (view x) (rest x) b) × IfOk r (λ x. IsGood (view x)) × IfOk r (λ x. depth (view x) ≤ room)
 fronts (Ok x) view rest b room bytes le e = let t = taken room b (rest x) (view x) bytes le e in (t.spelled, t.good, t.deep)
 fronts (Err d) view rest b room bytes le e = (tt, tt, tt)
+
+-- where a function answers what has no fault, it can be written
+pub are_writable : {X E : Type 0} (v : Version) (r : Result X E) (view : X → Tree) → IfOk r (λ x. all_fine (fault_of_structure v) (structures (view x)) ≡ true) → IfOk r (λ x. IsWritable v (view x))
+are_writable v (Ok x) view h = scan_fine (fault_of_structure v) 0 (structures (view x)) h
+are_writable v (Err d) view h = tt

@@ -1,9 +1,10 @@
 //! That the scanner declined: its caller goes by `decode`.
 
+use packstream::reading::Stop;
 use std::alloc::{AllocError, AllocFailed};
 
-/// It isn't scanned here: the bytes spell no good value, or one of another kind, with a structure, with many keys in one dictionary or
-/// too deep, or there is no memory.
+/// It isn't scanned here: the bytes spell no good value, or one of another kind, with a fault in a structure or too deep, or there is no
+/// memory.
 #[derive(Clone, Copy, Debug)]
 pub struct Unscanned;
 
@@ -15,6 +16,12 @@ impl From<AllocError> for Unscanned {
 
 impl<T: Drop> From<AllocFailed<T>> for Unscanned {
     fn from(_e: AllocFailed<T>) -> Unscanned {
+        Unscanned
+    }
+}
+
+impl From<Stop> for Unscanned {
+    fn from(_stop: Stop) -> Unscanned {
         Unscanned
     }
 }

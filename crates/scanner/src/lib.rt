@@ -1,11 +1,15 @@
-//! Cells without structures, read straight from bytes, in one walk and without a value of them.
+//! Cells, read straight from bytes, in one walk and without a value of them.
 //!
-//! What is promised is promised one way: where a function says yes, the front of the bytes spells the cell, which is good and has no
-//! structure, and what is left is what follows it. If it says no, nothing is said of why: the way over a value tells that.
+//! What is promised is promised one way: where a function says yes, the front of the bytes spells the cell's form at the version, which is
+//! good and whose structures have no fault, and what is left is what follows it. If it says no, nothing is said of why: the way over a value tells that.
 #![tactic(auto)]
 
+mod dictionaries;
 mod fault;
-mod numbers;
+mod fields;
+mod graphs;
+mod moments;
+mod plain;
 mod scan;
 mod whole;
 

@@ -1,55 +1,70 @@
 //! Cells, lists, dictionaries, integers and texts at the front of a message's bytes, or of what is left of them.
-ghost use Rattle.std.specs.Prelude.{◌≡◌, ◌≤◌, IfOk, []};
+ghost use Rattle.std.specs.Prelude.{◌≡◌, ◌≤◌, IfOk};
 ghost use Rattle.packstream.specs.Good.{IsGood, depth};
 ghost use Rattle.packstream.specs.Tree.{int, text, list, dict};
 ghost use Rattle.packstream.specs.View.{trees_of, entries_of};
-ghost use Rattle.cells.specs.Faults.{structures};
 ghost use Rattle.cells.specs.Shape.{shape, shapes, entries};
+ghost use Rattle.cells.specs.Writing.{IsWritable};
+ghost use Rattle.structures.specs.Form.{form};
 ghost use Rattle.scanner.specs.Fronts.{SpellsFront};
 
+use crate::dictionaries::dict_in;
 use crate::fault::Unscanned;
-use crate::scan::{cell_in, dict_in, int_in, list_in, text_in};
+use crate::plain::{int_in, text_in};
+use crate::scan::{cell_in, list_in};
 use cells::Cell;
 use std::alloc::Global;
+use wire::Version;
 
-/// The cell that the front of the bytes spells, in any of its forms, and what follows it. It is good, nests at most `room` deep and has
-/// no structure. A dictionary of more than 16 entries isn't scanned.
-pub fn scan_cell(alloc: Global, bytes: &[u8], room: u8) -> Result<(Cell, &[u8]), Unscanned>
+/// The cell whose form at the version the front of the bytes spells, in any of its spellings, and what follows it. That form is good and
+/// nests at most `room` deep, and none of its structures has a fault.
+pub fn scan_cell(
+    alloc: Global,
+    version: Version,
+    bytes: &[u8],
+    room: u8,
+) -> Result<(Cell, &[u8]), Unscanned>
     requires { room ≤ 32 }
-    ensures spelled { IfOk result (λ x. SpellsFront (shape x.0) x.1.now bytes.now) }
-    ensures good { IfOk result (λ x. IsGood (shape x.0)) }
-    ensures deep { IfOk result (λ x. depth (shape x.0) ≤ room) }
-    ensures plain { IfOk result (λ x. structures (shape x.0) ≡ []) }
+    ensures spelled { IfOk result (λ x. SpellsFront (form version (shape x.0)) x.1.now bytes.now) }
+    ensures good { IfOk result (λ x. IsGood (form version (shape x.0))) }
+    ensures deep { IfOk result (λ x. depth (form version (shape x.0)) ≤ room) }
+    ensures writable { IfOk result (λ x. IsWritable version (shape x.0)) }
 {
-    cell_in(alloc, room, bytes)
+    cell_in(alloc, version, room, bytes)
 }
 
-/// The members of the list that the front of the bytes spells, as `scan_cell` a cell.
-pub fn scan_list(alloc: Global, bytes: &[u8], room: u8) -> Result<(Vec<Cell>, &[u8]), Unscanned>
+/// The members of the list whose form at the version the front of the bytes spells, as `scan_cell` a cell.
+pub fn scan_list(
+    alloc: Global,
+    version: Version,
+    bytes: &[u8],
+    room: u8,
+) -> Result<(Vec<Cell>, &[u8]), Unscanned>
     requires { room ≤ 32 }
     ensures spelled { IfOk result
-        (λ x. SpellsFront (list (trees_of (shapes x.0.items))) x.1.now bytes.now) }
-    ensures good { IfOk result (λ x. IsGood (list (trees_of (shapes x.0.items)))) }
-    ensures deep { IfOk result (λ x. depth (list (trees_of (shapes x.0.items))) ≤ room) }
-    ensures plain { IfOk result (λ x. structures (list (trees_of (shapes x.0.items))) ≡ []) }
+        (λ x. SpellsFront (form version (list (trees_of (shapes x.0.items)))) x.1.now bytes.now) }
+    ensures good { IfOk result (λ x. IsGood (form version (list (trees_of (shapes x.0.items))))) }
+    ensures deep { IfOk result (λ x. depth (form version (list (trees_of (shapes x.0.items)))) ≤ room) }
+    ensures writable { IfOk result (λ x. IsWritable version (list (trees_of (shapes x.0.items)))) }
 {
-    list_in(alloc, room, bytes)
+    list_in(alloc, version, room, bytes)
 }
 
-/// The entries of the dictionary that the front of the bytes spells, as `scan_cell` a cell.
+/// The entries of the dictionary whose form at the version the front of the bytes spells, as `scan_cell` a cell.
 pub fn scan_dict(
     alloc: Global,
+    version: Version,
     bytes: &[u8],
     room: u8,
 ) -> Result<(Vec<(String, Cell)>, &[u8]), Unscanned>
     requires { room ≤ 32 }
     ensures spelled { IfOk result
-        (λ x. SpellsFront (dict (entries_of (entries x.0.items))) x.1.now bytes.now) }
-    ensures good { IfOk result (λ x. IsGood (dict (entries_of (entries x.0.items)))) }
-    ensures deep { IfOk result (λ x. depth (dict (entries_of (entries x.0.items))) ≤ room) }
-    ensures plain { IfOk result (λ x. structures (dict (entries_of (entries x.0.items))) ≡ []) }
+        (λ x. SpellsFront (form version (dict (entries_of (entries x.0.items)))) x.1.now bytes.now) }
+    ensures good { IfOk result (λ x. IsGood (form version (dict (entries_of (entries x.0.items))))) }
+    ensures deep { IfOk result (λ x. depth (form version (dict (entries_of (entries x.0.items)))) ≤ room) }
+    ensures writable { IfOk result (λ x. IsWritable version (dict (entries_of (entries x.0.items)))) }
 {
-    dict_in(alloc, room, bytes)
+    dict_in(alloc, version, room, bytes)
 }
 
 /// The integer that the front of the bytes spells, in any of its forms, and what follows it.

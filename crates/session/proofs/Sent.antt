@@ -2,14 +2,19 @@
 use Rattle.std.proofs.Common.{◌≡◌, ◌<◌, ◌≤◌, ◌+◌, ◌-◌, ℕ, suc, true, List, [], ◌∷◌, ◌++◌, length, take, drop, Result, Ok, Err, IfOk, refl, sym, ap, subst, ◌∙◌, append_assoc, length-append, length-take, length-drop, arith, w16}
 use Rattle.std.proofs.lemmas.List.{append-nil, take_at, drop_at, drop-drop}
 use Rattle.std.specs.Int.{to_be_bytes}
-use Rattle.packstream.specs.Prelude.{Tree, list, dict, structure, Trees, no_trees, tree_then, Entries, no_entries, entry_then, trees_of, canon, IsGood, depth}
+use Rattle.packstream.specs.Prelude.{Tree, list, trees_of, canon, IsGood, depth}
 use Rattle.wire.specs.declared.Version.{Version}
 use Rattle.wire.specs.Prelude.{written_run}
 use Rattle.wire.proofs.Runs.{text_of-short}
-use Rattle.cells.specs.Prelude.{scan, fault as structure_fault, structures, structures_in, structures_under}
-use Rattle.structures.specs.Prelude.{typed, typed_all, typed_under}
+use Rattle.cells.specs.declared.cell.Cell.{Cell}
+use Rattle.cells.specs.Prelude.{shapes, structures, fault_of_structure, IsWritable, are_typed}
+use Rattle.cells.proofs.Both.{both_true}
+use Rattle.cells.proofs.Fine.{fine_scan}
+use Rattle.cells.proofs.Typed.{typed_shape}
+use Rattle.structures.specs.Prelude.{form}
+use Rattle.structures.proofs.Formed.{form_typed}
 use Rattle.messages.specs.Prelude.{RequestView, ResponseView, Arrival, RECORD, contents, form_put, response_contents, response_spelling, IsCell, Adds, Told, run_of_result}
-use Rattle.messages.proofs.Added.{cells_added, appended}
+use Rattle.messages.proofs.Added.{field_of_cells, formed_cells, appended}
 use Rattle.messages.proofs.Rounds.{response_reads_back}
 use Rattle.engine.specs.Prelude.{EntryView}
 use Rattle.std.specs.declared.alloc.AllocError.{AllocError}
@@ -48,55 +53,34 @@ run_put before more out new text start count s n few e o p =
     ∙ ap (λ x. before ++ (to_be_bytes w16 x ++ t)) size
     ∙ ap (λ x. before ++ x) (sym (append_assoc (to_be_bytes w16 (length text)) text (0 ∷ 0 ∷ [])) ∙ sym (text_of-short text short))
 
--- What has no structure is read as itself.
-left_none : {A : Type 0} (xs ys : List A) → xs ++ ys ≡ [] → xs ≡ []
-left_none [] ys h = refl
-left_none (x ∷ xs) ys h = absurd cc
+-- a row of cells is typed
+pub typed_row : (cs : List Cell) → are_typed (trees_of (shapes cs)) ≡ true
+typed_row [] = refl
+typed_row (c ∷ cs) = both_true _ _ (typed_shape c) (typed_row cs)
 
-right_none : {A : Type 0} (xs ys : List A) → xs ++ ys ≡ [] → ys ≡ []
-right_none [] ys h = h
-right_none (x ∷ xs) ys h = absurd cc
-
-mutual
-  itself : (t : Tree) → structures t ≡ [] → typed t ≡ t
-  itself (list ts) h = ap list (all_themselves ts h)
-  itself (dict es) h = ap dict (under_themselves es h)
-  itself (structure tag ts) h = absurd cc
-  itself t h = refl
-
-  all_themselves : (ts : Trees) → structures_in ts ≡ [] → typed_all ts ≡ ts
-  all_themselves no_trees h = refl
-  all_themselves (tree_then t ts) h =
-      rw (itself t (left_none (structures t) (structures_in ts) h), all_themselves ts (right_none (structures t) (structures_in ts) h)) refl
-
-  under_themselves : (es : Entries) → structures_under es ≡ [] → typed_under es ≡ es
-  under_themselves no_entries h = refl
-  under_themselves (entry_then k t es) h =
-      rw (itself t (left_none (structures t) (structures_under es) h), under_themselves es (right_none (structures t) (structures_under es) h)) refl
-
--- The spelling of a list without structures, behind the head of a RECORD, is the RECORD.
-pub record_body : (v : Version) (ts : List Tree) (b : List ℕ) → b ≡ (0xB1 ∷ 0x71 ∷ []) ++ canon (list (trees_of ts)) → length b ≤ 65536 → IsGood (list (trees_of ts)) → depth (list (trees_of ts)) ≤ 31 → structures (list (trees_of ts)) ≡ []
+-- The spelling of a row's form, behind the head of a RECORD, is the RECORD.
+pub record_body : (v : Version) (ts : List Tree) (b : List ℕ) → are_typed (trees_of ts) ≡ true → b ≡ (0xB1 ∷ 0x71 ∷ []) ++ canon (form v (list (trees_of ts))) → length b ≤ 65536 → IsGood (form v (list (trees_of ts))) → depth (form v (list (trees_of ts))) ≤ 31 → IsWritable v (list (trees_of ts))
     → IsBody v (ResponseView.Record ts) b × (fits v (ResponseView.Record ts) ≡ true)
 unfolding response_spelling
-record_body v ts b e short g d bare =
+record_body v ts b k e short g d w =
     let m = ResponseView.Record ts in
     let t = list (trees_of ts) in
-    let adds : Adds (form_put v (response_contents m)) [] b = cells_added v (λ x. contents RECORD (x ∷ []) []) 0x71 t t [] (0xB1 ∷ 0x71 ∷ []) b (omega arith) (λ x h. rw h refl) refl refl e g d bare in
+    let adds : Adds (form_put v (response_contents m)) [] b = field_of_cells v (λ x. contents RECORD (x ∷ []) []) 0x71 t [] (0xB1 ∷ 0x71 ∷ []) b (omega arith) (λ x h. rw h refl) refl (formed_cells v t t (0xB1 ∷ 0x71 ∷ []) b refl e g d w) in
     let a = appended (form_put v (response_contents m)) [] b adds short in
     let said : response_spelling v m ≡ Ok b = a.1 ∙ ap Ok (sym a.2) in
-    let cell : IsCell v t = (t, g.plain, ((0, ap (scan (structure_fault v) 0) bare), sym (itself t bare))) in
+    let cell : IsCell v t = (form v t, g.plain, form_typed v t k (fine_scan (fault_of_structure v) 0 w.0 (structures t) w.1)) in
     let back = (response_reads_back v m b cell said).0 in
     (said_body v m b said back, said_fits v m b said back)
 
 -- so its run was put
-pub record_put : (v : Version) (ts : List Tree) (before more old new : List ℕ) → more ≡ ([] ++ 0 ∷ 0 ∷ 0xB1 ∷ 0x71 ∷ []) ++ canon (list (trees_of ts)) ++ 0 ∷ 0 ∷ [] → length more ≤ 65539 → IsGood (list (trees_of ts)) → depth (list (trees_of ts)) ≤ 31 → structures (list (trees_of ts)) ≡ []
+pub record_put : (v : Version) (ts : List Tree) (before more old new : List ℕ) → are_typed (trees_of ts) ≡ true → more ≡ ([] ++ 0 ∷ 0 ∷ 0xB1 ∷ 0x71 ∷ []) ++ canon (form v (list (trees_of ts))) ++ 0 ∷ 0 ∷ [] → length more ≤ 65539 → IsGood (form v (list (trees_of ts))) → depth (form v (list (trees_of ts))) ≤ 31 → IsWritable v (list (trees_of ts))
     → before ≡ old → ((text : List ℕ) → more ≡ 0 ∷ 0 ∷ (text ++ 0 ∷ 0 ∷ []) → new ≡ before ++ written_run text) → IsPut v (ResponseView.Record ts) old new
-record_put v ts before more old new e few g d bare was h =
-    let c = canon (list (trees_of ts)) in
+record_put v ts before more old new k e few g d w was h =
+    let c = canon (form v (list (trees_of ts))) in
     let text : List ℕ = (0xB1 ∷ 0x71 ∷ []) ++ c in
     let is : more ≡ 0 ∷ 0 ∷ (text ++ 0 ∷ 0 ∷ []) = e in
     let short : length text ≤ 65536 = omega (arith, few, ap length is, length-append text (0 ∷ 0 ∷ [])) in
-    let b = record_body v ts text refl short g d bare in
+    let b = record_body v ts text k refl short g d w in
     record { body = text; spelled = b.0; fits = b.1; run = h text is ∙ ap (λ x. x ++ written_run text) was }
 
 -- The first row, sent.

@@ -6,4 +6,4 @@ pub use Rattle.session.specs.Session.{Setting, Open, no_result, Tx, no_tx, Chang
 pub use Rattle.session.specs.Rest.{Kept, begun, Written, Done, Idle, Full, Wrote, WroteRow, Ended, Step, rests, commit_entries, version_of, after_interrupt, interrupts, ends, puts, cause_of, replies, serves, reset_among, unread_among, turns, work_kept, worked_of, Snapshot, stepped, IsCounted, arrival_by, after_item, what_of, Receives, shut, full, take_kept, puts_noop, noop_kept}
 pub use Rattle.session.specs.Views.{remaining_rows, waiting_in, first_of, kept_of}
 pub use Rattle.session.specs.Acts.{summary_of, is_ready, IsBody, IsPut, unwritten_of, IsRefused, Refuses, left_result, left_tx, left_entry, commits_by, reply_of, streams, owes_row, runs, asked_by, token_of_run, row_reply, entry_in, IsFree, turn_in, turn_by, served_interrupted, one_less, after_summary, length_after, SendsRow, Steps}
-pub use Rattle.session.specs.Waits.{is_unread, is_reset_in, resets_of, resets_in}
+pub use Rattle.session.specs.Waits.{is_unread, is_reset_in, one_of, count_of}

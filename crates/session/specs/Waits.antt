@@ -17,11 +17,11 @@ is_reset_in (waiting.Asked request) = is_reset (kind_of (request_view request))
 is_reset_in (waiting.Unread e) = false
 is_reset_in waiting.TooLong = false
 
--- how many RESETs it is: one, or none
-abbrev pub resets_of : Waiting → ℕ
-resets_of w = if is_reset_in w then 1 else 0
+-- how many it is of those that pass the test: one, or none
+abbrev pub one_of : (Waiting → Bool) → Waiting → ℕ
+one_of p w = if p w then 1 else 0
 
--- how many RESETs wait
-abbrev pub resets_in : List Waiting → ℕ
-resets_in [] = 0
-resets_in (w ∷ ws) = resets_of w + resets_in ws
+-- how many pass the test
+abbrev pub count_of : (Waiting → Bool) → List Waiting → ℕ
+count_of p [] = 0
+count_of p (w ∷ ws) = one_of p w + count_of p ws

@@ -1,11 +1,9 @@
 //! The queue of what waits.
 ghost use Rattle.std.specs.Prelude.{◌≡◌, ◌<◌, ◌∷◌, [], ◌++◌, drop, length, option_copied, IfOk};
-ghost use Rattle.std.specs.List.{list_any};
 ghost use Rattle.messages.specs.View.{request_view};
 ghost use Rattle.messages.specs.Arrivals.{Asked};
 ghost use Rattle.machine.specs.Limits.{max_waiting};
 ghost use Rattle.session.specs.Rest.{unread_among, reset_among};
-ghost use Rattle.session.specs.Waits.{is_unread};
 ghost use Rattle.session.specs.Views.{waiting_in, first_of};
 ghost use Rattle.session.specs.Acts.{turn_in, turn_by};
 
@@ -24,6 +22,7 @@ impl Queue {
         Ok(Queue {
             waiting: VecDeque::with_capacity(alloc, MAX_WAITING)?,
             resets: 0,
+            unread: 0,
         })
     }
 
@@ -34,12 +33,13 @@ impl Queue {
     }
 
     /// Takes a slot, of which one is left. Takes no memory.
-    #[tactic(auto, using(crate::proofs::Queues::resets_pushed, crate::proofs::Queues::resets_few))]
+    #[tactic(auto, using(crate::proofs::Queues::count_pushed, crate::proofs::Queues::count_few))]
     pub(crate) fn push(&mut self, waiting: Waiting)
         requires { length self.old.waiting.items < max_waiting }
         ensures { self.new.waiting.items ≡ self.old.waiting.items ++ waiting ∷ [] }
     {
         self.resets += waiting.resets();
+        self.unread += waiting.unread();
         self.waiting.push_back_reserved(waiting);
     }
 
@@ -52,15 +52,16 @@ impl Queue {
     {
         if let Some(first) = self.waiting.pop_front() {
             self.resets -= first.resets();
+            self.unread -= first.unread();
         }
     }
 
     /// Whether something stands for no request.
-    #[tactic(auto, using(crate::proofs::Queues::any_unread))]
+    #[tactic(auto, using(crate::proofs::Queues::some_unread))]
     pub(crate) fn has_unread(&self) -> bool
         ensures { result ≡ unread_among (waiting_in self.now.waiting.items) }
     {
-        any_unread(&self.waiting)
+        self.unread > 0
     }
 
     /// Whether a RESET waits.
@@ -90,12 +91,6 @@ impl Queue {
             _ => unreachable!(),
         }
     }
-}
-
-fn any_unread(queue: &VecDeque<Waiting>) -> bool
-    ensures { result ≡ list_any is_unread queue.now.items }
-{
-    queue.iter().any(|waiting| waiting.is_unread())
 }
 
 fn first_turn(queue: &VecDeque<Waiting>) -> Turn

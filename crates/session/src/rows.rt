@@ -5,10 +5,10 @@ ghost use Rattle.packstream.specs.Tree.{Tree, list};
 ghost use Rattle.packstream.specs.Canon.{canon};
 ghost use Rattle.packstream.specs.Good.{IsGood, depth};
 ghost use Rattle.packstream.specs.View.{trees_of};
-ghost use Rattle.cells.specs.Faults.{structures};
 ghost use Rattle.cells.specs.Shape.{shapes};
+ghost use Rattle.cells.specs.Writing.{IsWritable};
+ghost use Rattle.structures.specs.Form.{form};
 ghost use Rattle.messages.specs.View.{Record, response_view};
-ghost use Rattle.wire.specs.declared.Version.{Version as AnyVersion};
 ghost use Rattle.wire.specs.Texts.{written_run};
 ghost use Rattle.session.specs.Views.{remaining_rows};
 ghost use Rattle.session.specs.Said.{fits};
@@ -59,8 +59,8 @@ fn most_bytes(cell: &Cell) -> usize {
 
 /// Appends the written run of the RECORD of a row, spelled where it goes out; or says no, and appends nothing: of a row with a cell
 /// that holds others, of one past a chunk, or for want of memory.
-pub(crate) fn put_record(row: &[Cell], out: &mut BytesMut) -> bool
-    ensures put { result ≡ true → (v : AnyVersion) → IsPut v (Record (shapes row.now)) out.old.items out.new.items }
+pub(crate) fn put_record(version: Version, row: &[Cell], out: &mut BytesMut) -> bool
+    ensures put { result ≡ true → IsPut version (Record (shapes row.now)) out.old.items out.new.items }
     ensures other { result ≡ false → out.new.items ≡ out.old.items }
 {
     if !is_short(row) {
@@ -68,7 +68,7 @@ pub(crate) fn put_record(row: &[Cell], out: &mut BytesMut) -> bool
     }
     let start = out.len();
     let mut adding = Adding::to(out);
-    match put_framed(row, &mut adding) {
+    match put_framed(version, row, &mut adding) {
         Ok(()) => keep_framed(start, adding, out),
         Err(_) => {
             *out = adding.undo();
@@ -78,26 +78,26 @@ pub(crate) fn put_record(row: &[Cell], out: &mut BytesMut) -> bool
 }
 
 /// Appends the same of the first of these rows.
-pub(crate) fn put_first(rows: &Remaining, out: &mut BytesMut) -> bool
+pub(crate) fn put_first(version: Version, rows: &Remaining, out: &mut BytesMut) -> bool
     requires { 0 < rows.now.count }
-    ensures put { result ≡ true → (v : AnyVersion) (row : List Tree) (rest : List (List Tree))
-        → remaining_rows rows.now ≡ row ∷ rest → IsPut v (Record row) out.old.items out.new.items }
+    ensures put { result ≡ true → (row : List Tree) (rest : List (List Tree))
+        → remaining_rows rows.now ≡ row ∷ rest → IsPut version (Record row) out.old.items out.new.items }
     ensures other { result ≡ false → out.new.items ≡ out.old.items }
 {
-    put_record(rows.first(), out)
+    put_record(version, rows.first(), out)
 }
 
 /// Adds a RECORD between a place for a header and the end of its run.
-fn put_framed(row: &[Cell], out: &mut Adding) -> Result<(), Unspelled>
+fn put_framed(version: Version, row: &[Cell], out: &mut Adding) -> Result<(), Unspelled>
     ensures before { out.new.before ≡ out.old.before }
     ensures spelled { OnOk result (out.new.more ≡ (out.old.more ++ 0 ∷ 0 ∷ 0xB1 ∷ 0x71 ∷ [])
-        ++ canon (list (trees_of (shapes row.now))) ++ 0 ∷ 0 ∷ []) }
-    ensures good { OnOk result (IsGood (list (trees_of (shapes row.now)))) }
-    ensures deep { OnOk result (depth (list (trees_of (shapes row.now))) ≤ 31) }
-    ensures plain { OnOk result (structures (list (trees_of (shapes row.now))) ≡ []) }
+        ++ canon (form version (list (trees_of (shapes row.now)))) ++ 0 ∷ 0 ∷ []) }
+    ensures good { OnOk result (IsGood (form version (list (trees_of (shapes row.now))))) }
+    ensures deep { OnOk result (depth (form version (list (trees_of (shapes row.now)))) ≤ 31) }
+    ensures writable { OnOk result (IsWritable version (list (trees_of (shapes row.now)))) }
 {
     out.extend_from_slice(&[0, 0, 0xB1, 0x71])?;
-    put_list(out, row, ROOM)?;
+    put_list(out, version, row, ROOM)?;
     out.extend_from_slice(&[0, 0])?;
     Ok(())
 }
@@ -147,14 +147,14 @@ pub(crate) fn spell_first(
     spell_row(version, rows.first(), body)
 }
 
-/// Spells the RECORD of a row in place of what the body held, or tells why it wasn't written. A row without structures is spelled from where
-/// it stands; of another a copy is.
+/// Spells the RECORD of a row in place of what the body held, or tells why it wasn't written. A row that can be written is spelled from where
+/// it stands; of another a copy is judged.
 fn spell_row(version: Version, row: &[Cell], body: &mut BytesMut) -> Result<(), Unwritten>
     ensures ok { let said = Record (shapes row.now) in
         OnOk result (IsBody version said body.new.items × (fits version said ≡ true)) }
     ensures err { IfErr result (Refuses version (Record (shapes row.now))) }
 {
-    if spell_plain(row, body) {
+    if spell_short(version, row, body) {
         return Ok(());
     }
     match record_of(*body.allocator(), row) {
@@ -163,15 +163,14 @@ fn spell_row(version: Version, row: &[Cell], body: &mut BytesMut) -> Result<(), 
     }
 }
 
-/// Spells the RECORD of a row without structures in place of what the body held; or says no, if it has one, is past its limit or memory
-/// ran out.
-fn spell_plain(row: &[Cell], body: &mut BytesMut) -> bool
-    ensures { result ≡ true → (v : AnyVersion) → let said = Record (shapes row.now) in
-        IsBody v said body.new.items × (fits v said ≡ true) }
+/// Spells the RECORD of a row in place of what the body held; or says no, if it can't be written, is past its limit or memory ran out.
+fn spell_short(version: Version, row: &[Cell], body: &mut BytesMut) -> bool
+    ensures { result ≡ true → let said = Record (shapes row.now) in
+        IsBody version said body.new.items × (fits version said ≡ true) }
 {
     body.clear();
     let mut adding = Adding::to(body);
-    match put_row(row, &mut adding) {
+    match put_row(version, row, &mut adding) {
         Ok(()) => *body = adding.keep(),
         Err(_) => {
             *body = adding.undo();
@@ -185,16 +184,16 @@ fn spell_plain(row: &[Cell], body: &mut BytesMut) -> bool
 }
 
 /// Adds a RECORD.
-fn put_row(row: &[Cell], out: &mut Adding) -> Result<(), Unspelled>
+fn put_row(version: Version, row: &[Cell], out: &mut Adding) -> Result<(), Unspelled>
     ensures before { out.new.before ≡ out.old.before }
     ensures spelled { OnOk result (out.new.more
-        ≡ (out.old.more ++ 0xB1 ∷ 0x71 ∷ []) ++ canon (list (trees_of (shapes row.now)))) }
-    ensures good { OnOk result (IsGood (list (trees_of (shapes row.now)))) }
-    ensures deep { OnOk result (depth (list (trees_of (shapes row.now))) ≤ 31) }
-    ensures plain { OnOk result (structures (list (trees_of (shapes row.now))) ≡ []) }
+        ≡ (out.old.more ++ 0xB1 ∷ 0x71 ∷ []) ++ canon (form version (list (trees_of (shapes row.now))))) }
+    ensures good { OnOk result (IsGood (form version (list (trees_of (shapes row.now))))) }
+    ensures deep { OnOk result (depth (form version (list (trees_of (shapes row.now)))) ≤ 31) }
+    ensures writable { OnOk result (IsWritable version (list (trees_of (shapes row.now)))) }
 {
     out.extend_from_slice(&[0xB1, 0x71])?;
-    put_list(out, row, ROOM)
+    put_list(out, version, row, ROOM)
 }
 
 /// The RECORD of a copy of a row.

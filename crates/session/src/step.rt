@@ -170,8 +170,9 @@ impl Session {
         ensures sent { result ≡ true → SendsRow (kept_of self.old) (kept_of self.new) }
         ensures other { result ≡ false → kept_of self.new ≡ kept_of self.old }
     {
+        let version = self.version();
         let result = &self.result;
-        if !put_first(&result.rows, &mut self.out) {
+        if !put_first(version, &result.rows, &mut self.out) {
             return false;
         }
         self.result.pass();

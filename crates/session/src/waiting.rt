@@ -2,7 +2,7 @@
 ghost use Rattle.std.specs.Prelude.{◌≡◌, ◌≤◌};
 ghost use Rattle.std.specs.VecDeque.{deque_len, deque_capacity};
 ghost use Rattle.machine.specs.Limits.{max_waiting};
-ghost use Rattle.session.specs.Waits.{resets_in};
+ghost use Rattle.session.specs.Waits.{is_reset_in, is_unread, count_of};
 
 use crate::acts::Turn;
 use crate::kinds::Cause;
@@ -20,19 +20,22 @@ pub(crate) enum Waiting {
     TooLong,
 }
 
-/// What waits, in its order. How many RESETs are among it is counted, since each step asks for one.
+/// What waits, in its order. How many RESETs are among it, and what stands for no request, is counted, since each step asks for one and each
+/// piece for the other.
 #[derive(Drop)]
 pub(crate) struct Queue {
     pub waiting: VecDeque<Waiting>,
     pub resets: usize,
+    pub unread: usize,
     ghost places: { deque_len waiting ≤ max_waiting },
     ghost room: { max_waiting ≤ deque_capacity waiting },
-    ghost counted: { resets ≡ resets_in waiting.items },
+    ghost resets_counted: { resets ≡ count_of is_reset_in waiting.items },
+    ghost unread_counted: { unread ≡ count_of is_unread waiting.items },
 }
 
 impl Waiting {
     ghost use Rattle.std.specs.Prelude.{◌≡◌};
-    ghost use Rattle.session.specs.Waits.{is_unread, resets_of};
+    ghost use Rattle.session.specs.Waits.{is_reset_in, is_unread, one_of};
     ghost use Rattle.session.specs.Acts.{turn_of_one};
 
     /// What it is for a step, if it is the first.
@@ -48,7 +51,7 @@ impl Waiting {
 
     /// How many RESETs it is: one, or none.
     pub(crate) fn resets(&self) -> usize
-        ensures { result ≡ resets_of self.now }
+        ensures { result ≡ one_of is_reset_in self.now }
     {
         match self {
             Waiting::Asked(request) => usize::from(is_reset(request)),
@@ -56,12 +59,13 @@ impl Waiting {
         }
     }
 
-    pub(crate) fn is_unread(&self) -> bool
-        ensures { result ≡ is_unread self.now }
+    /// How many it is that stand for no request: one, or none.
+    pub(crate) fn unread(&self) -> usize
+        ensures { result ≡ one_of is_unread self.now }
     {
         match self {
-            Waiting::Asked(_) => false,
-            Waiting::Unread(_) | Waiting::TooLong => true,
+            Waiting::Asked(_) => 0,
+            Waiting::Unread(_) | Waiting::TooLong => 1,
         }
     }
 }

@@ -1,2 +1,3 @@
 pub mod Flat
 pub mod Sure
+pub mod Pieces

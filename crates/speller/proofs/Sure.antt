@@ -1,35 +1,63 @@
--- What is ready is good, nests within its room, and has no structure.
-use Rattle.std.proofs.Common.{◌≡◌, ℕ, ◌-◌, ◌≤◌, List, [], refl, arith}
+-- What is ready is good and nests within its room. What has no structure is its own form.
+use Rattle.std.proofs.Common.{◌≡◌, ℕ, ◌-◌, ◌≤◌, List, [], ◌∷◌, ◌++◌, refl, ap, arith}
 use Rattle.packstream.specs.Prelude.{Tree, null, boolean, list, dict, structure, Trees, no_trees, tree_then, Entries, no_entries, entry_then, IsPlain, ArePlain, HavePlain, depth, trees_depth, entries_depth, IsSound, AreSound, HaveSoundValues, IsGood}
+use Rattle.wire.specs.declared.Version.{Version}
 use Rattle.cells.specs.Prelude.{structures, structures_in, structures_under}
+use Rattle.structures.specs.Prelude.{form, form_all, form_under}
 use Rattle.speller.specs.Ready.{IsReady, AreReady, HaveReady}
 
--- what nests no deeper than the room, is sound and plain, and has no structures
-abbrev pub IsSure : ℕ → ℕ → Type 0 → Type 0 → List (ℕ × Trees) → Type 0
-IsSure deep room Sound Plain inside = (deep ≤ room) × Sound × Plain × (inside ≡ [])
+-- what nests no deeper than the room, is sound and plain
+abbrev pub IsSure : ℕ → ℕ → Type 0 → Type 0 → Type 0
+IsSure deep room Sound Plain = (deep ≤ room) × Sound × Plain
 
 mutual
-  pub sure : (t : Tree) (r : ℕ) → IsReady r t → IsSure (depth t) r (IsSound t) (IsPlain t) (structures t)
-  sure null r h = (omega arith, tt, tt, refl)
-  sure (boolean b) r h = (omega arith, tt, tt, refl)
-  sure (list ts) r h = let some = h.0 in let a = all_sure ts (r - 1) h.1 in (omega (arith, some, a.0), a.1, a.2, a.3)
-  sure (dict es) r h = let some = h.0 in let a = under_sure es (r - 1) h.2 in (omega (arith, some, a.0), (h.1, a.1), a.2, a.3)
-  sure (structure tag ts) r h = absurd h
-  sure t r h = (omega arith, tt, h, refl)
+  pub sure : (t : Tree) (r : ℕ) → IsReady r t → IsSure (depth t) r (IsSound t) (IsPlain t)
+  sure null r h = (omega arith, tt, tt)
+  sure (boolean b) r h = (omega arith, tt, tt)
+  sure (list ts) r h = let some = h.0 in let a = all_sure ts (r - 1) h.1 in (omega (arith, some, a.0), a.1, a.2)
+  sure (dict es) r h = let some = h.0 in let a = under_sure es (r - 1) h.2 in (omega (arith, some, a.0), (h.1, a.1), a.2)
+  sure (structure tag ts) r h = let some = h.0 in let a = all_sure ts (r - 1) h.3 in (omega (arith, some, a.0), (h.2, a.1), (h.1, a.2))
+  sure t r h = (omega arith, tt, h)
 
-  pub all_sure : (ts : Trees) (r : ℕ) → AreReady r ts → IsSure (trees_depth ts) r (AreSound ts) (ArePlain ts) (structures_in ts)
-  all_sure no_trees r h = (omega arith, tt, tt, refl)
+  pub all_sure : (ts : Trees) (r : ℕ) → AreReady r ts → IsSure (trees_depth ts) r (AreSound ts) (ArePlain ts)
+  all_sure no_trees r h = (omega arith, tt, tt)
   all_sure (tree_then t ts) r h =
       let a = sure t r h.0 in
       let b = all_sure ts r h.1 in
-      (omega (arith, a.0, b.0), (a.1, b.1), (a.2, b.2), rw a.3 b.3)
+      (omega (arith, a.0, b.0), (a.1, b.1), (a.2, b.2))
 
-  pub under_sure : (es : Entries) (r : ℕ) → HaveReady r es → IsSure (entries_depth es) r (HaveSoundValues es) (HavePlain es) (structures_under es)
-  under_sure no_entries r h = (omega arith, tt, tt, refl)
+  pub under_sure : (es : Entries) (r : ℕ) → HaveReady r es → IsSure (entries_depth es) r (HaveSoundValues es) (HavePlain es)
+  under_sure no_entries r h = (omega arith, tt, tt)
   under_sure (entry_then k t es) r h =
       let a = sure t r h.1 in
       let b = under_sure es r h.2 in
-      (omega (arith, a.0, b.0), (a.1, b.1), (h.0, a.2, b.2), rw a.3 b.3)
+      (omega (arith, a.0, b.0), (a.1, b.1), (h.0, a.2, b.2))
 
 pub good_by : (t : Tree) (r : ℕ) → r ≤ 32 → IsReady r t → IsGood t
 good_by t r le h = let s = sure t r h in record { deep = omega (arith, s.0, le); sound = s.1; plain = s.2 }
+
+none_left : {A : Type 0} (xs ys : List A) → xs ++ ys ≡ [] → xs ≡ []
+none_left [] ys h = refl
+none_left (x ∷ xs) ys h = absurd cc
+
+none_right : {A : Type 0} (xs ys : List A) → xs ++ ys ≡ [] → ys ≡ []
+none_right [] ys h = h
+none_right (x ∷ xs) ys h = absurd cc
+
+mutual
+  -- what has no structures is the same at each version
+  pub plain_form : (v : Version) (t : Tree) → structures t ≡ [] → form v t ≡ t
+  plain_form v (list ts) h = ap list (plain_forms v ts h)
+  plain_form v (dict es) h = ap dict (plain_forms_under v es h)
+  plain_form v (structure tag ts) h = absurd cc
+  plain_form v t h = refl
+
+  pub plain_forms : (v : Version) (ts : Trees) → structures_in ts ≡ [] → form_all v ts ≡ ts
+  plain_forms v no_trees h = refl
+  plain_forms v (tree_then t ts) h =
+      rw (plain_form v t (none_left _ _ h), plain_forms v ts (none_right (structures t) _ h)) refl
+
+  pub plain_forms_under : (v : Version) (es : Entries) → structures_under es ≡ [] → form_under v es ≡ es
+  plain_forms_under v no_entries h = refl
+  plain_forms_under v (entry_then k t es) h =
+      rw (plain_form v t (none_left _ _ h), plain_forms_under v es (none_right (structures t) _ h)) refl

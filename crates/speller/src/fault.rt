@@ -2,8 +2,8 @@
 
 use std::alloc::AllocError;
 
-/// It isn't spelled here: it has a structure, isn't good, nests deeper than the room, has a text, bytes or a list of more than 65,536,
-/// has many keys in one dictionary, or there is no memory.
+/// It isn't spelled here: it has a structure that isn't of the version, isn't good, nests deeper than the room, has a text, bytes, a list or a
+/// dictionary of more than 65,536, or there is no memory.
 #[derive(Clone, Copy, Debug)]
 pub struct Unspelled;
 

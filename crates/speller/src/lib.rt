@@ -1,16 +1,18 @@
-//! Cells without structures, spelled straight into an output, in one pass and without memory but the output's.
+//! Cells, spelled straight into an output in the form of a version, in one pass and without memory but the output's.
 //!
 //! What is promised is promised one way: where a function says yes, what it added is the shortest spelling of a good value. Where it
 //! says no, a part may have been added, which [`Adding::undo`] takes off again, and nothing is said of why: the way over a value tells that.
 #![tactic(auto)]
 
 mod fault;
-mod numbers;
-mod output;
+mod graphs;
+mod inside;
+mod moments;
 mod spelling;
+mod texts;
 mod whole;
 
 pub use fault::Unspelled;
-pub use numbers::{put_int, put_short_text, put_text};
-pub use output::Adding;
+pub use packstream::writing::{Adding, put_int, put_short_text};
+pub use texts::put_text;
 pub use whole::{put_dict, put_list};

@@ -1,29 +1,48 @@
-//! Cells.
-ghost use Rattle.std.specs.Prelude.{◌≡◌, ◌++◌, OnOk, true, [], map, string_bytes};
+//! Cells, lists and dictionaries.
+ghost use Rattle.std.specs.Prelude.{◌≡◌, ◌++◌, OnOk, true, [], string_bytes};
 ghost use Rattle.packstream.specs.Canon.{text_bytes, canon, canon_all, canon_entries};
 ghost use Rattle.std.specs.Str.{IsUtf8};
-ghost use Rattle.packstream.specs.Good.{AreNewKeys, is_among};
+ghost use Rattle.packstream.specs.Good.{AreNewKeys};
 ghost use Rattle.packstream.specs.Tree.{list, dict};
 ghost use Rattle.packstream.specs.View.{trees_of, entries_of};
+ghost use Rattle.cells.specs.Faults.{structures, structures_in, structures_under};
 ghost use Rattle.cells.specs.Shape.{shape, shapes, entries};
+ghost use Rattle.cells.specs.Steps.{all_fine};
+ghost use Rattle.cells.specs.Writing.{fault_of_structure};
+ghost use Rattle.structures.specs.Form.{form, form_all, form_under};
+ghost use Rattle.speller.specs.declared.inside.Inside.TheVariants.{Fine};
 ghost use Rattle.speller.specs.Ready.{IsReady, AreReady, HaveReady};
 
 use crate::fault::Unspelled;
-use crate::numbers::{put_bytes, put_float, put_head, put_int, put_text};
-use crate::output::Adding;
-use cells::Cell;
+use crate::graphs::{put_node, put_path, put_relationship, put_unbound};
+use crate::inside::Inside;
+use crate::moments::put_moment;
+use crate::texts::{put_bytes, put_list_head, put_text};
+use cells::{Cell, check_cell};
 use packstream::MAX_SIZE;
+use packstream::twins::{Lookup, first_twin};
+use packstream::writing::{Adding, put_float, put_head, put_int};
+use std::alloc::Global;
+use wire::Version;
 
-/// The most entries of a dictionary that is spelled: here equal keys are found by comparing all. Larger ones are left to `encode`.
-const FEW: usize = 16;
-
-/// Spells a cell that has no structure and nests within the room.
+/// Spells a cell that nests within the room.
 #[cycle(speller)]
 #[tactic(auto, using(crate::proofs::Flat::facts))]
-fn put_cell(out: &mut Adding, cell: &Cell, room: u8) -> Result<(), Unspelled>
+fn put_cell(
+    out: &mut Adding,
+    version: Version,
+    cell: &Cell,
+    room: u8,
+    inside: Inside,
+) -> Result<(), Unspelled>
+    requires { inside ≡ Fine → all_fine (fault_of_structure version)
+        (structures (shape cell.now)) ≡ true }
     ensures before { out.new.before ≡ out.old.before }
-    ensures spelled { OnOk result (out.new.more ≡ out.old.more ++ canon (shape cell.now)) }
-    ensures ready { OnOk result (IsReady room (shape cell.now)) }
+    ensures spelled { OnOk result (out.new.more
+        ≡ out.old.more ++ canon (form version (shape cell.now))) }
+    ensures ready { OnOk result (IsReady room (form version (shape cell.now))) }
+    ensures fine { OnOk result (all_fine (fault_of_structure version)
+        (structures (shape cell.now)) ≡ true) }
 {
     match cell {
         Cell::Null => Ok(out.push(0xC0)?),
@@ -32,37 +51,101 @@ fn put_cell(out: &mut Adding, cell: &Cell, room: u8) -> Result<(), Unspelled>
         Cell::Float(bits) => Ok(put_float(out, *bits)?),
         Cell::Bytes(bytes) => put_bytes(out, bytes),
         Cell::Text(text) => put_text(out, text.as_str()),
-        Cell::List(members) => put_cells(out, members, room),
-        Cell::Dict(pairs) => put_entries(out, pairs, room),
-        _ => Err(Unspelled),
+        Cell::List(members) => put_cells(out, version, members, room, inside),
+        Cell::Dict(pairs) => put_entries(out, version, pairs, room, inside),
+        _ => put_structure(out, version, cell, room, inside),
+    }
+}
+
+/// Whether the structures of a cell have no fault at the version, looked at unless that is known.
+fn is_fine(version: Version, cell: &Cell, inside: Inside) -> bool
+    requires { inside ≡ Fine → all_fine (fault_of_structure version)
+        (structures (shape cell.now)) ≡ true }
+    ensures { result ≡ true → all_fine (fault_of_structure version)
+        (structures (shape cell.now)) ≡ true }
+{
+    match inside {
+        Inside::Fine => true,
+        Inside::Unchecked => check_cell(version, cell, 0).is_ok(),
+    }
+}
+
+/// Spells a structure, whose faults and those of what it holds are looked for first and once.
+#[cycle(speller)]
+#[inline(never)]
+fn put_structure(
+    out: &mut Adding,
+    version: Version,
+    cell: &Cell,
+    room: u8,
+    inside: Inside,
+) -> Result<(), Unspelled>
+    requires { inside ≡ Fine → all_fine (fault_of_structure version)
+        (structures (shape cell.now)) ≡ true }
+    ensures before { out.new.before ≡ out.old.before }
+    ensures spelled { OnOk result (out.new.more
+        ≡ out.old.more ++ canon (form version (shape cell.now))) }
+    ensures ready { OnOk result (IsReady room (form version (shape cell.now))) }
+    ensures fine { OnOk result (all_fine (fault_of_structure version)
+        (structures (shape cell.now)) ≡ true) }
+{
+    if !is_fine(version, cell, inside) {
+        return Err(Unspelled);
+    }
+    match cell {
+        Cell::Node(node) => put_node(out, version, node, room),
+        Cell::Relationship(relationship) => put_relationship(out, version, relationship, room),
+        Cell::UnboundRelationship(unbound) => put_unbound(out, version, unbound, room),
+        Cell::Path(path) => put_path(out, version, path, room),
+        _ => put_moment(out, version, cell, room),
     }
 }
 
 /// Spells a list.
 #[cycle(speller)]
 #[tactic(auto, using(packstream::proofs::Putting::parts, crate::proofs::Flat::len_cells))]
-pub(crate) fn put_cells(out: &mut Adding, members: &[Cell], room: u8) -> Result<(), Unspelled>
+pub(crate) fn put_cells(
+    out: &mut Adding,
+    version: Version,
+    members: &[Cell],
+    room: u8,
+    inside: Inside,
+) -> Result<(), Unspelled>
+    requires { inside ≡ Fine → all_fine (fault_of_structure version)
+        (structures_in (trees_of (shapes members.now))) ≡ true }
     ensures before { out.new.before ≡ out.old.before }
     ensures spelled { OnOk result (out.new.more
-        ≡ out.old.more ++ canon (list (trees_of (shapes members.now)))) }
-    ensures ready { OnOk result (IsReady room (list (trees_of (shapes members.now)))) }
+        ≡ out.old.more ++ canon (form version (list (trees_of (shapes members.now))))) }
+    ensures ready { OnOk result (IsReady room (form version (list (trees_of (shapes members.now))))) }
+    ensures fine { OnOk result (all_fine (fault_of_structure version)
+        (structures_in (trees_of (shapes members.now))) ≡ true) }
 {
-    if room == 0 || members.len() > MAX_SIZE {
+    if room == 0 {
         return Err(Unspelled);
     }
-    put_head(out, 0x90, 0xD4, members.len() as u32)?;
-    put_members(out, members, room - 1)
+    put_list_head(out, members.len())?;
+    put_members(out, version, members, room - 1, inside)
 }
 
 #[cycle(speller)]
-fn put_members(out: &mut Adding, members: &[Cell], room: u8) -> Result<(), Unspelled>
+fn put_members(
+    out: &mut Adding,
+    version: Version,
+    members: &[Cell],
+    room: u8,
+    inside: Inside,
+) -> Result<(), Unspelled>
+    requires { inside ≡ Fine → all_fine (fault_of_structure version)
+        (structures_in (trees_of (shapes members.now))) ≡ true }
     ensures before { out.new.before ≡ out.old.before }
     ensures spelled { OnOk result (out.new.more
-        ≡ out.old.more ++ canon_all (trees_of (shapes members.now))) }
-    ensures ready { OnOk result (AreReady room (trees_of (shapes members.now))) }
+        ≡ out.old.more ++ canon_all (form_all version (trees_of (shapes members.now)))) }
+    ensures ready { OnOk result (AreReady room (form_all version (trees_of (shapes members.now)))) }
+    ensures fine { OnOk result (all_fine (fault_of_structure version)
+        (structures_in (trees_of (shapes members.now))) ≡ true) }
 {
     for member in members {
-        put_cell(out, member, room)?;
+        put_cell(out, version, member, room, inside)?;
     }
     Ok(())
 }
@@ -72,66 +155,76 @@ fn put_members(out: &mut Adding, members: &[Cell], room: u8) -> Result<(), Unspe
 #[tactic(auto, using(packstream::proofs::Putting::parts, crate::proofs::Flat::len_pairs))]
 pub(crate) fn put_entries(
     out: &mut Adding,
+    version: Version,
     pairs: &[(String, Cell)],
     room: u8,
+    inside: Inside,
 ) -> Result<(), Unspelled>
+    requires { inside ≡ Fine → all_fine (fault_of_structure version)
+        (structures_under (entries_of (entries pairs.now))) ≡ true }
     ensures before { out.new.before ≡ out.old.before }
     ensures spelled { OnOk result (out.new.more
-        ≡ out.old.more ++ canon (dict (entries_of (entries pairs.now)))) }
-    ensures ready { OnOk result (IsReady room (dict (entries_of (entries pairs.now)))) }
+        ≡ out.old.more ++ canon (form version (dict (entries_of (entries pairs.now))))) }
+    ensures ready { OnOk result (IsReady room (form version (dict (entries_of (entries pairs.now))))) }
+    ensures fine { OnOk result (all_fine (fault_of_structure version)
+        (structures_under (entries_of (entries pairs.now))) ≡ true) }
 {
-    if room == 0 || pairs.len() > FEW || !are_new(pairs) {
+    if room == 0 || pairs.len() > MAX_SIZE || !are_new(out.allocator(), pairs) {
         return Err(Unspelled);
     }
     put_head(out, 0xA0, 0xD8, pairs.len() as u32)?;
-    put_pairs(out, pairs, room - 1)
+    put_pairs(out, version, pairs, room - 1, inside)
 }
 
 #[cycle(speller)]
-fn put_pairs(out: &mut Adding, pairs: &[(String, Cell)], room: u8) -> Result<(), Unspelled>
+fn put_pairs(
+    out: &mut Adding,
+    version: Version,
+    pairs: &[(String, Cell)],
+    room: u8,
+    inside: Inside,
+) -> Result<(), Unspelled>
+    requires { inside ≡ Fine → all_fine (fault_of_structure version)
+        (structures_under (entries_of (entries pairs.now))) ≡ true }
     ensures before { out.new.before ≡ out.old.before }
     ensures spelled { OnOk result (out.new.more
-        ≡ out.old.more ++ canon_entries (entries_of (entries pairs.now))) }
-    ensures ready { OnOk result (HaveReady room (entries_of (entries pairs.now))) }
+        ≡ out.old.more ++ canon_entries (form_under version (entries_of (entries pairs.now)))) }
+    ensures ready { OnOk result (HaveReady room (form_under version (entries_of (entries pairs.now)))) }
+    ensures fine { OnOk result (all_fine (fault_of_structure version)
+        (structures_under (entries_of (entries pairs.now))) ≡ true) }
 {
     for pair in pairs {
-        put_pair(out, pair, room)?;
+        put_pair(out, version, pair, room, inside)?;
     }
     Ok(())
 }
 
 #[cycle(speller)]
 #[tactic(auto, using(packstream::proofs::Putting::parts, crate::proofs::Flat::facts))]
-fn put_pair(out: &mut Adding, pair: &(String, Cell), room: u8) -> Result<(), Unspelled>
+fn put_pair(
+    out: &mut Adding,
+    version: Version,
+    pair: &(String, Cell),
+    room: u8,
+    inside: Inside,
+) -> Result<(), Unspelled>
+    requires { inside ≡ Fine → all_fine (fault_of_structure version)
+        (structures (shape pair.now.1)) ≡ true }
     ensures before { out.new.before ≡ out.old.before }
     ensures spelled { OnOk result (out.new.more
-        ≡ out.old.more ++ (text_bytes (string_bytes pair.now.0) ++ canon (shape pair.now.1))) }
+        ≡ out.old.more ++ (text_bytes (string_bytes pair.now.0) ++ canon (form version (shape pair.now.1)))) }
     ensures utf8 { IsUtf8 (string_bytes pair.now.0) }
-    ensures ready { OnOk result (IsReady room (shape pair.now.1)) }
+    ensures ready { OnOk result (IsReady room (form version (shape pair.now.1))) }
+    ensures fine { OnOk result (all_fine (fault_of_structure version)
+        (structures (shape pair.now.1)) ≡ true) }
 {
     put_text(out, pair.0.as_str())?;
-    put_cell(out, &pair.1, room)
-}
-
-fn stands_among(pairs: &[(String, Cell)], key: &str) -> bool
-    ensures { result ≡ is_among key.now (map (λ e. string_bytes e.0) pairs.now) }
-{
-    for pair in pairs {
-        if key == pair.0.as_str() {
-            return true;
-        }
-    }
-    false
+    put_cell(out, version, &pair.1, room, inside)
 }
 
 /// Whether no key stands twice.
-fn are_new(pairs: &[(String, Cell)]) -> bool
+fn are_new(alloc: Global, pairs: &[(String, Cell)]) -> bool
     ensures { result ≡ true → AreNewKeys [] (entries_of (entries pairs.now)) }
 {
-    for (i, pair) in pairs.iter().enumerate() {
-        if stands_among(&pairs[..i], pair.0.as_str()) {
-            return false;
-        }
-    }
-    true
+    first_twin(Lookup::InSet(alloc), pairs) == pairs.len()
 }

@@ -1,42 +1,55 @@
 //! Lists and dictionaries of cells.
-ghost use Rattle.std.specs.Prelude.{◌≡◌, ◌≤◌, ◌++◌, OnOk, []};
+ghost use Rattle.std.specs.Prelude.{◌≡◌, ◌≤◌, ◌++◌, OnOk};
 ghost use Rattle.packstream.specs.Canon.{canon};
 ghost use Rattle.packstream.specs.Good.{IsGood, depth};
 ghost use Rattle.packstream.specs.Tree.{list, dict};
 ghost use Rattle.packstream.specs.View.{trees_of, entries_of};
-ghost use Rattle.cells.specs.Faults.{structures};
 ghost use Rattle.cells.specs.Shape.{shapes, entries};
+ghost use Rattle.cells.specs.Writing.{IsWritable};
+ghost use Rattle.structures.specs.Form.{form};
 
 use crate::fault::Unspelled;
-use crate::output::Adding;
+use crate::inside::Inside;
 use crate::spelling::{put_cells, put_entries};
 use cells::Cell;
+use packstream::writing::Adding;
+use wire::Version;
 
-/// Adds the shortest spelling of a list of these cells, which is good, nests at most `room` deep and has no structure. A
-/// dictionary of more than 16 entries isn't spelled.
-pub fn put_list(out: &mut Adding, members: &[Cell], room: u8) -> Result<(), Unspelled>
+/// Adds the shortest spelling of a list of these cells in the form of the version, which can be written there, is good and nests at most
+/// `room` deep.
+pub fn put_list(
+    out: &mut Adding,
+    version: Version,
+    members: &[Cell],
+    room: u8,
+) -> Result<(), Unspelled>
     requires { room ≤ 32 }
     ensures before { out.new.before ≡ out.old.before }
     ensures spelled { OnOk result (out.new.more
-        ≡ out.old.more ++ canon (list (trees_of (shapes members.now)))) }
-    ensures good { OnOk result (IsGood (list (trees_of (shapes members.now)))) }
-    ensures deep { OnOk result (depth (list (trees_of (shapes members.now))) ≤ room) }
-    ensures plain { OnOk result (structures (list (trees_of (shapes members.now))) ≡ []) }
+        ≡ out.old.more ++ canon (form version (list (trees_of (shapes members.now))))) }
+    ensures good { OnOk result (IsGood (form version (list (trees_of (shapes members.now))))) }
+    ensures deep { OnOk result (depth (form version (list (trees_of (shapes members.now)))) ≤ room) }
+    ensures writable { OnOk result (IsWritable version (list (trees_of (shapes members.now)))) }
 {
-    put_cells(out, members, room)?;
+    put_cells(out, version, members, room, Inside::Unchecked)?;
     Ok(())
 }
 
 /// Adds the shortest spelling of a dictionary of these entries, as `put_list` that of a list.
-pub fn put_dict(out: &mut Adding, pairs: &[(String, Cell)], room: u8) -> Result<(), Unspelled>
+pub fn put_dict(
+    out: &mut Adding,
+    version: Version,
+    pairs: &[(String, Cell)],
+    room: u8,
+) -> Result<(), Unspelled>
     requires { room ≤ 32 }
     ensures before { out.new.before ≡ out.old.before }
     ensures spelled { OnOk result (out.new.more
-        ≡ out.old.more ++ canon (dict (entries_of (entries pairs.now)))) }
-    ensures good { OnOk result (IsGood (dict (entries_of (entries pairs.now)))) }
-    ensures deep { OnOk result (depth (dict (entries_of (entries pairs.now))) ≤ room) }
-    ensures plain { OnOk result (structures (dict (entries_of (entries pairs.now))) ≡ []) }
+        ≡ out.old.more ++ canon (form version (dict (entries_of (entries pairs.now))))) }
+    ensures good { OnOk result (IsGood (form version (dict (entries_of (entries pairs.now))))) }
+    ensures deep { OnOk result (depth (form version (dict (entries_of (entries pairs.now)))) ≤ room) }
+    ensures writable { OnOk result (IsWritable version (dict (entries_of (entries pairs.now)))) }
 {
-    put_entries(out, pairs, room)?;
+    put_entries(out, version, pairs, room, Inside::Unchecked)?;
     Ok(())
 }

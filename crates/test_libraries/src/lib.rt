@@ -29,6 +29,8 @@ mod scanner_tests;
 #[cfg(test)]
 mod session_tests;
 #[cfg(test)]
+mod short_ways_tests;
+#[cfg(test)]
 mod structures_tests;
 #[cfg(test)]
 mod table_rows;

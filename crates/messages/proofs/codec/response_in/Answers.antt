@@ -12,4 +12,4 @@ pub returns : goal.returns
 returns c = rw (ap (contents_by c.args.version responses) ((whole_value c.args.bytes.now (bytes_from_each c.args.bytes.now c.type_inv.bytes) c.in_ok-packed.packed).1 ((c.in_ok-packed.ensures.value c.in_ok-packed.packed).0 refl)), sym c.value.ensures.same) c.response_of_value.ensures
 
 pub returns-in-Ok : goal.returns-in-Ok
-returns-in-Ok c = means_said c.args.version responses (response_contents (response_view c.in-Ok.response)) c.args.bytes.now (bytes_from_each c.args.bytes.now c.type_inv.bytes) (c.in-Ok.ensures c.args.version)
+returns-in-Ok c = means_said c.args.version responses (response_contents (response_view c.in-Ok.response)) c.args.bytes.now (bytes_from_each c.args.bytes.now c.type_inv.bytes) c.in-Ok.ensures

@@ -15,11 +15,11 @@ returns-clause-read_back c =
 
 pub returns-then-spell_request-clause-text : goal.returns-then-spell_request-clause-text
 unfolding request_spelling
-returns-then-spell_request-clause-text c = appended _ _ _ (c.spell_request.ensures.adds c.if-spell_request.true c.args.version) (c.spell_request.ensures.short c.if-spell_request.true)
+returns-then-spell_request-clause-text c = appended _ _ _ (c.spell_request.ensures.adds c.if-spell_request.true) (c.spell_request.ensures.short c.if-spell_request.true)
 
 pub returns-then-spell_request-clause-read_back : goal.returns-then-spell_request-clause-read_back
 unfolding request_spelling
 returns-then-spell_request-clause-read_back c =
     let v = c.args.version in
     let m = request_view c.args.request.now in
-    means _ _ _ (c.spell_request.ensures.adds c.if-spell_request.true v) (c.spell_request.ensures.short c.if-spell_request.true) v requests (request_contents m) (λ u h. (asks_back v m u (request_back v c.args.request.now) h).told)
+    means _ _ _ (c.spell_request.ensures.adds c.if-spell_request.true) (c.spell_request.ensures.short c.if-spell_request.true) v requests (request_contents m) (λ u h. (asks_back v m u (request_back v c.args.request.now) h).told)

@@ -15,11 +15,11 @@ returns-clause-read_back c =
 
 pub returns-then-spell_response-clause-text : goal.returns-then-spell_response-clause-text
 unfolding response_spelling
-returns-then-spell_response-clause-text c = appended _ _ _ (c.spell_response.ensures.adds c.if-spell_response.true c.args.version) (c.spell_response.ensures.short c.if-spell_response.true)
+returns-then-spell_response-clause-text c = appended _ _ _ (c.spell_response.ensures.adds c.if-spell_response.true) (c.spell_response.ensures.short c.if-spell_response.true)
 
 pub returns-then-spell_response-clause-read_back : goal.returns-then-spell_response-clause-read_back
 unfolding response_spelling
 returns-then-spell_response-clause-read_back c =
     let v = c.args.version in
     let m = response_view c.args.response.now in
-    means _ _ _ (c.spell_response.ensures.adds c.if-spell_response.true v) (c.spell_response.ensures.short c.if-spell_response.true) v responses (response_contents m) (λ u h. (tells_back v m u (response_back v c.args.response.now) h).told)
+    means _ _ _ (c.spell_response.ensures.adds c.if-spell_response.true) (c.spell_response.ensures.short c.if-spell_response.true) v responses (response_contents m) (λ u h. (tells_back v m u (response_back v c.args.response.now) h).told)

@@ -1,0 +1,288 @@
+-- A message that is read without a value: what was read of its parts one after the other is read of it.
+use Rattle.std.proofs.Common.{◌≡◌, ◌≤◌, ◌<◌, ℕ, ℤ, negsuc, false, true, List, [], ◌∷◌, ◌++◌, Option, None, Some, Ok, codes, refl, ap, sym, subst, ◌∙◌, arith, IsUtf8, Vec, Global}
+use Rattle.std.proofs.lemmas.List.{append-nil}
+use Rattle.packstream.specs.Prelude.{Tree, int, text, list, dict, structure, no_trees, tree_then, Entries, no_entries, entry_then, head, canon, IsGood, depth, entries_of, trees_of, marker, AreBytes, Spells}
+use Rattle.packstream.specs.Spelling.{SpellsEntries}
+use Rattle.packstream.specs.declared.marker.Size.TheVariants.{Here}
+use Rattle.packstream.proofs.Only.{canon_spells}
+use Rattle.packstream.proofs.Ranges.{fits_neg}
+use Rattle.wire.specs.declared.Version.{Version}
+use Rattle.wire.specs.Versions.{every_version, hello_has_login, has_logon}
+use Rattle.cells.specs.declared.cell.Cell.{Cell, Dict as DictCase, List as ListCase}
+use Rattle.cells.specs.Prelude.{entries, shapes, IsWritable}
+use Rattle.cells.proofs.Views.{Pair, shape-Dict, shape-List}
+use Rattle.structures.specs.Prelude.{Form, form, form_all, form_under}
+use Rattle.structures.proofs.Formed.{form_of}
+use Rattle.scanner.specs.Fronts.{SpellsFront}
+use Rattle.messages.specs.declared.request.Mode.{Mode}
+use Rattle.messages.specs.declared.request.Mode.TheVariants.{Read, Write}
+use Rattle.messages.specs.declared.request.Count.{Count}
+use Rattle.messages.specs.Prelude.{AuthView, Row, Name, Named, Others, ignored, refused, extra, requests, responses, HELLO, LOGON, LOGOFF, RUN, BEGIN, PULL, DISCARD, SUCCESS, RECORD, IGNORED, FAILURE, hello, credentials, of_transaction, how_many, of_error, ◌>>=◌, Contents, contents, lookup, contents_of_text, contents_of_mode, contents_of_metadata, contents_of_number, contents_of_login, contents_of_named, contents_of_extra, contents_of_row, contents_of_message, cell_by, cell_of_field, is_token, count_tree, mode_tree, token_tree, login_trees, Hello, Logon, Logoff, Run, Begin, Pull, Discard, Success, Record, Ignored, Failure, Means, Req, Resp, mode_pairs, SpellsEntry, SpellsExtra, SpellsNamed, SpellsDict, SpellsList}
+use Rattle.messages.proofs.Added.{plain_good, field_good, run_good, mode_good, mode_deep}
+use Rattle.messages.proofs.Fields.{login_here}
+use Rattle.messages.proofs.Kept.{named_kept}
+use Rattle.messages.proofs.Named.{token_entries, write_good, read_good}
+
+-- ---- structures
+
+-- one without fields stands for what its tag says
+pub plain_means : (v : Version) (table : List Row) (s : Contents) (tag : ℕ) → tag < 256 → contents_of_message v table (structure tag no_trees) ≡ Ok s → Means v table s (0xB0 ∷ tag ∷ [])
+unfolding marker
+plain_means v table s tag small says = record { value = structure tag no_trees; good = plain_good tag small; spelled = ((omega arith, (small, tt)), ([], refl, (0xB0, refl, refl))); says = says }
+
+pub logoff_means : (v : Version) → has_logon v ≡ true → Req v Logoff (0xB0 ∷ 0x6B ∷ [])
+logoff_means v h = plain_means v requests (contents LOGOFF [] []) 0x6B (omega arith) (rw h refl)
+
+pub ignored_means : (v : Version) → Resp v Ignored (0xB0 ∷ 0x7E ∷ [])
+ignored_means v = plain_means v responses (contents IGNORED [] []) 0x7E (omega arith) refl
+
+-- one of one field
+field_means : (v : Version) (table : List Row) (s : Contents) (tag : ℕ) (t : Tree) (b : List ℕ) → tag < 256 → contents_of_message v table (structure tag (tree_then t no_trees)) ≡ Ok s → IsGood t → depth t ≤ 31 → Spells t b → Means v table s (0xB1 ∷ tag ∷ b)
+unfolding marker
+field_means v table s tag t b small says g deep spells = record {
+  value = structure tag (tree_then t no_trees);
+  good = field_good tag t small g deep;
+  spelled = ((omega arith, (small, spells.0)), (b, (b, [], spells.1, refl, sym (append-nil b)), (0xB1, refl, refl)));
+  says = says;
+}
+
+-- what is spelled at the front, where nothing follows it
+whole : (t : Tree) (rest b : List ℕ) → rest ≡ [] → SpellsFront t rest b → Spells t b
+whole t rest b none s = subst (Spells t) (sym (s.2 ∙ ap (λ r. s.0 ++ r) none ∙ append-nil s.0)) s.1
+
+-- ---- named entries
+
+extra_means : (v : Version) (table : List Row) (n : Name) (tag : ℕ) (o : Others) (ns : List Named) (xs : List Tree) (b : List ℕ) → tag < 256
+    → ((es : Entries) → contents_of_message v table (structure tag (tree_then (dict es) no_trees)) ≡ contents_of_row v n (extra o ns ∷ []) (tree_then (dict es) no_trees))
+    → SpellsExtra v o ns xs b → Means v table (contents n [] xs) (0xB1 ∷ tag ∷ b)
+extra_means v table n tag o ns xs b small row x =
+    field_means v table (contents n [] xs) tag (dict x.entries) b small (row x.entries ∙ ap (λ r. r >>= λ ys. Ok (contents n [] ys)) x.told) x.good x.deep x.spelled
+
+pub pull_means : (v : Version) (c : Count) (b : List ℕ) → SpellsExtra v refused how_many (count_tree c ∷ []) b → Req v (Pull c) (0xB1 ∷ 0x3F ∷ b)
+pull_means v c b x = extra_means v requests PULL 0x3F refused how_many (count_tree c ∷ []) b (omega arith) (λ es. refl) x
+
+pub discard_means : (v : Version) (c : Count) (b : List ℕ) → SpellsExtra v refused how_many (count_tree c ∷ []) b → Req v (Discard c) (0xB1 ∷ 0x2F ∷ b)
+discard_means v c b x = extra_means v requests DISCARD 0x2F refused how_many (count_tree c ∷ []) b (omega arith) (λ es. refl) x
+
+pub begin_means : (v : Version) (m : Mode) (token : Option (List ℕ)) (b : List ℕ) → SpellsExtra v ignored of_transaction (mode_tree m ∷ token_tree token ∷ []) b → Req v (Begin m token) (0xB1 ∷ 0x11 ∷ b)
+begin_means v m token b x = extra_means v requests BEGIN 0x11 ignored of_transaction (mode_tree m ∷ token_tree token ∷ []) b (omega arith) (λ es. refl) x
+
+-- what cells say that were read of a dictionary is what the dictionary says
+named_extra : (v : Version) (ns : List Named) (xs : List Tree) (es : Entries) (b : List ℕ) → SpellsNamed es b → contents_of_named v ns es ≡ Ok xs → SpellsExtra v ignored ns xs b
+named_extra v ns xs es b x h = record { entries = x.entries; good = x.good; deep = x.deep; spelled = x.spelled; told = x.told v ns ∙ h }
+
+pub transaction_scanned : (v : Version) (m : Mode) (token : Option (List ℕ)) (es : Entries) (b : List ℕ) → SpellsNamed es b → contents_of_mode (lookup (codes "mode") es) ≡ Ok (mode_tree m ∷ [])
+    → contents_of_metadata (lookup (codes "tx_metadata") es) ≡ Ok (token_tree token ∷ []) → SpellsExtra v ignored of_transaction (mode_tree m ∷ token_tree token ∷ []) b
+transaction_scanned v m token es b x e k = named_extra v of_transaction _ es b x (rw (e, k) refl)
+
+pub logon_means : (v : Version) (l : AuthView) (es : Entries) (b : List ℕ) → has_logon v ≡ true → SpellsNamed es b → contents_of_login es ≡ Ok (login_trees l) → Req v (Logon l) (0xB1 ∷ 0x6A ∷ b)
+logon_means v l es b h x e = extra_means v requests LOGON 0x6A ignored (credentials every_version) (login_trees l) b (omega arith) (λ fs. rw h refl) (named_extra v (credentials every_version) (login_trees l) es b x e)
+
+pub hello_means : (v : Version) (a : List ℕ) (es : Entries) (b : List ℕ) → hello_has_login v ≡ false → SpellsNamed es b → contents_of_text (lookup (codes "user_agent") es) ≡ Ok (text a ∷ []) → Req v (Hello a None) (0xB1 ∷ 0x01 ∷ b)
+hello_means v a es b h x e = extra_means v requests HELLO 0x01 ignored hello (text a ∷ []) b (omega arith) (λ fs. refl) (named_extra v hello (text a ∷ []) es b x (rw (e, h) refl))
+
+pub hello_and_login_means : (v : Version) (a : List ℕ) (l : AuthView) (es : Entries) (b : List ℕ) → hello_has_login v ≡ true → SpellsNamed es b → contents_of_text (lookup (codes "user_agent") es) ≡ Ok (text a ∷ [])
+    → contents_of_login es ≡ Ok (login_trees l) → Req v (Hello a (Some l)) (0xB1 ∷ 0x01 ∷ b)
+hello_and_login_means v a l es b h x e k = extra_means v requests HELLO 0x01 ignored hello (text a ∷ login_trees l) b (omega arith) (λ fs. refl)
+    (named_extra v hello (text a ∷ login_trees l) es b x (ap (λ r. contents_of_text (lookup (codes "user_agent") es) >>= λ y. r >>= λ ys. Ok (y ++ ys)) (login_here v es h ∙ k) ∙ ap (λ r. r >>= λ y. Ok (y ++ login_trees l)) e))
+
+pub failure_means : (v : Version) (c m : List ℕ) (es : Entries) (b : List ℕ) → SpellsNamed es b → contents_of_text (lookup (codes "code") es) ≡ Ok (text c ∷ []) → contents_of_text (lookup (codes "message") es) ≡ Ok (text m ∷ []) → Resp v (Failure c m) (0xB1 ∷ 0x7F ∷ b)
+failure_means v c m es b x e k = extra_means v responses FAILURE 0x7F ignored of_error (text c ∷ text m ∷ []) b (omega arith) (λ fs. refl) (named_extra v of_error (text c ∷ text m ∷ []) es b x (rw (e, k) refl))
+
+-- ---- cells
+
+-- the form of a cell is told as that cell
+told_cell : (v : Version) (s t : Tree) → Form v s t → cell_of_field v t ≡ Ok s
+told_cell v s t f = ap (λ r. cell_by r t) f.0.1 ∙ ap Ok (sym f.1)
+
+-- cells that can be written have a form
+dict_form : (v : Version) (ps : Vec Pair Global) → IsWritable v (dict (entries_of (entries ps.items))) → Form v (dict (entries_of (entries ps.items))) (form v (dict (entries_of (entries ps.items))))
+dict_form v ps = subst (λ s. IsWritable v s → Form v s (form v s)) (shape-Dict ps) (form_of v (DictCase ps))
+
+list_form : (v : Version) (cs : Vec Cell Global) → IsWritable v (list (trees_of (shapes cs.items))) → Form v (list (trees_of (shapes cs.items))) (form v (list (trees_of (shapes cs.items))))
+list_form v cs = subst (λ s. IsWritable v s → Form v s (form v s)) (shape-List cs) (form_of v (ListCase cs))
+
+pub dict_scanned : (v : Version) (ps : Vec Pair Global) (rest b : List ℕ) → SpellsFront (form v (dict (entries_of (entries ps.items)))) rest b → IsGood (form v (dict (entries_of (entries ps.items))))
+    → depth (form v (dict (entries_of (entries ps.items)))) ≤ 31 → IsWritable v (dict (entries_of (entries ps.items))) → SpellsDict v (dict (entries_of (entries ps.items))) rest b
+dict_scanned v ps rest b s g d w = record { entries = form_under v (entries_of (entries ps.items)); good = g; deep = d; spelled = s; told = told_cell v (dict (entries_of (entries ps.items))) (form v (dict (entries_of (entries ps.items)))) (dict_form v ps w) }
+
+pub list_scanned : (v : Version) (cs : Vec Cell Global) (rest b : List ℕ) → SpellsFront (form v (list (trees_of (shapes cs.items)))) rest b → IsGood (form v (list (trees_of (shapes cs.items))))
+    → depth (form v (list (trees_of (shapes cs.items)))) ≤ 31 → IsWritable v (list (trees_of (shapes cs.items))) → SpellsList v (list (trees_of (shapes cs.items))) rest b
+list_scanned v cs rest b s g d w = record { members = form_all v (trees_of (shapes cs.items)); good = g; deep = d; spelled = s; told = told_cell v (list (trees_of (shapes cs.items))) (form v (list (trees_of (shapes cs.items)))) (list_form v cs w) }
+
+pub extra_scanned : (v : Version) (es : Entries) (rest b : List ℕ) → rest ≡ [] → SpellsFront (form v (dict es)) rest b → IsGood (form v (dict es)) → depth (form v (dict es)) ≤ 31 → SpellsNamed es b
+extra_scanned v es rest b none s g d =
+    record { entries = form_under v es; good = g; deep = d; spelled = whole (form v (dict es)) rest b none s; told = λ w ns. named_kept w v ns es }
+
+pub success_means : (v : Version) (ps : List (List ℕ × Tree)) (rest b : List ℕ) → rest ≡ [] → SpellsDict v (dict (entries_of ps)) rest b → Resp v (Success ps) (0xB1 ∷ 0x70 ∷ b)
+success_means v ps rest b none p =
+    field_means v responses _ 0x70 (dict p.entries) b (omega arith) (ap (λ r. (r >>= λ x. Ok (x ∷ [])) >>= λ fs. Ok (contents SUCCESS fs [])) p.told) p.good p.deep (whole (dict p.entries) rest b none p.spelled)
+
+pub record_means : (v : Version) (cs : List Tree) (rest b : List ℕ) → rest ≡ [] → SpellsList v (list (trees_of cs)) rest b → Resp v (Record cs) (0xB1 ∷ 0x71 ∷ b)
+record_means v cs rest b none p =
+    field_means v responses _ 0x71 (list p.members) b (omega arith) (ap (λ r. (r >>= λ x. Ok (x ∷ [])) >>= λ fs. Ok (contents RECORD fs [])) p.told) p.good p.deep (whole (list p.members) rest b none p.spelled)
+
+three_spelled : (tag : ℕ) (t u w : Tree) (b c d : List ℕ) → tag < 256 → AreBytes b → SpellsFront t c b → SpellsFront u d c → Spells w d → Spells (structure tag (tree_then t (tree_then u (tree_then w no_trees)))) (0xB3 ∷ tag ∷ b)
+unfolding marker
+three_spelled tag t u w b c d small bytes s r q =
+    ((omega arith, (small, bytes)), (b, (s.0, c, s.1.1, (r.0, d, r.1.1, (d, [], q.1, refl, sym (append-nil d)), r.2), s.2), (0xB3, refl, refl)))
+
+-- what a RUN says, by its parameters and by its other entries
+run_says : (v : Version) (s : List ℕ) (ps es : Entries) (c : Tree) (xs : List Tree) → cell_of_field v (dict ps) ≡ Ok c → contents_of_extra v ignored of_transaction es ≡ Ok xs
+    → contents_of_message v requests (structure 0x10 (tree_then (text s) (tree_then (dict ps) (tree_then (dict es) no_trees)))) ≡ Ok (contents RUN (text s ∷ c ∷ []) xs)
+run_says v s ps es c xs p x =
+    ap (λ r. r >>= λ ys. ((cell_of_field v (dict ps) >>= λ y. Ok (y ∷ [])) >>= λ fs. Ok (text s ∷ fs)) >>= λ fs. Ok (contents RUN fs ys)) x ∙ ap (λ r. ((r >>= λ y. Ok (y ∷ [])) >>= λ fs. Ok (text s ∷ fs)) >>= λ fs. Ok (contents RUN fs xs)) p
+
+-- a RUN, whose text is in UTF-8
+pub run_means : (v : Version) (s u : List ℕ) (ps : List (List ℕ × Tree)) (m : Mode) (token : Option (List ℕ)) (b c d : List ℕ) → AreBytes b → u ≡ s → SpellsFront (text u) c b → IsGood (text u) → SpellsDict v (dict (entries_of ps)) d c
+    → SpellsExtra v ignored of_transaction (mode_tree m ∷ token_tree token ∷ []) d → Req v (Run s ps m token) (0xB3 ∷ 0x10 ∷ b)
+run_means v s u ps m token b c d bytes same t tg p x = subst (λ r. Req v (Run r ps m token) (0xB3 ∷ 0x10 ∷ b)) same (record {
+  value = structure 0x10 (tree_then (text u) (tree_then (dict p.entries) (tree_then (dict x.entries) no_trees)));
+  good = run_good u (dict p.entries) (dict x.entries) tg.plain p.good p.deep x.good x.deep;
+  spelled = three_spelled 0x10 (text u) (dict p.entries) (dict x.entries) b c d (omega arith) bytes t p.spelled x.spelled;
+  says = run_says v u p.entries x.entries (dict (entries_of ps)) (mode_tree m ∷ token_tree token ∷ []) p.told x.told;
+})
+
+-- ---- entries where they stand
+
+entry_first : (k : List ℕ) (t : Tree) (es : Entries) (rest b : List ℕ) → SpellsEntry k t rest b → SpellsEntries es rest → SpellsEntries (entry_then k t es) b
+entry_first k t es rest b e q = (e.0, e.1, rest, e.2, e.3, q, e.4)
+
+one_spelled : (k : List ℕ) (t : Tree) (w b rest : List ℕ) → AreBytes w → w ≡ 0xA1 ∷ b → SpellsEntry k t rest b → rest ≡ [] → Spells (dict (entry_then k t no_entries)) w
+unfolding marker
+one_spelled k t w b rest bytes is e none = (bytes, (Here 1, [], b, (refl, refl), entry_first k t no_entries rest b e none, (0xA1, refl, is)))
+
+two_spelled : (k l : List ℕ) (t u : Tree) (w b c rest : List ℕ) → AreBytes w → w ≡ 0xA2 ∷ b → SpellsEntry k t c b → SpellsEntry l u rest c → rest ≡ [] → Spells (dict (entry_then k t (entry_then l u no_entries))) w
+unfolding marker
+two_spelled k l t u w b c rest bytes is e f none = (bytes, (Here 2, [], b, (refl, refl), entry_first k t (entry_then l u no_entries) c b e (entry_first l u no_entries rest c f none), (0xA2, refl, is)))
+
+pub number_entry : (z : ℤ) (b c rest : List ℕ) → b ≡ 0x81 ∷ 0x6E ∷ c → SpellsFront (int z) rest c → SpellsEntry (codes "n") (int z) rest b
+unfolding marker lib.Utf8.encode
+number_entry z b c rest is s = (0x81 ∷ 0x6E ∷ [], s.0, record { size = Here 1; field = []; sized = (refl, refl); utf8 = (codes "n", (refl, refl)); begins = (0x81, refl, refl) }, s.1.1, is ∙ ap (λ x. 0x81 ∷ 0x6E ∷ x) s.2)
+
+pub query_entry : (b c rest : List ℕ) → b ≡ 0x83 ∷ 0x71 ∷ 0x69 ∷ 0x64 ∷ c → SpellsFront (int (negsuc 0)) rest c → SpellsEntry (codes "qid") (int (negsuc 0)) rest b
+unfolding marker lib.Utf8.encode
+query_entry b c rest is s =
+    (0x83 ∷ 0x71 ∷ 0x69 ∷ 0x64 ∷ [], s.0, record { size = Here 3; field = []; sized = (refl, refl); utf8 = (codes "qid", (refl, refl)); begins = (0x83, refl, refl) }, s.1.1, is ∙ ap (λ x. 0x83 ∷ 0x71 ∷ 0x69 ∷ 0x64 ∷ x) s.2)
+
+number_good : (z : ℤ) → IsGood (int z) → IsGood (dict (entry_then (codes "n") (int z) no_entries))
+unfolding lib.Utf8.encode
+number_good z g = record { deep = omega arith; sound = ((refl, tt), (tt, tt)); plain = ((codes "n", (refl, refl)), g.plain, tt) }
+
+number_query_good : (z : ℤ) → IsGood (int z) → IsGood (dict (entry_then (codes "n") (int z) (entry_then (codes "qid") (int (negsuc 0)) no_entries)))
+unfolding lib.Utf8.encode
+number_query_good z g = record { deep = omega arith; sound = ((refl, (refl, tt)), (tt, (tt, tt))); plain = ((codes "n", (refl, refl)), g.plain, ((codes "qid", (refl, refl)), fits_neg 0 (omega arith), tt)) }
+
+query_number_good : (z : ℤ) → IsGood (int z) → IsGood (dict (entry_then (codes "qid") (int (negsuc 0)) (entry_then (codes "n") (int z) no_entries)))
+unfolding lib.Utf8.encode
+query_number_good z g = record { deep = omega arith; sound = ((refl, (refl, tt)), (tt, (tt, tt))); plain = ((codes "qid", (refl, refl)), fits_neg 0 (omega arith), ((codes "n", (refl, refl)), g.plain, tt)) }
+
+pub rows_scanned : (v : Version) (c : Count) (z : ℤ) (w b rest : List ℕ) → AreBytes w → w ≡ 0xA1 ∷ b → SpellsEntry (codes "n") (int z) rest b → IsGood (int z) → rest ≡ [] → contents_of_number z ≡ Ok (count_tree c ∷ [])
+    → SpellsExtra v refused how_many (count_tree c ∷ []) w
+rows_scanned v c z w b rest bytes is e g none h = record {
+  entries = entry_then (codes "n") (int z) no_entries;
+  good = number_good z g;
+  deep = omega arith;
+  spelled = one_spelled (codes "n") (int z) w b rest bytes is e none;
+  told = ap (λ r. r >>= λ x. Ok (x ++ [])) h;
+}
+
+pub rows_query_scanned : (v : Version) (c : Count) (z : ℤ) (w b d rest : List ℕ) → AreBytes w → w ≡ 0xA2 ∷ b → SpellsEntry (codes "n") (int z) d b → IsGood (int z) → SpellsEntry (codes "qid") (int (negsuc 0)) rest d → rest ≡ []
+    → contents_of_number z ≡ Ok (count_tree c ∷ []) → SpellsExtra v refused how_many (count_tree c ∷ []) w
+rows_query_scanned v c z w b d rest bytes is e g f none h = record {
+  entries = entry_then (codes "n") (int z) (entry_then (codes "qid") (int (negsuc 0)) no_entries);
+  good = number_query_good z g;
+  deep = omega arith;
+  spelled = two_spelled (codes "n") (codes "qid") (int z) (int (negsuc 0)) w b d rest bytes is e f none;
+  told = ap (λ r. r >>= λ x. Ok (x ++ [])) h;
+}
+
+pub query_rows_scanned : (v : Version) (c : Count) (z : ℤ) (w b d rest : List ℕ) → AreBytes w → w ≡ 0xA2 ∷ b → SpellsEntry (codes "qid") (int (negsuc 0)) d b → SpellsEntry (codes "n") (int z) rest d → IsGood (int z) → rest ≡ []
+    → contents_of_number z ≡ Ok (count_tree c ∷ []) → SpellsExtra v refused how_many (count_tree c ∷ []) w
+query_rows_scanned v c z w b d rest bytes is f e g none h = record {
+  entries = entry_then (codes "qid") (int (negsuc 0)) (entry_then (codes "n") (int z) no_entries);
+  good = query_number_good z g;
+  deep = omega arith;
+  spelled = two_spelled (codes "qid") (codes "n") (int (negsuc 0)) (int z) w b d rest bytes is f e none;
+  told = ap (λ r. r >>= λ x. Ok (x ++ [])) h;
+}
+
+-- the entries of a transaction without a token
+mode_spelled : (m : Mode) (b : List ℕ) → b ≡ canon (dict (entries_of (mode_pairs m))) → Spells (dict (entries_of (mode_pairs m))) b
+unfolding head
+mode_spelled Read b e = subst (Spells (dict (entries_of (mode_pairs Read)))) (sym e) (canon_spells (dict (entries_of (mode_pairs Read))) (mode_good Read) (omega arith))
+mode_spelled Write b e = subst (Spells (dict (entries_of (mode_pairs Write)))) (sym e) (canon_spells (dict (entries_of (mode_pairs Write))) (mode_good Write) (omega arith))
+
+mode_told : (v : Version) (m : Mode) → contents_of_extra v ignored of_transaction (entries_of (mode_pairs m)) ≡ Ok (mode_tree m ∷ token_tree None ∷ [])
+mode_told v Read = refl
+mode_told v Write = refl
+
+pub mode_scanned : (v : Version) (m : Mode) (b : List ℕ) → b ≡ canon (dict (entries_of (mode_pairs m))) → SpellsExtra v ignored of_transaction (mode_tree m ∷ token_tree None ∷ []) b
+mode_scanned v m b e = record { entries = entries_of (mode_pairs m); good = mode_good m; deep = mode_deep m; spelled = mode_spelled m b e; told = mode_told v m }
+
+-- the entry of a token, the last
+pub token_entry : (s b c d rest : List ℕ) → b ≡ 0x8B ∷ codes "tx_metadata" ++ c → c ≡ 0xA1 ∷ 0x85 ∷ codes "token" ++ d → SpellsFront (text s) rest d → rest ≡ [] → SpellsEntries (token_entries s) b
+unfolding marker lib.Utf8.encode
+token_entry s b c d rest is inner t none = (
+  0x8B ∷ codes "tx_metadata",
+  c,
+  [],
+  record { size = Here 11; field = []; sized = (refl, refl); utf8 = (codes "tx_metadata", (refl, refl)); begins = (0x8B, refl, refl) },
+  (
+    Here 1,
+    [],
+    0x85 ∷ codes "token" ++ d,
+    (refl, refl),
+    (
+      0x85 ∷ codes "token",
+      t.0,
+      rest,
+      record { size = Here 5; field = []; sized = (refl, refl); utf8 = (codes "token", (refl, refl)); begins = (0x85, refl, refl) },
+      t.1.1,
+      none,
+      ap (λ x. 0x85 ∷ codes "token" ++ x) t.2,
+    ),
+    (0xA1, refl, inner),
+  ),
+  refl,
+  is ∙ ap (λ x. 0x8B ∷ codes "tx_metadata" ++ x) (sym (append-nil c)),
+)
+
+pub token_scanned : (v : Version) (s w b : List ℕ) → AreBytes w → w ≡ 0xA1 ∷ b → SpellsEntries (token_entries s) b → is_token s ≡ true → IsUtf8 s → SpellsExtra v ignored of_transaction (mode_tree Write ∷ text s ∷ []) w
+unfolding marker
+token_scanned v s w b bytes is q f u = record {
+  entries = token_entries s;
+  good = write_good s u;
+  deep = omega arith;
+  spelled = (bytes, (Here 1, [], b, (refl, refl), q, (0xA1, refl, is)));
+  told = rw f refl;
+}
+
+pub mode_and_token_scanned : (v : Version) (s w b : List ℕ) → AreBytes w → w ≡ 0xA2 ∷ 0x84 ∷ codes "mode" ++ 0x81 ∷ 0x72 ∷ b → SpellsEntries (token_entries s) b → is_token s ≡ true → IsUtf8 s
+    → SpellsExtra v ignored of_transaction (mode_tree Read ∷ text s ∷ []) w
+unfolding marker lib.Utf8.encode
+mode_and_token_scanned v s w b bytes is q f u = record {
+  entries = entry_then (codes "mode") (text (codes "r")) (token_entries s);
+  good = read_good s u;
+  deep = omega arith;
+  spelled = (
+    bytes,
+    (
+      Here 2,
+      [],
+      0x84 ∷ codes "mode" ++ 0x81 ∷ 0x72 ∷ b,
+      (refl, refl),
+      (
+        0x84 ∷ codes "mode",
+        0x81 ∷ 0x72 ∷ [],
+        b,
+        record { size = Here 4; field = []; sized = (refl, refl); utf8 = (codes "mode", (refl, refl)); begins = (0x84, refl, refl) },
+        record { size = Here 1; field = []; sized = (refl, refl); utf8 = (codes "r", (refl, refl)); begins = (0x81, refl, refl) },
+        q,
+        refl,
+      ),
+      (0xA2, refl, is),
+    ),
+  );
+  told = rw f refl;
+}

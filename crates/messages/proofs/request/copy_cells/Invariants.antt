@@ -1,0 +1,6 @@
+use Rattle.std.proofs.Common.{◌≡◌, take}
+use Rattle.cells.specs.Prelude.{entries}
+use Rattle.messages.proofs.request.copy_cells.Given as goal
+
+abbrev pub invariant-loop-name : goal.invariant-loop-name
+invariant-loop-name l = entries l.copies.items ≡ entries (take l.name-index l.name-items)

@@ -1,0 +1,133 @@
+//! Parts of a message that are read of requests and of responses.
+ghost use Rattle.std.specs.Prelude.{[], ◌≡◌, IfOk, OnOk};
+ghost use Rattle.wire.specs.declared.Version.{Version as AnyVersion};
+ghost use Rattle.messages.specs.Scanned.{SpellsDict};
+ghost use Rattle.packstream.specs.Tree.{list, dict};
+ghost use Rattle.packstream.specs.View.{tree, trees, trees_of, entries as value_entries, entries_of};
+ghost use Rattle.cells.specs.Shape.{entries, shape, shapes};
+ghost use Rattle.messages.specs.Reading.{Answers, cell_of_field};
+ghost use Rattle.messages.specs.Parts.{entries_of_dict, only_dict, no_field, one_field, dict_of_cells, list_of_cells, as_dict, as_list};
+
+use crate::fault::MsgFault;
+use packstream::Value;
+use scanner::{Unscanned, scan_dict};
+use std::alloc::Global;
+use structures::{Cell, read_value};
+use wire::Version;
+
+/// No field.
+#[tactic(auto, using(crate::proofs::Fields::some_field))]
+pub(crate) fn none(fields: &[Value]) -> Result<(), MsgFault>
+    ensures { Answers (λ _. tt) result (no_field (trees_of (trees fields.now))) }
+{
+    if fields.is_empty() {
+        Ok(())
+    } else {
+        Err(MsgFault::Fields)
+    }
+}
+
+/// One field.
+#[tactic(auto, using(crate::proofs::Fields::not_one))]
+pub(crate) fn one(fields: &[Value]) -> Result<&Value, MsgFault>
+    ensures { Answers (λ x. tree x.now) result (one_field (trees_of (trees fields.now))) }
+{
+    if fields.len() != 1 {
+        return Err(MsgFault::Fields);
+    }
+    Ok(&fields[0])
+}
+
+/// A dictionary.
+#[tactic(auto, using(packstream::proofs::Putting::tree_of_dict))]
+pub(crate) fn entries_in(field: &Value) -> Result<&[(String, Value)], MsgFault>
+    ensures { Answers (λ x. entries_of (value_entries x.now)) result
+        (entries_of_dict (tree field.now)) }
+{
+    match field {
+        Value::Dict(pairs) => Ok(pairs),
+        _ => Err(MsgFault::Fields),
+    }
+}
+
+/// One field, a dictionary.
+pub(crate) fn extra_in(fields: &[Value]) -> Result<&[(String, Value)], MsgFault>
+    ensures { Answers (λ x. entries_of (value_entries x.now)) result
+        (only_dict (trees_of (trees fields.now))) }
+{
+    entries_in(one(fields)?)
+}
+
+/// The cell in a field.
+fn cell_in(alloc: Global, version: Version, field: &Value) -> Result<Cell, MsgFault>
+    ensures { Answers shape result (cell_of_field version (tree field.now)) }
+{
+    Ok(read_value(alloc, version, field)?)
+}
+
+/// The entries of a cell that is a dictionary.
+#[tactic(auto, using(speller::proofs::Flat::shape_of_dict))]
+fn entries_of_cell(cell: Cell) -> Result<Vec<(String, Cell)>, MsgFault>
+    ensures { Answers (λ v. dict (entries_of (entries v.items))) result (as_dict (shape cell)) }
+{
+    match cell {
+        Cell::Dict(pairs) => Ok(pairs),
+        _ => Err(MsgFault::Fields),
+    }
+}
+
+/// The members of a cell that is a list.
+fn members_of_cell(cell: Cell) -> Result<Vec<Cell>, MsgFault>
+    ensures { Answers (λ v. list (trees_of (shapes v.items))) result (as_list (shape cell)) }
+{
+    match cell {
+        Cell::List(members) => Ok(members),
+        _ => Err(MsgFault::Fields),
+    }
+}
+
+/// A dictionary of cells.
+pub(crate) fn cells_in(
+    alloc: Global,
+    version: Version,
+    field: &Value,
+) -> Result<Vec<(String, Cell)>, MsgFault>
+    ensures { Answers (λ v. dict (entries_of (entries v.items))) result
+        (dict_of_cells version (tree field.now)) }
+{
+    entries_of_cell(cell_in(alloc, version, field)?)
+}
+
+/// A list of cells.
+pub(crate) fn row_in(alloc: Global, version: Version, field: &Value) -> Result<Vec<Cell>, MsgFault>
+    ensures { Answers (λ v. list (trees_of (shapes v.items))) result
+        (list_of_cells version (tree field.now)) }
+{
+    members_of_cell(cell_in(alloc, version, field)?)
+}
+
+/// How deep a field may nest: the message itself is one level of the 32.
+pub(crate) const FIELD_DEPTH: u8 = 31;
+
+/// That nothing is left.
+pub(crate) fn end(rest: &[u8]) -> Result<(), Unscanned>
+    ensures { OnOk result (rest.now ≡ []) }
+{
+    match rest {
+        [] => Ok(()),
+        _ => Err(Unscanned),
+    }
+}
+
+/// A dictionary of cells straight from the bytes, and what follows it.
+pub(crate) fn scan_cells(
+    alloc: Global,
+    version: Version,
+    bytes: &[u8],
+) -> Result<(Vec<(String, Cell)>, &[u8]), Unscanned>
+    ensures { IfOk result (λ x. SpellsDict version
+        (dict (entries_of (entries x.0.items))) x.1.now bytes.now) }
+{
+    let (pairs, rest) = scan_dict(alloc, version, bytes, FIELD_DEPTH)?;
+    Ok((pairs, rest))
+}

@@ -1,0 +1,313 @@
+//! Requests, read in two ways: of a value, which also tells what is wrong, and straight from the bytes. What the second doesn't
+//! read goes the first.
+ghost use Rattle.std.specs.Prelude.{◌∷◌, [], IfOk};
+ghost use Rattle.packstream.specs.View.{tree, trees, trees_of, entries as value_entries, entries_of};
+ghost use Rattle.wire.specs.declared.Version.{Version as AnyVersion};
+ghost use Rattle.wire.specs.Versions.{every_version};
+ghost use Rattle.messages.specs.Table.{ignored, refused, extra, text_field, cells, hello, credentials, of_transaction, how_many, HELLO, LOGON, LOGOFF, GOODBYE, RESET, RUN, BEGIN, COMMIT, ROLLBACK, DISCARD, PULL, requests, hello_tag, logon_tag, run_tag, begin_tag, discard_tag, pull_tag};
+ghost use Rattle.messages.specs.View.{request_view};
+ghost use Rattle.messages.specs.Reading.{Answers, contents_of_row, contents_at_tag, contents_of_message, request_contents};
+ghost use Rattle.messages.specs.Parts.{contents_of_plain, contents_of_run, parts, run_parts, field_text};
+ghost use Rattle.messages.specs.Messages.{Req};
+
+use crate::cell_entries::{auth_among, text_among};
+use crate::entries::{auth_of, count_in, mode_in, text_in, token_in};
+use crate::fault::MsgFault;
+use crate::read_parts::{cells_in, entries_in, extra_in, none, scan_cells};
+use crate::request::Request;
+use crate::scan_entries::{cells_of_extra, rows_in, transaction_in};
+use crate::tags;
+use packstream::Value;
+use scanner::{Unscanned, scan_text};
+use std::alloc::Global;
+use wire::Version;
+
+/// A request without fields.
+fn plain(request: Request, fields: &[Value]) -> Result<Request, MsgFault>
+    ensures { Answers (λ r. request_contents (request_view r)) result
+        (contents_of_plain (request_contents (request_view request))
+        (trees_of (trees fields.now))) }
+{
+    none(fields)?;
+    Ok(request)
+}
+
+/// HELLO: the client's name, and who it is if the version tells that with it.
+#[tactic(auto, using(crate::proofs::Fields::extra_row, crate::proofs::Fields::login_here))]
+fn hello_of(version: Version, fields: &[Value]) -> Result<Request, MsgFault>
+    ensures { Answers (λ r. request_contents (request_view r)) result
+        (contents_of_row version HELLO (extra ignored hello ∷ [])
+        (trees_of (trees fields.now))) }
+{
+    let pairs = extra_in(fields)?;
+    let agent = text_in(pairs, "user_agent")?;
+    if !version.hello_has_login() {
+        return Ok(Request::Hello { agent, auth: None });
+    }
+    let auth = auth_of(pairs)?;
+    Ok(Request::Hello {
+        agent,
+        auth: Some(auth),
+    })
+}
+
+#[tactic(auto, using(crate::proofs::Fields::extra_row))]
+fn logon_of(fields: &[Value]) -> Result<Request, MsgFault>
+    ensures { (v : AnyVersion)
+        → Answers (λ r. request_contents (request_view r)) result
+        (contents_of_row v LOGON (extra ignored (credentials every_version) ∷ [])
+        (trees_of (trees fields.now))) }
+{
+    let pairs = extra_in(fields)?;
+    let auth = auth_of(pairs)?;
+    Ok(Request::Logon(auth))
+}
+
+#[tactic(auto, using(crate::proofs::Fields::extra_row))]
+fn begin_of(fields: &[Value]) -> Result<Request, MsgFault>
+    ensures { (v : AnyVersion)
+        → Answers (λ r. request_contents (request_view r)) result
+        (contents_of_row v BEGIN (extra ignored of_transaction ∷ [])
+        (trees_of (trees fields.now))) }
+{
+    let pairs = extra_in(fields)?;
+    let mode = mode_in(pairs)?;
+    let token = token_in(pairs)?;
+    Ok(Request::Begin { mode, token })
+}
+
+#[tactic(auto, using(crate::proofs::Fields::extra_row))]
+fn discard_of(fields: &[Value]) -> Result<Request, MsgFault>
+    ensures { (v : AnyVersion)
+        → Answers (λ r. request_contents (request_view r)) result
+        (contents_of_row v DISCARD (extra refused how_many ∷ [])
+        (trees_of (trees fields.now))) }
+{
+    let pairs = extra_in(fields)?;
+    Ok(Request::Discard(count_in(pairs)?))
+}
+
+#[tactic(auto, using(crate::proofs::Fields::extra_row))]
+fn pull_of(fields: &[Value]) -> Result<Request, MsgFault>
+    ensures { (v : AnyVersion)
+        → Answers (λ r. request_contents (request_view r)) result
+        (contents_of_row v PULL (extra refused how_many ∷ []) (trees_of (trees fields.now))) }
+{
+    let pairs = extra_in(fields)?;
+    Ok(Request::Pull(count_in(pairs)?))
+}
+
+fn text_in_field(field: &Value) -> Result<&str, MsgFault>
+    ensures { Answers (λ s. s.now) result (field_text (tree field.now)) }
+{
+    match field {
+        Value::Text(text) => Ok(text.as_str()),
+        _ => Err(MsgFault::Fields),
+    }
+}
+
+/// The text, the parameters and the other entries of a RUN.
+#[tactic(auto, using(crate::proofs::Fields::not_three))]
+fn run_fields(fields: &[Value]) -> Result<(&str, &Value, &[(String, Value)]), MsgFault>
+    ensures { Answers
+        (λ x. parts x.0.now (tree x.1.now) (entries_of (value_entries x.2.now)))
+        result (run_parts (trees_of (trees fields.now))) }
+{
+    if fields.len() != 3 {
+        return Err(MsgFault::Fields);
+    }
+    let text = text_in_field(&fields[0])?;
+    let _ = entries_in(&fields[1])?;
+    let pairs = entries_in(&fields[2])?;
+    Ok((text, &fields[1], pairs))
+}
+
+fn run_with(
+    alloc: Global,
+    version: Version,
+    text: &str,
+    field: &Value,
+    pairs: &[(String, Value)],
+) -> Result<Request, MsgFault>
+    ensures { Answers (λ r. request_contents (request_view r)) result
+        (contents_of_run version text.now (tree field.now)
+        (entries_of (value_entries pairs.now))) }
+{
+    let mode = mode_in(pairs)?;
+    let token = token_in(pairs)?;
+    let params = cells_in(alloc, version, field)?;
+    let text = String::from_str(alloc, text)?;
+    Ok(Request::Run {
+        text,
+        params,
+        mode,
+        token,
+    })
+}
+
+#[tactic(auto, using(crate::proofs::Fields::run_row))]
+fn run_of(alloc: Global, version: Version, fields: &[Value]) -> Result<Request, MsgFault>
+    ensures { Answers (λ r. request_contents (request_view r)) result
+        (contents_of_row version RUN (text_field ∷ cells ∷ extra ignored of_transaction ∷ [])
+        (trees_of (trees fields.now))) }
+{
+    let (text, field, pairs) = run_fields(fields)?;
+    run_with(alloc, version, text, field, pairs)
+}
+
+/// The request of a structure with this tag and these fields.
+#[tactic(auto, using(crate::proofs::Fields::none_row))]
+fn request_tagged(
+    alloc: Global,
+    version: Version,
+    tag: u8,
+    fields: &[Value],
+) -> Result<Request, MsgFault>
+    ensures { Answers (λ r. request_contents (request_view r)) result
+        (contents_at_tag version requests tag (trees_of (trees fields.now))) }
+{
+    match (tag, version.has_logon()) {
+        (tags::HELLO, _) => hello_of(version, fields),
+        (tags::LOGON, true) => logon_of(fields),
+        (tags::LOGOFF, true) => plain(Request::Logoff, fields),
+        (tags::GOODBYE, _) => plain(Request::Goodbye, fields),
+        (tags::RESET, _) => plain(Request::Reset, fields),
+        (tags::RUN, _) => run_of(alloc, version, fields),
+        (tags::BEGIN, _) => begin_of(fields),
+        (tags::COMMIT, _) => plain(Request::Commit, fields),
+        (tags::ROLLBACK, _) => plain(Request::Rollback, fields),
+        (tags::DISCARD, _) => discard_of(fields),
+        (tags::PULL, _) => pull_of(fields),
+        _ => Err(MsgFault::UnknownTag),
+    }
+}
+
+/// The request of a value, by the table of requests.
+pub(crate) fn request_of_value(
+    alloc: Global,
+    version: Version,
+    value: &Value,
+) -> Result<Request, MsgFault>
+    ensures { Answers (λ r. request_contents (request_view r)) result
+        (contents_of_message version requests (tree value.now)) }
+{
+    match value {
+        Value::Struct(tag, fields) => request_tagged(alloc, version, *tag, fields),
+        _ => Err(MsgFault::NotAMessage),
+    }
+}
+
+/// A HELLO behind its head: the client's name, and who it is if the version tells that with it.
+fn scan_hello(alloc: Global, version: Version, bytes: &[u8]) -> Result<Request, Unscanned>
+    ensures { IfOk result (λ r. Req version (request_view r) (0xB1 ∷ hello_tag ∷ bytes.now)) }
+{
+    let pairs = cells_of_extra(alloc, version, bytes)?;
+    let agent = text_among(&pairs, "user_agent")?;
+    if !version.hello_has_login() {
+        return Ok(Request::Hello { agent, auth: None });
+    }
+    let auth = auth_among(&pairs)?;
+    Ok(Request::Hello {
+        agent,
+        auth: Some(auth),
+    })
+}
+
+/// A LOGON behind its head.
+fn scan_logon(alloc: Global, version: Version, bytes: &[u8]) -> Result<Request, Unscanned>
+    ensures { IfOk result (λ r. Req version (request_view r) (0xB1 ∷ logon_tag ∷ bytes.now)) }
+{
+    if !version.has_logon() {
+        return Err(Unscanned);
+    }
+    let pairs = cells_of_extra(alloc, version, bytes)?;
+    let auth = auth_among(&pairs)?;
+    Ok(Request::Logon(auth))
+}
+
+/// A PULL behind its head.
+#[tactic(auto, using(crate::proofs::Scanned::pull_means))]
+fn scan_pull(bytes: &[u8]) -> Result<Request, Unscanned>
+    ensures { (v : AnyVersion) → IfOk result
+        (λ r. Req v (request_view r) (0xB1 ∷ pull_tag ∷ bytes.now)) }
+{
+    let count = rows_in(bytes)?;
+    Ok(Request::Pull(count))
+}
+
+/// A DISCARD behind its head.
+#[tactic(auto, using(crate::proofs::Scanned::discard_means))]
+fn scan_discard(bytes: &[u8]) -> Result<Request, Unscanned>
+    ensures { (v : AnyVersion) → IfOk result
+        (λ r. Req v (request_view r) (0xB1 ∷ discard_tag ∷ bytes.now)) }
+{
+    let count = rows_in(bytes)?;
+    Ok(Request::Discard(count))
+}
+
+/// A BEGIN behind its head.
+#[tactic(auto, using(crate::proofs::Scanned::begin_means))]
+fn scan_begin(alloc: Global, version: Version, bytes: &[u8]) -> Result<Request, Unscanned>
+    ensures { (v : AnyVersion) → IfOk result
+        (λ r. Req v (request_view r) (0xB1 ∷ begin_tag ∷ bytes.now)) }
+{
+    let (mode, token) = transaction_in(alloc, version, bytes)?;
+    Ok(Request::Begin { mode, token })
+}
+
+/// A RUN behind its head.
+fn scan_run(alloc: Global, version: Version, bytes: &[u8]) -> Result<Request, Unscanned>
+    ensures { IfOk result (λ r. Req version (request_view r) (0xB3 ∷ run_tag ∷ bytes.now)) }
+{
+    let (query, rest) = scan_text(bytes)?;
+    let (params, rest) = scan_cells(alloc, version, rest)?;
+    let (mode, token) = transaction_in(alloc, version, rest)?;
+    let text = String::from_str(alloc, query)?;
+    Ok(Request::Run {
+        text,
+        params,
+        mode,
+        token,
+    })
+}
+
+/// A request without fields.
+#[tactic(auto, using(crate::proofs::Scanned::plain_means))]
+fn scan_plain(version: Version, tag: u8) -> Result<Request, Unscanned>
+    ensures { IfOk result (λ r. Req version (request_view r) (0xB0 ∷ tag ∷ [])) }
+{
+    match (version.has_logon(), tag) {
+        (true, tags::LOGOFF) => Ok(Request::Logoff),
+        (_, tags::GOODBYE) => Ok(Request::Goodbye),
+        (_, tags::RESET) => Ok(Request::Reset),
+        (_, tags::COMMIT) => Ok(Request::Commit),
+        (_, tags::ROLLBACK) => Ok(Request::Rollback),
+        _ => Err(Unscanned),
+    }
+}
+
+/// A request of one field, behind its head.
+fn scan_one(alloc: Global, version: Version, tag: u8, bytes: &[u8]) -> Result<Request, Unscanned>
+    ensures { IfOk result (λ r. Req version (request_view r) (0xB1 ∷ tag ∷ bytes.now)) }
+{
+    match tag {
+        tags::PULL => scan_pull(bytes),
+        tags::DISCARD => scan_discard(bytes),
+        tags::BEGIN => scan_begin(alloc, version, bytes),
+        tags::HELLO => scan_hello(alloc, version, bytes),
+        tags::LOGON => scan_logon(alloc, version, bytes),
+        _ => Err(Unscanned),
+    }
+}
+
+/// The request that the bytes of one message stand for at the version, read straight from them; or nothing is said.
+pub fn scan_request(alloc: Global, version: Version, bytes: &[u8]) -> Result<Request, Unscanned>
+    ensures { IfOk result (λ r. Req version (request_view r) bytes.now) }
+{
+    match bytes {
+        [0xB3, tags::RUN, rest @ ..] => scan_run(alloc, version, rest),
+        [0xB1, tag, rest @ ..] => scan_one(alloc, version, *tag, rest),
+        [0xB0, tag] => scan_plain(version, *tag),
+        _ => Err(Unscanned),
+    }
+}

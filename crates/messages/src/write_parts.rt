@@ -1,0 +1,134 @@
+//! Parts of a message that are written of requests and of responses.
+ghost use Rattle.std.specs.Prelude.{◌≡◌, true, false, ◌∷◌, [], ◌++◌, Ok, IfOk, OnOk, ◌≤◌, ◌+◌, length};
+ghost use Rattle.packstream.specs.Tree.{text, dict, structure, no_trees, tree_then};
+ghost use Rattle.packstream.specs.View.{tree, entries as value_entries, entries_of};
+ghost use Rattle.cells.specs.Shape.{entries, text_of};
+ghost use Rattle.messages.specs.Reading.{Answers};
+ghost use Rattle.messages.specs.Cells.{cell_put};
+ghost use Rattle.packstream.specs.Limits.{max_size};
+ghost use Rattle.messages.specs.Added.{Adds, AddsCells};
+ghost use Rattle.wire.specs.declared.Version.{Version as AnyVersion};
+
+use crate::fault::MsgFault;
+use bytes::BytesMut;
+use packstream::{MAX_SIZE, Value};
+use speller::{Adding, Unspelled, put_dict};
+use std::alloc::{AllocError, Global};
+use structures::{Cell, write_entries};
+use wire::Version;
+
+/// Adds an entry.
+pub(crate) fn push(
+    pairs: &mut Vec<(String, Value)>,
+    name: &str,
+    value: Value,
+) -> Result<(), AllocError>
+    ensures { OnOk result (value_entries pairs.new.items
+        ≡ value_entries pairs.old.items ++ (name.now, tree value) ∷ []) }
+{
+    let key = String::from_str(*pairs.allocator(), name)?;
+    pairs.push((key, value))?;
+    Ok(())
+}
+
+/// Adds a text.
+pub(crate) fn push_text(
+    pairs: &mut Vec<(String, Value)>,
+    name: &str,
+    text: &String,
+) -> Result<(), AllocError>
+    ensures { OnOk result (value_entries pairs.new.items
+        ≡ value_entries pairs.old.items ++ (name.now, text_of text.now) ∷ []) }
+{
+    push(pairs, name, Value::Text(text.clone()?))
+}
+
+/// A structure of one field.
+pub(crate) fn of_one(alloc: Global, tag: u8, field: Value) -> Result<Value, AllocError>
+    ensures { IfOk result (λ w. tree w ≡ structure tag (tree_then (tree field) no_trees)) }
+{
+    Ok(Value::Struct(tag, vec![in alloc; field]?))
+}
+
+/// A structure of one dictionary.
+#[tactic(auto, using(packstream::proofs::Putting::tree_of_dict))]
+pub(crate) fn of_dict(
+    alloc: Global,
+    tag: u8,
+    pairs: Vec<(String, Value)>,
+) -> Result<Value, AllocError>
+    ensures { IfOk result (λ w. tree w
+        ≡ structure tag (tree_then (dict (entries_of (value_entries pairs.items))) no_trees)) }
+{
+    of_one(alloc, tag, Value::Dict(pairs))
+}
+
+/// A structure without fields.
+pub(crate) fn plain(alloc: Global, tag: u8) -> Result<Value, MsgFault>
+    ensures { Answers tree result (Ok (structure tag no_trees)) }
+{
+    Ok(Value::Struct(tag, Vec::new(alloc)))
+}
+
+/// The value of a dictionary of cells.
+pub(crate) fn cells_value(
+    alloc: Global,
+    version: Version,
+    cells: &Vec<(String, Cell)>,
+) -> Result<Value, MsgFault>
+    ensures { Answers tree result (cell_put version (dict (entries_of (entries cells.now.items)))) }
+{
+    let packed = write_entries(alloc, version, cells)?;
+    Ok(packed.into_value())
+}
+
+/// How deep a field may nest: the message itself is one level of the 32.
+pub(crate) const FIELD_DEPTH: u8 = 31;
+
+/// The head of a structure.
+pub(crate) fn put_structure(out: &mut Adding, count: u8, tag: u8) -> Result<(), Unspelled>
+    requires { count ≤ 15 }
+    ensures before { out.new.before ≡ out.old.before }
+    ensures ok { OnOk result (out.new.more ≡ out.old.more ++ (0xB0 + count) ∷ tag ∷ []) }
+{
+    out.extend_from_slice(&[0xB0 + count, tag])?;
+    Ok(())
+}
+
+/// A structure without fields.
+#[tactic(auto, using(crate::proofs::Added::plain_added))]
+pub(crate) fn put_plain(out: &mut Adding, tag: u8) -> Result<(), Unspelled>
+    ensures before { out.new.before ≡ out.old.before }
+    ensures adds { OnOk result (Adds (Ok (structure tag no_trees)) out.old.more out.new.more) }
+{
+    put_structure(out, 0, tag)?;
+    Ok(())
+}
+
+/// Gives the output back with what was added, if that is no longer than a message may be, else as it was.
+pub(crate) fn keep_short(out: &mut BytesMut, adding: Adding) -> bool
+    ensures kept { result ≡ true → out.new.items ≡ adding.before ++ adding.more }
+    ensures short { result ≡ true → length adding.more ≤ max_size }
+    ensures undone { result ≡ false → out.new.items ≡ adding.before }
+{
+    if adding.len() > MAX_SIZE {
+        *out = adding.undo();
+        return false;
+    }
+    *out = adding.keep();
+    true
+}
+
+/// A dictionary of cells, in the form of the version.
+pub(crate) fn put_cells(
+    out: &mut Adding,
+    version: Version,
+    cells: &Vec<(String, Cell)>,
+) -> Result<(), Unspelled>
+    ensures before { out.new.before ≡ out.old.before }
+    ensures adds { OnOk result
+        (AddsCells version (dict (entries_of (entries cells.now.items))) out.old.more out.new.more) }
+{
+    put_dict(out, version, cells.as_slice(), FIELD_DEPTH)?;
+    Ok(())
+}

@@ -1,0 +1,429 @@
+//! Requests, written in two ways: as a value, which also tells what is wrong, and straight into an output. What the second doesn't
+//! write goes the first.
+ghost use Rattle.std.specs.Prelude.{◌≡◌, true, false, ◌∷◌, [], ◌++◌, IfOk, OnOk, codes, Some, None, string_bytes, ◌≤◌, ◌+◌, length};
+ghost use Rattle.packstream.specs.Tree.{int, dict, structure, no_trees, tree_then};
+ghost use Rattle.packstream.specs.View.{tree, entries as value_entries, entries_of};
+ghost use Rattle.cells.specs.Shape.{entries, text_of};
+ghost use Rattle.messages.specs.View.{request_view, auth_in, auth_view, token_view, Hello, Logon, Logoff, Run};
+ghost use Rattle.messages.specs.Table.{run_tag, begin_tag};
+ghost use Rattle.messages.specs.Reading.{Answers, request_contents, count_tree};
+ghost use Rattle.messages.specs.Writing.{form_put};
+ghost use Rattle.messages.specs.Parts.{with_dict, transaction_put, rows_put, mode_pairs, token_dict, token_pairs, count_number};
+ghost use Rattle.wire.specs.declared.Version.{Version as AnyVersion};
+ghost use Rattle.wire.specs.Versions.{hello_has_login};
+ghost use Rattle.packstream.specs.Limits.{max_size};
+ghost use Rattle.messages.specs.Added.{Adds};
+
+use crate::entries::is_token;
+use crate::fault::MsgFault;
+use crate::put_entries::{put_agent, put_agent_and_login, put_auth, put_number, put_transaction};
+use crate::request::{Auth, Count, Mode, Request};
+use crate::tags;
+use crate::write_parts::{
+    cells_value, keep_short, of_dict, plain, push, push_text, put_cells, put_plain, put_structure,
+};
+use bytes::BytesMut;
+use packstream::Value;
+use speller::{Adding, Unspelled, put_text};
+use std::alloc::{AllocError, Global};
+use structures::Cell;
+use wire::Version;
+
+/// Adds who a client is.
+fn push_auth(pairs: &mut Vec<(String, Value)>, auth: &Auth) -> Result<(), AllocError>
+    ensures { OnOk result (value_entries pairs.new.items
+        ≡ value_entries pairs.old.items ++ (codes "scheme", text_of auth.now.scheme) ∷ []
+        ++ (codes "principal", text_of auth.now.principal) ∷ []
+        ++ (codes "credentials", text_of auth.now.credentials) ∷ []) }
+{
+    push_text(pairs, "scheme", &auth.scheme)?;
+    push_text(pairs, "principal", &auth.principal)?;
+    push_text(pairs, "credentials", &auth.credentials)?;
+    Ok(())
+}
+
+fn hello_with_auth(alloc: Global, agent: &String, auth: &Auth) -> Result<Value, MsgFault>
+    ensures { (v : AnyVersion) → hello_has_login v ≡ true
+        → Answers tree result (form_put v
+        (request_contents (Hello (string_bytes agent.now) (Some (auth_view auth.now))))) }
+{
+    let mut pairs = Vec::new(alloc);
+    push_text(&mut pairs, "user_agent", agent)?;
+    push_auth(&mut pairs, auth)?;
+    Ok(of_dict(alloc, tags::HELLO, pairs)?)
+}
+
+fn hello_alone(alloc: Global, agent: &String) -> Result<Value, MsgFault>
+    ensures { (v : AnyVersion) → hello_has_login v ≡ false
+        → Answers tree result (form_put v
+        (request_contents (Hello (string_bytes agent.now) None))) }
+{
+    let mut pairs = Vec::new(alloc);
+    push_text(&mut pairs, "user_agent", agent)?;
+    Ok(of_dict(alloc, tags::HELLO, pairs)?)
+}
+
+/// HELLO, with who the client is if the version tells it there.
+fn hello_value(
+    alloc: Global,
+    version: Version,
+    agent: &String,
+    auth: &Option<Auth>,
+) -> Result<Value, MsgFault>
+    ensures { Answers tree result
+        (form_put version (request_contents
+        (Hello (string_bytes agent.now) (auth_in auth.now)))) }
+{
+    match (version.hello_has_login(), auth) {
+        (true, Some(auth)) => hello_with_auth(alloc, agent, auth),
+        (false, None) => hello_alone(alloc, agent),
+        _ => Err(MsgFault::Extra),
+    }
+}
+
+/// LOGON, if the version has it.
+fn logon_value(alloc: Global, version: Version, auth: &Auth) -> Result<Value, MsgFault>
+    ensures { Answers tree result
+        (form_put version (request_contents (Logon (auth_view auth.now)))) }
+{
+    if !version.has_logon() {
+        return Err(MsgFault::UnknownTag);
+    }
+    let mut pairs = Vec::new(alloc);
+    push_auth(&mut pairs, auth)?;
+    Ok(of_dict(alloc, tags::LOGON, pairs)?)
+}
+
+fn logoff_value(alloc: Global, version: Version) -> Result<Value, MsgFault>
+    ensures { Answers tree result (form_put version (request_contents Logoff)) }
+{
+    if version.has_logon() {
+        plain(alloc, tags::LOGOFF)
+    } else {
+        Err(MsgFault::UnknownTag)
+    }
+}
+
+/// The entry of a mode; that of writing isn't written.
+fn mode_entries(alloc: Global, mode: Mode) -> Result<Vec<(String, Value)>, AllocError>
+    ensures { IfOk result (λ pairs. value_entries pairs.items ≡ mode_pairs mode) }
+{
+    let mut pairs = Vec::new(alloc);
+    if mode == Mode::Read {
+        let text = String::from_str(alloc, "r")?;
+        push(&mut pairs, "mode", Value::Text(text))?;
+    }
+    Ok(pairs)
+}
+
+/// A dictionary of a token alone.
+#[tactic(auto, using(packstream::proofs::Putting::tree_of_dict))]
+fn token_value(alloc: Global, token: &String) -> Result<Value, AllocError>
+    ensures { IfOk result (λ w. tree w ≡ token_dict (string_bytes token.now)) }
+{
+    let mut words = Vec::new(alloc);
+    push_text(&mut words, "token", token)?;
+    Ok(Value::Dict(words))
+}
+
+/// The entries of a transaction with a token.
+fn with_token(alloc: Global, mode: Mode, token: &String) -> Result<Vec<(String, Value)>, MsgFault>
+    ensures { Answers (λ pairs. value_entries pairs.items) result
+        (token_pairs mode (string_bytes token.now)) }
+{
+    if !is_token(token.as_str()) {
+        return Err(MsgFault::Extra);
+    }
+    let mut pairs = mode_entries(alloc, mode)?;
+    let words = token_value(alloc, token)?;
+    push(&mut pairs, "tx_metadata", words)?;
+    Ok(pairs)
+}
+
+/// The entries of a transaction: its mode, and its token if it has one.
+fn transaction_entries(
+    alloc: Global,
+    mode: Mode,
+    token: &Option<String>,
+) -> Result<Vec<(String, Value)>, MsgFault>
+    ensures { Answers (λ pairs. entries_of (value_entries pairs.items)) result
+        (transaction_put mode (token_view token.now)) }
+{
+    match token {
+        None => Ok(mode_entries(alloc, mode)?),
+        Some(token) => with_token(alloc, mode, token),
+    }
+}
+
+fn begin_value(alloc: Global, mode: Mode, token: &Option<String>) -> Result<Value, MsgFault>
+    ensures { Answers tree result
+        (with_dict begin_tag (transaction_put mode (token_view token.now))) }
+{
+    let pairs = transaction_entries(alloc, mode, token)?;
+    Ok(of_dict(alloc, tags::BEGIN, pairs)?)
+}
+
+/// The number that stands for a count.
+pub(crate) fn number_of(count: Count) -> Result<i64, MsgFault>
+    ensures { Answers int result (count_number (count_tree count)) }
+{
+    match count {
+        Count::All => Ok(-1),
+        Count::Of(n) => { if n >= 1 { Ok(n) } else { Err(MsgFault::Extra) } }
+    }
+}
+
+/// A structure of a count.
+fn count_value(alloc: Global, tag: u8, count: Count) -> Result<Value, MsgFault>
+    ensures { Answers tree result (with_dict tag (rows_put count)) }
+{
+    let number = number_of(count)?;
+    let mut pairs = Vec::new(alloc);
+    push(&mut pairs, "n", Value::Int(number))?;
+    Ok(of_dict(alloc, tag, pairs)?)
+}
+
+/// A structure of three fields.
+fn of_three(
+    alloc: Global,
+    tag: u8,
+    first: Value,
+    second: Value,
+    third: Value,
+) -> Result<Value, AllocError>
+    ensures { IfOk result (λ w. tree w
+        ≡ structure tag (tree_then (tree first)
+        (tree_then (tree second) (tree_then (tree third) no_trees)))) }
+{
+    Ok(Value::Struct(tag, vec![in alloc; first, second, third]?))
+}
+
+/// A RUN of a text, the parameters' value and the other entries.
+fn of_run(
+    alloc: Global,
+    text: &String,
+    params: Value,
+    pairs: Vec<(String, Value)>,
+) -> Result<Value, AllocError>
+    ensures { IfOk result (λ w. tree w
+        ≡ structure run_tag (tree_then (text_of text.now)
+        (tree_then (tree params)
+        (tree_then (dict (entries_of (value_entries pairs.items))) no_trees)))) }
+{
+    let text = text.clone()?;
+    of_three(
+        alloc,
+        tags::RUN,
+        Value::Text(text),
+        params,
+        Value::Dict(pairs),
+    )
+}
+
+fn run_value(
+    alloc: Global,
+    version: Version,
+    text: &String,
+    params: &Vec<(String, Cell)>,
+    mode: Mode,
+    token: &Option<String>,
+) -> Result<Value, MsgFault>
+    ensures { Answers tree result
+        (form_put version (request_contents
+        (Run (string_bytes text.now) (entries params.now.items) mode (token_view token.now)))) }
+{
+    let pairs = transaction_entries(alloc, mode, token)?;
+    let field = cells_value(alloc, version, params)?;
+    Ok(of_run(alloc, text, field, pairs)?)
+}
+
+/// The value of a request.
+pub(crate) fn request_value(
+    alloc: Global,
+    version: Version,
+    request: &Request,
+) -> Result<Value, MsgFault>
+    ensures { Answers tree result (form_put version (request_contents (request_view request.now))) }
+{
+    match request {
+        Request::Hello { agent, auth } => hello_value(alloc, version, agent, auth),
+        Request::Logon(auth) => logon_value(alloc, version, auth),
+        Request::Logoff => logoff_value(alloc, version),
+        Request::Goodbye => plain(alloc, tags::GOODBYE),
+        Request::Reset => plain(alloc, tags::RESET),
+        Request::Run {
+            text,
+            params,
+            mode,
+            token,
+        } => run_value(alloc, version, text, params, *mode, token),
+        Request::Begin { mode, token } => begin_value(alloc, *mode, token),
+        Request::Commit => plain(alloc, tags::COMMIT),
+        Request::Rollback => plain(alloc, tags::ROLLBACK),
+        Request::Discard(count) => count_value(alloc, tags::DISCARD, *count),
+        Request::Pull(count) => count_value(alloc, tags::PULL, *count),
+    }
+}
+
+/// A structure of a count.
+#[tactic(auto, using(crate::proofs::Added::in_dict))]
+fn put_count(out: &mut Adding, tag: u8, count: Count) -> Result<(), Unspelled>
+    ensures before { out.new.before ≡ out.old.before }
+    ensures adds { OnOk result
+        (Adds (with_dict tag (rows_put count)) out.old.more out.new.more) }
+{
+    put_structure(out, 1, tag)?;
+    put_number(out, count)?;
+    Ok(())
+}
+
+#[tactic(auto, using(crate::proofs::Added::in_dict))]
+fn put_begin(out: &mut Adding, mode: Mode, token: &Option<String>) -> Result<(), Unspelled>
+    ensures before { out.new.before ≡ out.old.before }
+    ensures adds { OnOk result
+        (Adds (with_dict begin_tag (transaction_put mode (token_view token.now)))
+        out.old.more out.new.more) }
+{
+    put_structure(out, 1, tags::BEGIN)?;
+    put_transaction(out, mode, token)?;
+    Ok(())
+}
+
+#[tactic(auto, using(crate::proofs::Named::hello_added))]
+fn put_hello_alone(out: &mut Adding, agent: &String) -> Result<(), Unspelled>
+    ensures before { out.new.before ≡ out.old.before }
+    ensures adds { (v : AnyVersion) → hello_has_login v ≡ false
+        → OnOk result (Adds (form_put v (request_contents (Hello (string_bytes agent.now) None)))
+        out.old.more out.new.more) }
+{
+    put_structure(out, 1, tags::HELLO)?;
+    put_agent(out, agent)?;
+    Ok(())
+}
+
+#[tactic(auto, using(crate::proofs::Named::hello_and_login_added))]
+fn put_hello_with_auth(out: &mut Adding, agent: &String, auth: &Auth) -> Result<(), Unspelled>
+    ensures before { out.new.before ≡ out.old.before }
+    ensures adds { (v : AnyVersion) → hello_has_login v ≡ true
+        → OnOk result (Adds (form_put v (request_contents
+        (Hello (string_bytes agent.now) (Some (auth_view auth.now)))))
+        out.old.more out.new.more) }
+{
+    put_structure(out, 1, tags::HELLO)?;
+    put_agent_and_login(out, agent, auth)?;
+    Ok(())
+}
+
+/// HELLO, with who the client is if the version tells it there.
+fn put_hello(
+    out: &mut Adding,
+    version: Version,
+    agent: &String,
+    auth: &Option<Auth>,
+) -> Result<(), Unspelled>
+    ensures before { out.new.before ≡ out.old.before }
+    ensures adds { OnOk result (Adds
+        (form_put version (request_contents (Hello (string_bytes agent.now) (auth_in auth.now))))
+        out.old.more out.new.more) }
+{
+    match (version.hello_has_login(), auth) {
+        (true, Some(auth)) => put_hello_with_auth(out, agent, auth),
+        (false, None) => put_hello_alone(out, agent),
+        _ => Err(Unspelled),
+    }
+}
+
+/// LOGON, if the version has it.
+#[tactic(auto, using(crate::proofs::Named::logon_added))]
+fn put_logon(out: &mut Adding, version: Version, auth: &Auth) -> Result<(), Unspelled>
+    ensures before { out.new.before ≡ out.old.before }
+    ensures adds { OnOk result (Adds
+        (form_put version (request_contents (Logon (auth_view auth.now))))
+        out.old.more out.new.more) }
+{
+    if !version.has_logon() {
+        return Err(Unspelled);
+    }
+    put_structure(out, 1, tags::LOGON)?;
+    put_auth(out, auth)?;
+    Ok(())
+}
+
+/// LOGOFF, if the version has it.
+#[tactic(auto, using(crate::proofs::Named::logoff_added))]
+fn put_logoff(out: &mut Adding, version: Version) -> Result<(), Unspelled>
+    ensures before { out.new.before ≡ out.old.before }
+    ensures adds { OnOk result (Adds
+        (form_put version (request_contents Logoff)) out.old.more out.new.more) }
+{
+    if !version.has_logon() {
+        return Err(Unspelled);
+    }
+    put_plain(out, tags::LOGOFF)
+}
+
+fn put_run(
+    out: &mut Adding,
+    version: Version,
+    text: &String,
+    params: &Vec<(String, Cell)>,
+    mode: Mode,
+    token: &Option<String>,
+) -> Result<(), Unspelled>
+    ensures before { out.new.before ≡ out.old.before }
+    ensures adds { OnOk result (Adds
+        (form_put version (request_contents
+        (Run (string_bytes text.now) (entries params.now.items) mode (token_view token.now))))
+        out.old.more out.new.more) }
+{
+    put_structure(out, 3, tags::RUN)?;
+    put_text(out, text.as_str())?;
+    put_cells(out, version, params)?;
+    put_transaction(out, mode, token)?;
+    Ok(())
+}
+
+fn put_request(out: &mut Adding, version: Version, request: &Request) -> Result<(), Unspelled>
+    ensures before { out.new.before ≡ out.old.before }
+    ensures adds { OnOk result
+        (Adds (form_put version (request_contents (request_view request.now)))
+        out.old.more out.new.more) }
+{
+    match request {
+        Request::Hello { agent, auth } => put_hello(out, version, agent, auth),
+        Request::Logon(auth) => put_logon(out, version, auth),
+        Request::Logoff => put_logoff(out, version),
+        Request::Run {
+            text,
+            params,
+            mode,
+            token,
+        } => put_run(out, version, text, params, *mode, token),
+        Request::Pull(count) => put_count(out, tags::PULL, *count),
+        Request::Discard(count) => put_count(out, tags::DISCARD, *count),
+        Request::Begin { mode, token } => put_begin(out, *mode, token),
+        Request::Commit => put_plain(out, tags::COMMIT),
+        Request::Rollback => put_plain(out, tags::ROLLBACK),
+        Request::Reset => put_plain(out, tags::RESET),
+        Request::Goodbye => put_plain(out, tags::GOODBYE),
+    }
+}
+
+/// Appends the one spelling that is written of a request at the version, of at most 65,536 bytes, and says so; or appends nothing.
+#[tactic(auto, using(crate::proofs::Added::settled, crate::proofs::Added::short_by))]
+pub fn spell_request(version: Version, request: &Request, out: &mut BytesMut) -> bool
+    ensures adds { result ≡ true
+        → Adds (form_put version (request_contents (request_view request.now)))
+        out.old.items out.new.items }
+    ensures short { result ≡ true → length out.new.items ≤ length out.old.items + max_size }
+    ensures other { result ≡ false → out.new.items ≡ out.old.items }
+{
+    let mut adding = Adding::to(out);
+    match put_request(&mut adding, version, request) {
+        Ok(()) => keep_short(out, adding),
+        Err(_) => {
+            *out = adding.undo();
+            false
+        }
+    }
+}

@@ -1,0 +1,11 @@
+use Rattle.std.proofs.Common.{◌≡◌, rules, ap, to_z, of_z, w64}
+use Rattle.packstream.specs.Prelude.{int, no_trees, tree_then, layer, inner}
+use Rattle.cells.proofs.Views.{shape-Date}
+use Rattle.structures.specs.Prelude.{form}
+use Rattle.scanner.proofs.Laid.{has_fields}
+use Rattle.scanner.proofs.moments.date_of.Goals as goal
+
+pub returns : goal.returns
+returns c =
+    let z0 : to_z w64 (of_z w64 c.in_ok-days.days) ≡ c.in_ok-days.days = search rules in
+    λ v room. has_fields (layer (inner room)) c.args.count 0x44 (tree_then (int c.in_ok-days.days) no_trees) _ c.args.bytes.now _ (rw z0 (ap (form v) (shape-Date _))) c.in_ok-days.ensures.counted (c.in_ok-days.ensures.read room)

@@ -1,0 +1,13 @@
+use Rattle.std.proofs.Common.{◌≡◌, rules, ap, to_z, of_z, w64}
+use Rattle.packstream.specs.Prelude.{int, no_trees, tree_then, layer, inner}
+use Rattle.cells.specs.Prelude.{text_of}
+use Rattle.cells.proofs.Views.{shape-ZonedUtc}
+use Rattle.structures.specs.Prelude.{form}
+use Rattle.scanner.proofs.Laid.{has_fields}
+use Rattle.scanner.proofs.moments.zoned_utc_of.Goals as goal
+
+pub returns : goal.returns
+returns c =
+    let z0 : to_z w64 (of_z w64 c.in_ok-seconds.seconds) ≡ c.in_ok-seconds.seconds = search rules in
+    let z1 : to_z w64 (of_z w64 c.in_ok-seconds.nanos) ≡ c.in_ok-seconds.nanos = search rules in
+    λ v room. has_fields (layer (inner room)) c.args.count 0x69 (tree_then (int c.in_ok-seconds.seconds) (tree_then (int c.in_ok-seconds.nanos) (tree_then (text_of c.in_ok-seconds.zone) no_trees))) _ c.args.bytes.now _ (rw (z0, z1) (ap (form v) (shape-ZonedUtc _ _ _))) c.in_ok-seconds.ensures.counted (c.in_ok-seconds.ensures.read room)

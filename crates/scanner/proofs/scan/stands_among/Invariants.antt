@@ -1,7 +1,0 @@
-use Rattle.std.proofs.Common.{◌≡◌, drop}
-use Rattle.packstream.specs.Prelude.{is_among}
-use Rattle.scanner.proofs.Members.{names}
-use Rattle.scanner.proofs.scan.stands_among.Given as goal
-
-abbrev pub invariant-loop-pair : goal.invariant-loop-pair
-invariant-loop-pair l = is_among l.key (names (drop l.pair-index l.pairs)) ≡ is_among l.key (names l.pairs)

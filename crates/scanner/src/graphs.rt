@@ -1,0 +1,215 @@
+//! Nodes, relationships and paths, behind their tag.
+ghost use Rattle.std.specs.Prelude.{◌≡◌, ℕ, suc, Ok, IfOk, [], map};
+ghost use Rattle.packstream.specs.Reading.{items_at, layer, inner};
+ghost use Rattle.cells.specs.Shape.{node_shape, unbound_shape, relationship_shape, path_shape};
+ghost use Rattle.cells.specs.Table.{node_tag, relationship_tag, unbound_tag, path_tag};
+ghost use Rattle.structures.specs.Form.{form};
+ghost use Rattle.scanner.specs.Fields.{HasFields};
+
+use crate::dictionaries::dict_in;
+use crate::fault::Unscanned;
+use crate::fields::{
+    element_in, elements_in, indices_in, labels_in, list_head, string_in, structure_head,
+};
+use crate::plain::{first_room, int_in};
+use cells::{Node, Path, Relationship, UnboundRelationship, tags};
+use std::alloc::Global;
+use wire::Version;
+
+/// A node: its id, labels and properties, and the element id if there are four fields.
+#[cycle(scanner)]
+pub(crate) fn node_of(
+    alloc: Global,
+    version: Version,
+    room: u8,
+    count: u64,
+    bytes: &[u8],
+) -> Result<(Node, &[u8]), Unscanned>
+    ensures { IfOk result (λ x. HasFields (layer (inner room)) count node_tag
+        (form version (node_shape x.0)) bytes.now x.1.now) }
+{
+    if count < 3 {
+        return Err(Unscanned);
+    }
+    let (id, rest) = int_in(bytes)?;
+    let (labels, rest) = labels_in(alloc, room, rest)?;
+    let (properties, rest) = dict_in(alloc, version, room, rest)?;
+    let (element_id, rest) = element_in(alloc, count - 3, rest)?;
+    let node = Node {
+        id,
+        labels,
+        properties,
+        element_id,
+    };
+    Ok((node, rest))
+}
+
+/// A relationship without its ends: its id, type and properties, and the element id if there are four fields.
+#[cycle(scanner)]
+pub(crate) fn unbound_of(
+    alloc: Global,
+    version: Version,
+    room: u8,
+    count: u64,
+    bytes: &[u8],
+) -> Result<(UnboundRelationship, &[u8]), Unscanned>
+    ensures { IfOk result (λ x. HasFields (layer (inner room)) count unbound_tag
+        (form version (unbound_shape x.0)) bytes.now x.1.now) }
+{
+    if count < 3 {
+        return Err(Unscanned);
+    }
+    let (id, rest) = int_in(bytes)?;
+    let (kind, rest) = string_in(alloc, rest)?;
+    let (properties, rest) = dict_in(alloc, version, room, rest)?;
+    let (element_id, rest) = element_in(alloc, count - 3, rest)?;
+    let unbound = UnboundRelationship {
+        id,
+        kind,
+        properties,
+        element_id,
+    };
+    Ok((unbound, rest))
+}
+
+/// A relationship: the three ids, its type and properties, and the element ids if there are eight fields.
+#[cycle(scanner)]
+pub(crate) fn relationship_of(
+    alloc: Global,
+    version: Version,
+    room: u8,
+    count: u64,
+    bytes: &[u8],
+) -> Result<(Relationship, &[u8]), Unscanned>
+    ensures { IfOk result (λ x. HasFields (layer (inner room)) count relationship_tag
+        (form version (relationship_shape x.0)) bytes.now x.1.now) }
+{
+    if count < 5 {
+        return Err(Unscanned);
+    }
+    let (id, rest) = int_in(bytes)?;
+    let (start, rest) = int_in(rest)?;
+    let (end, rest) = int_in(rest)?;
+    let (kind, rest) = string_in(alloc, rest)?;
+    let (properties, rest) = dict_in(alloc, version, room, rest)?;
+    let (element_ids, rest) = elements_in(alloc, count - 5, rest)?;
+    let relationship = Relationship {
+        id,
+        start,
+        end,
+        kind,
+        properties,
+        element_ids,
+    };
+    Ok((relationship, rest))
+}
+
+/// A path: its nodes, its relationships, and the indices of its walk.
+#[cycle(scanner)]
+pub(crate) fn path_of(
+    alloc: Global,
+    version: Version,
+    room: u8,
+    count: u64,
+    bytes: &[u8],
+) -> Result<(Path, &[u8]), Unscanned>
+    ensures { IfOk result (λ x. HasFields (layer (inner room)) count path_tag
+        (form version (path_shape x.0)) bytes.now x.1.now) }
+{
+    if count != 3 {
+        return Err(Unscanned);
+    }
+    let (places, rest) = list_head(room, bytes)?;
+    let (nodes, rest) = nodes_of(alloc, version, room - 1, places, rest)?;
+    let (ways, rest) = list_head(room, rest)?;
+    let (relationships, rest) = unbounds_of(alloc, version, room - 1, ways, rest)?;
+    let (indices, rest) = indices_in(alloc, room, rest)?;
+    let path = Path {
+        nodes,
+        relationships,
+        indices,
+    };
+    Ok((path, rest))
+}
+
+/// A node joins those before it.
+#[cycle(scanner)]
+fn push_node<'a>(
+    nodes: &mut Vec<Node>,
+    alloc: Global,
+    version: Version,
+    room: u8,
+    bytes: &'a [u8],
+) -> Result<&'a [u8], Unscanned>
+    ensures { (n : ℕ) → IfOk result
+        (λ x. items_at (layer (inner room)) n (map (form version) (map node_shape nodes.new.items)) x.now
+        ≡ items_at (layer (inner room)) (suc n)
+        (map (form version) (map node_shape nodes.old.items)) bytes.now) }
+{
+    let (count, rest) = structure_head(room, tags::NODE, bytes)?;
+    let (node, rest) = node_of(alloc, version, room - 1, count, rest)?;
+    nodes.push(node)?;
+    Ok(rest)
+}
+
+/// So many nodes.
+#[cycle(scanner)]
+fn nodes_of(
+    alloc: Global,
+    version: Version,
+    room: u8,
+    count: u64,
+    bytes: &[u8],
+) -> Result<(Vec<Node>, &[u8]), Unscanned>
+    ensures { IfOk result (λ x. items_at (layer (inner room)) count [] bytes.now
+        ≡ Ok (map (form version) (map node_shape x.0.items), x.1.now)) }
+{
+    let mut nodes = Vec::with_capacity(alloc, first_room(count, bytes))?;
+    let mut rest = bytes;
+    for _ in 0..count {
+        let after = push_node(&mut nodes, alloc, version, room, rest)?;
+        rest = after;
+    }
+    Ok((nodes, rest))
+}
+
+/// A relationship without its ends joins those before it.
+#[cycle(scanner)]
+fn push_unbound<'a>(
+    unbounds: &mut Vec<UnboundRelationship>,
+    alloc: Global,
+    version: Version,
+    room: u8,
+    bytes: &'a [u8],
+) -> Result<&'a [u8], Unscanned>
+    ensures { (n : ℕ) → IfOk result
+        (λ x. items_at (layer (inner room)) n (map (form version) (map unbound_shape unbounds.new.items)) x.now
+        ≡ items_at (layer (inner room)) (suc n)
+        (map (form version) (map unbound_shape unbounds.old.items)) bytes.now) }
+{
+    let (count, rest) = structure_head(room, tags::UNBOUND_RELATIONSHIP, bytes)?;
+    let (unbound, rest) = unbound_of(alloc, version, room - 1, count, rest)?;
+    unbounds.push(unbound)?;
+    Ok(rest)
+}
+
+/// So many relationships without their ends.
+#[cycle(scanner)]
+fn unbounds_of(
+    alloc: Global,
+    version: Version,
+    room: u8,
+    count: u64,
+    bytes: &[u8],
+) -> Result<(Vec<UnboundRelationship>, &[u8]), Unscanned>
+    ensures { IfOk result (λ x. items_at (layer (inner room)) count [] bytes.now
+        ≡ Ok (map (form version) (map unbound_shape x.0.items), x.1.now)) }
+{
+    let mut unbounds = Vec::with_capacity(alloc, first_room(count, bytes))?;
+    let mut rest = bytes;
+    for _ in 0..count {
+        let after = push_unbound(&mut unbounds, alloc, version, room, rest)?;
+        rest = after;
+    }
+    Ok((unbounds, rest))
+}

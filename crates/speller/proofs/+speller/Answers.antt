@@ -1,0 +1,210 @@
+use Rattle.std.proofs.Common.{◌≡◌, [], true, ◌≤◌, ◌-◌, ◌++◌, take, List, ℕ, ℤ, String, Global, map, length, FitsSigned, w64, to_z, of_z, ap, sym, subst, ◌∙◌, append_assoc, rules, arith}
+use Rattle.std.proofs.lemmas.List.{take_all}
+use Rattle.std.proofs.lemmas.Result.{on_ok_weaker}
+use Rattle.packstream.specs.Prelude.{Tree, int, list, dict, text_bytes, canon, trees_of, entries_of}
+use Rattle.packstream.specs.Canon.{head}
+use Rattle.cells.specs.declared.cell.Node.{Node}
+use Rattle.cells.specs.declared.cell.Path.{out-Path}
+use Rattle.cells.specs.declared.cell.UnboundRelationship.{UnboundRelationship}
+use Rattle.cells.specs.Prelude.{shape, entry, entries, structures, structures_under, all_fine, fault_of_structure, node_shape, unbound_shape, texts_of, numbers_of}
+use Rattle.cells.proofs.Views.{shape-Dict, node-out, unbound-out, relationship-out, path-out}
+use Rattle.cells.proofs.Fine.{fine_member, fine_pair}
+use Rattle.cells.proofs.Judged.{node_fine, unbound_fine, relationship_fine, path_nodes_fine, path_unbounds_fine}
+use Rattle.structures.specs.Prelude.{form, form_all}
+use Rattle.speller.specs.Ready.{IsReady, AreReady}
+use Rattle.speller.proofs.Flat.{Pair, flat, flats, pair_bytes, flat_more, flats_more, ready_more, readys_more, fine_more, fines_more, new_forms, are_fine, len_forms}
+use Rattle.speller.proofs.Pieces.{node_put, unbound_put, relationship_put, path_put, node_ready, unbound_ready, relationship_ready, path_ready}
+use Rattle.speller.proofs.+speller.Goals as goal
+
+pub spelling::put_members-loop-member-preserved : goal.spelling::put_members-loop-member-preserved
+spelling::put_members-loop-member-preserved t c =
+    let v = c.args.version in
+    let its : List ℕ = canon (form v (shape c.member-item.result)) in
+    let done : List ℕ = flat v shape (take c.loop-member.member-index c.args.members.now) in (
+      c.put_cell.ensures.before ∙ c.loop-member.invariant.0,
+      c.in_ok-put_cell.ensures.spelled ∙ ap (λ (x : List ℕ). x ++ its) c.loop-member.invariant.1 ∙ append_assoc c.args.out.now.more done its ∙ ap (λ (x : List ℕ). c.args.out.now.more ++ x) (sym (flat_more v shape c.args.members.now c.loop-member.member-index c.member-item.result c.loop-member-test.true c.member-item.is)),
+      ready_more v c.args.room shape c.args.members.now c.loop-member.member-index c.member-item.result c.loop-member-test.true c.member-item.is c.loop-member.invariant.2 c.in_ok-put_cell.ensures.ready,
+      fine_more v shape c.args.members.now c.loop-member.member-index c.member-item.result c.loop-member-test.true c.member-item.is c.loop-member.invariant.3 c.in_ok-put_cell.ensures.fine,
+    )
+
+pub spelling::put_pairs-loop-pair-preserved : goal.spelling::put_pairs-loop-pair-preserved
+spelling::put_pairs-loop-pair-preserved t c =
+    let v = c.args.version in
+    let its : List ℕ = pair_bytes v c.pair-item.result in
+    let done : List ℕ = flats v (take c.loop-pair.pair-index c.args.pairs.now) in (
+      c.put_pair.ensures.before ∙ c.loop-pair.invariant.0,
+      c.in_ok-put_pair.ensures.spelled ∙ ap (λ (x : List ℕ). x ++ its) c.loop-pair.invariant.1 ∙ append_assoc c.args.out.now.more done its ∙ ap (λ (x : List ℕ). c.args.out.now.more ++ x) (sym (flats_more v c.args.pairs.now c.loop-pair.pair-index c.pair-item.result c.loop-pair-test.true c.pair-item.is)),
+      readys_more v c.args.room c.args.pairs.now c.loop-pair.pair-index c.pair-item.result c.loop-pair-test.true c.pair-item.is c.loop-pair.invariant.2 c.put_pair.ensures.utf8 c.in_ok-put_pair.ensures.ready,
+      fines_more v c.args.pairs.now c.loop-pair.pair-index c.pair-item.result c.loop-pair-test.true c.pair-item.is c.loop-pair.invariant.3 c.in_ok-put_pair.ensures.fine,
+    )
+
+pub graphs::put_nodes-loop-node-preserved : goal.graphs::put_nodes-loop-node-preserved
+graphs::put_nodes-loop-node-preserved t c =
+    let v = c.args.version in
+    let its : List ℕ = canon (form v (node_shape c.node-item.result)) in
+    let start : List ℕ = c.args.out.now.more ++ head 0x90 0xD4 (length c.args.nodes.now) in
+    let done : List ℕ = flat v node_shape (take c.loop-node.node-index c.args.nodes.now) in (
+      c.put_node.ensures.before ∙ c.loop-node.invariant.0,
+      c.in_ok-put_node.ensures.spelled ∙ ap (λ (x : List ℕ). x ++ its) c.loop-node.invariant.1 ∙ append_assoc start done its ∙ ap (λ (x : List ℕ). start ++ x) (sym (flat_more v node_shape c.args.nodes.now c.loop-node.node-index c.node-item.result c.loop-node-test.true c.node-item.is)),
+      ready_more v c.args.room node_shape c.args.nodes.now c.loop-node.node-index c.node-item.result c.loop-node-test.true c.node-item.is c.loop-node.invariant.2 c.in_ok-put_node.ensures.ready,
+    )
+
+pub graphs::put_nodes-put_node-requires : goal.graphs::put_nodes-put_node-requires
+graphs::put_nodes-put_node-requires t c = (omega (arith, c.decreases), fine_member node_shape (fault_of_structure c.args.version) c.args.nodes.now c.loop-node.node-index c.node-item.result c.loop-node-test.true c.node-item.is c.requires)
+
+pub graphs::put_unbounds-loop-unbound-preserved : goal.graphs::put_unbounds-loop-unbound-preserved
+graphs::put_unbounds-loop-unbound-preserved t c =
+    let v = c.args.version in
+    let its : List ℕ = canon (form v (unbound_shape c.unbound-item.result)) in
+    let start : List ℕ = c.args.out.now.more ++ head 0x90 0xD4 (length c.args.unbounds.now) in
+    let done : List ℕ = flat v unbound_shape (take c.loop-unbound.unbound-index c.args.unbounds.now) in (
+      c.put_unbound.ensures.before ∙ c.loop-unbound.invariant.0,
+      c.in_ok-put_unbound.ensures.spelled ∙ ap (λ (x : List ℕ). x ++ its) c.loop-unbound.invariant.1 ∙ append_assoc start done its ∙ ap (λ (x : List ℕ). start ++ x) (sym (flat_more v unbound_shape c.args.unbounds.now c.loop-unbound.unbound-index c.unbound-item.result c.loop-unbound-test.true c.unbound-item.is)),
+      ready_more v c.args.room unbound_shape c.args.unbounds.now c.loop-unbound.unbound-index c.unbound-item.result c.loop-unbound-test.true c.unbound-item.is c.loop-unbound.invariant.2 c.in_ok-put_unbound.ensures.ready,
+    )
+
+pub graphs::put_unbounds-put_unbound-requires : goal.graphs::put_unbounds-put_unbound-requires
+graphs::put_unbounds-put_unbound-requires t c = (omega (arith, c.decreases), fine_member unbound_shape (fault_of_structure c.args.version) c.args.unbounds.now c.loop-unbound.unbound-index c.unbound-item.result c.loop-unbound-test.true c.unbound-item.is c.requires)
+
+pub spelling::put_members-put_cell-requires : goal.spelling::put_members-put_cell-requires
+spelling::put_members-put_cell-requires t c = (omega (arith, c.decreases), λ e. fine_member shape (fault_of_structure c.args.version) c.args.members.now c.loop-member.member-index c.member-item.result c.loop-member-test.true c.member-item.is (c.requires e))
+
+pub spelling::put_pairs-put_pair-requires : goal.spelling::put_pairs-put_pair-requires
+spelling::put_pairs-put_pair-requires t c = (omega (arith, c.decreases), λ e. fine_pair entry (fault_of_structure c.args.version) c.args.pairs.now c.loop-pair.pair-index c.pair-item.result c.loop-pair-test.true c.pair-item.is (c.requires e))
+
+pub spelling::put_cell-put_entries-requires : goal.spelling::put_cell-put_entries-requires
+spelling::put_cell-put_entries-requires t c = (omega (arith, c.decreases), λ e. ap (λ (ps : List Pair). all_fine (fault_of_structure c.args.version) (structures_under (entries_of (entries ps)))) c.deref-in-Dict.ensures.value ∙ sym (ap (λ (u : Tree). all_fine (fault_of_structure c.args.version) (structures u)) (ap shape c.in-Dict.is ∙ shape-Dict c.in-Dict.pairs)) ∙ c.requires e)
+
+pub graphs::put_node-put_entries-requires : goal.graphs::put_node-put_entries-requires
+graphs::put_node-put_entries-requires t c =
+    let n = c.args.node.now in
+    (omega (arith, c.decreases, c.if-room-lt2.false), λ e. ap (λ (ps : List Pair). all_fine (fault_of_structure c.args.version) (structures_under (entries_of (entries ps)))) c.deref-2.ensures.value ∙ node_fine (fault_of_structure c.args.version) n.id n.labels.items n.properties.items n.element_id (sym (ap (λ (u : Tree). all_fine (fault_of_structure c.args.version) (structures u)) (node-out n)) ∙ c.requires))
+
+pub graphs::put_unbound-put_entries-requires : goal.graphs::put_unbound-put_entries-requires
+graphs::put_unbound-put_entries-requires t c =
+    let n = c.args.unbound.now in
+    (omega (arith, c.decreases, c.if-room-lt2.false), λ e. ap (λ (ps : List Pair). all_fine (fault_of_structure c.args.version) (structures_under (entries_of (entries ps)))) c.deref.ensures.value ∙ unbound_fine (fault_of_structure c.args.version) n.id n.kind n.properties.items n.element_id (sym (ap (λ (u : Tree). all_fine (fault_of_structure c.args.version) (structures u)) (unbound-out n)) ∙ c.requires))
+
+pub graphs::put_relationship-put_entries-requires : goal.graphs::put_relationship-put_entries-requires
+graphs::put_relationship-put_entries-requires t c =
+    let n = c.args.relationship.now in
+    (omega (arith, c.decreases, c.if-room-lt2.false), λ e. ap (λ (ps : List Pair). all_fine (fault_of_structure c.args.version) (structures_under (entries_of (entries ps)))) c.deref.ensures.value ∙ relationship_fine (fault_of_structure c.args.version) n.id n.start n.end n.kind n.properties.items n.element_ids (sym (ap (λ (u : Tree). all_fine (fault_of_structure c.args.version) (structures u)) (relationship-out n)) ∙ c.requires))
+
+pub graphs::put_node-returns-clause-spelled : goal.graphs::put_node-returns-clause-spelled
+graphs::put_node-returns-clause-spelled t c =
+    let v = c.args.version in
+    let n = c.args.node.now in
+    let z : to_z w64 (of_z w64 n.id) ≡ n.id = search rules in
+    on_ok_weaker c.put_element.result (λ p.
+    node_put v c.args.out.now.more n.id n.properties.items n.labels.items n.element_id _ _ _ _ _ _ c.element_count.ensures.counted c.in_ok-put_opening.ensures.ok (rw z at c.in_ok-put_int.ensures.ok)
+    (c.in_ok-put_texts.ensures.spelled ∙ ap (λ (ss : List (String Global)). c.put_int.new.out.more ++ canon (texts_of ss)) c.deref.ensures.value)
+    (c.in_ok-put_entries.ensures.spelled ∙ ap (λ (ps : List Pair). c.put_texts.new.out.more ++ canon (form v (dict (entries_of (entries ps))))) c.deref-2.ensures.value)
+    p ∙ ap (λ (u : Tree). c.args.out.now.more ++ canon (form v u)) (sym (node-out n))) c.put_element.ensures.spelled
+
+pub graphs::put_node-returns-clause-ready : goal.graphs::put_node-returns-clause-ready
+graphs::put_node-returns-clause-ready t c =
+    let v = c.args.version in
+    let n = c.args.node.now in
+    let two : 2 ≤ c.args.room = omega (arith, c.if-room-lt2.false) in
+    let fits : FitsSigned w64 n.id = search rules in
+    let under = subst (λ (ps : List Pair). IsReady (c.args.room - 1) (form v (dict (entries_of (entries ps))))) c.deref-2.ensures.value c.in_ok-put_entries.ensures.ready in
+    on_ok_weaker c.put_element.result (λ p. subst (λ (u : Tree). IsReady c.args.room (form v u)) (sym (node-out n)) (node_ready v c.args.room n.id n.properties.items two fits under n.labels.items n.element_id)) c.put_element.ensures.spelled
+
+pub graphs::put_unbound-returns-clause-spelled : goal.graphs::put_unbound-returns-clause-spelled
+graphs::put_unbound-returns-clause-spelled t c =
+    let v = c.args.version in
+    let n = c.args.unbound.now in
+    let z : to_z w64 (of_z w64 n.id) ≡ n.id = search rules in
+    on_ok_weaker c.put_element.result (λ p.
+    unbound_put v c.args.out.now.more n.id n.properties.items n.kind n.element_id _ _ _ _ _ _ c.element_count.ensures.counted c.in_ok-put_opening.ensures.ok (rw z at c.in_ok-put_int.ensures.ok)
+    (c.in_ok-put_text.ensures.ok ∙ ap (λ (s : List ℕ). c.put_int.new.out.more ++ text_bytes s) c.as_str.ensures.value)
+    (c.in_ok-put_entries.ensures.spelled ∙ ap (λ (ps : List Pair). c.put_text.new.out.more ++ canon (form v (dict (entries_of (entries ps))))) c.deref.ensures.value)
+    p ∙ ap (λ (u : Tree). c.args.out.now.more ++ canon (form v u)) (sym (unbound-out n))) c.put_element.ensures.spelled
+
+pub graphs::put_unbound-returns-clause-ready : goal.graphs::put_unbound-returns-clause-ready
+graphs::put_unbound-returns-clause-ready t c =
+    let v = c.args.version in
+    let n = c.args.unbound.now in
+    let two : 2 ≤ c.args.room = omega (arith, c.if-room-lt2.false) in
+    let fits : FitsSigned w64 n.id = search rules in
+    let under = subst (λ (ps : List Pair). IsReady (c.args.room - 1) (form v (dict (entries_of (entries ps))))) c.deref.ensures.value c.in_ok-put_entries.ensures.ready in
+    on_ok_weaker c.put_element.result (λ p. subst (λ (u : Tree). IsReady c.args.room (form v u)) (sym (unbound-out n)) (unbound_ready v c.args.room n.id n.properties.items two fits under n.kind n.element_id)) c.put_element.ensures.spelled
+
+pub graphs::put_relationship-returns-clause-spelled : goal.graphs::put_relationship-returns-clause-spelled
+graphs::put_relationship-returns-clause-spelled t c =
+    let v = c.args.version in
+    let n = c.args.relationship.now in
+    let z0 : to_z w64 (of_z w64 n.id) ≡ n.id = search rules in
+    let z1 : to_z w64 (of_z w64 n.start) ≡ n.start = search rules in
+    let z2 : to_z w64 (of_z w64 n.end) ≡ n.end = search rules in
+    on_ok_weaker c.put_elements.result (λ p.
+    relationship_put v c.args.out.now.more n.id n.properties.items n.start n.end n.kind n.element_ids _ _ _ _ _ _ c.elements_count.ensures.counted c.in_ok-put_opening.ensures.ok (rw (z0, z1, z2) at c.in_ok-put_ints.ensures.spelled)
+    (c.in_ok-put_text.ensures.ok ∙ ap (λ (s : List ℕ). c.put_ints.new.out.more ++ text_bytes s) c.as_str.ensures.value)
+    (c.in_ok-put_entries.ensures.spelled ∙ ap (λ (ps : List Pair). c.put_text.new.out.more ++ canon (form v (dict (entries_of (entries ps))))) c.deref.ensures.value)
+    p ∙ ap (λ (u : Tree). c.args.out.now.more ++ canon (form v u)) (sym (relationship-out n))) c.put_elements.ensures.spelled
+
+pub graphs::put_relationship-returns-clause-ready : goal.graphs::put_relationship-returns-clause-ready
+graphs::put_relationship-returns-clause-ready t c =
+    let v = c.args.version in
+    let n = c.args.relationship.now in
+    let two : 2 ≤ c.args.room = omega (arith, c.if-room-lt2.false) in
+    let fits : FitsSigned w64 n.id = search rules in
+    let from : FitsSigned w64 n.start = search rules in
+    let to : FitsSigned w64 n.end = search rules in
+    let under = subst (λ (ps : List Pair). IsReady (c.args.room - 1) (form v (dict (entries_of (entries ps))))) c.deref.ensures.value c.in_ok-put_entries.ensures.ready in
+    on_ok_weaker c.put_elements.result (λ p. subst (λ (u : Tree). IsReady c.args.room (form v u)) (sym (relationship-out n)) (relationship_ready v c.args.room n.id n.properties.items two fits under n.start n.end n.kind n.element_ids from to)) c.put_elements.ensures.spelled
+
+pub graphs::put_path-put_nodes-requires : goal.graphs::put_path-put_nodes-requires
+graphs::put_path-put_nodes-requires t c =
+    let j = fault_of_structure c.args.version in
+    let w = out-Path c.args.path.now in
+    let h = sym (ap (λ (u : Tree). all_fine j (structures u)) (path-out c.args.path.now)) ∙ c.requires in
+    (omega (arith, c.decreases, c.if-room-lt2.false), subst (λ (ns : List Node). are_fine c.args.version node_shape ns) (sym c.deref.ensures.value) (path_nodes_fine j (map node_shape w.nodes.items) (map unbound_shape w.relationships.items) w.indices.items h))
+
+pub graphs::put_path-put_unbounds-requires : goal.graphs::put_path-put_unbounds-requires
+graphs::put_path-put_unbounds-requires t c =
+    let j = fault_of_structure c.args.version in
+    let w = out-Path c.args.path.now in
+    let h = sym (ap (λ (u : Tree). all_fine j (structures u)) (path-out c.args.path.now)) ∙ c.requires in
+    (omega (arith, c.decreases, c.if-room-lt2.false), subst (λ (rs : List UnboundRelationship). are_fine c.args.version unbound_shape rs) (sym c.deref-2.ensures.value) (path_unbounds_fine j (map node_shape w.nodes.items) (map unbound_shape w.relationships.items) w.indices.items h))
+
+pub graphs::put_path-returns-clause-spelled : goal.graphs::put_path-returns-clause-spelled
+graphs::put_path-returns-clause-spelled t c =
+    let v = c.args.version in
+    let w = out-Path c.args.path.now in
+    on_ok_weaker c.put_number_list.result (λ p.
+    path_put v c.args.out.now.more (map node_shape w.nodes.items) (map unbound_shape w.relationships.items) w.indices.items _ _ _ _ c.in_ok-put_opening.ensures.ok
+    (c.in_ok-put_nodes.ensures.spelled ∙ ap (λ (ns : List Node). c.put_opening.new.out.more ++ canon (form v (list (trees_of (map node_shape ns))))) c.deref.ensures.value)
+    (c.in_ok-put_unbounds.ensures.spelled ∙ ap (λ (rs : List UnboundRelationship). c.put_nodes.new.out.more ++ canon (form v (list (trees_of (map unbound_shape rs))))) c.deref-2.ensures.value)
+    (p ∙ ap (λ (zs : List ℤ). c.put_unbounds.new.out.more ++ canon (numbers_of zs)) c.deref-3.ensures.value)
+    ∙ ap (λ (u : Tree). c.args.out.now.more ++ canon (form v u)) (sym (path-out c.args.path.now))) c.put_number_list.ensures.spelled
+
+pub graphs::put_path-returns-clause-ready : goal.graphs::put_path-returns-clause-ready
+graphs::put_path-returns-clause-ready t c =
+    let v = c.args.version in
+    let w = out-Path c.args.path.now in
+    let two : 2 ≤ c.args.room = omega (arith, c.if-room-lt2.false) in
+    let places = subst (λ (ns : List Node). AreReady (c.args.room - 2) (form_all v (trees_of (map node_shape ns)))) c.deref.ensures.value c.in_ok-put_nodes.ensures.ready in
+    let ways = subst (λ (rs : List UnboundRelationship). AreReady (c.args.room - 2) (form_all v (trees_of (map unbound_shape rs)))) c.deref-2.ensures.value c.in_ok-put_unbounds.ensures.ready in
+    on_ok_weaker c.put_number_list.result (λ p. subst (λ (u : Tree). IsReady c.args.room (form v u)) (sym (path-out c.args.path.now)) (path_ready v c.args.room (map node_shape w.nodes.items) (map unbound_shape w.relationships.items) w.indices.items two places ways (subst (λ (zs : List ℤ). (n : ℕ) → AreReady n (trees_of (map int zs))) c.deref-3.ensures.value p))) c.put_number_list.ensures.ready
+
+pub spelling::put_entries-returns-clause-ready : goal.spelling::put_entries-returns-clause-ready
+spelling::put_entries-returns-clause-ready t c =
+    let yes : c.are_new.result ≡ true = search rules in
+    on_ok_weaker c.put_pairs.result (λ p. (omega (arith, c.if-room-eq0.false), new_forms c.args.version [] c.args.pairs.now (c.are_new.ensures yes), p)) c.put_pairs.ensures.ready
+
+pub graphs::put_nodes-returns-clause-spelled : goal.graphs::put_nodes-returns-clause-spelled
+graphs::put_nodes-returns-clause-spelled t c =
+    let v = c.args.version in
+    let o : List ℕ = c.args.out.now.more in
+    let opening : List ℕ = head 0x90 0xD4 (length c.args.nodes.now) in
+    let all = take_all c.loop-node.node-index c.args.nodes.now (omega (arith, c.loop-node-test.false)) in
+    c.loop-node.invariant.1 ∙ ap (λ (xs : List Node). (o ++ opening) ++ flat v node_shape xs) all ∙ append_assoc o opening (flat v node_shape c.args.nodes.now) ∙ ap (λ (n : ℕ). o ++ (head 0x90 0xD4 n ++ flat v node_shape c.args.nodes.now)) (sym (len_forms v node_shape c.args.nodes.now))
+
+pub graphs::put_unbounds-returns-clause-spelled : goal.graphs::put_unbounds-returns-clause-spelled
+graphs::put_unbounds-returns-clause-spelled t c =
+    let v = c.args.version in
+    let o : List ℕ = c.args.out.now.more in
+    let opening : List ℕ = head 0x90 0xD4 (length c.args.unbounds.now) in
+    let all = take_all c.loop-unbound.unbound-index c.args.unbounds.now (omega (arith, c.loop-unbound-test.false)) in
+    c.loop-unbound.invariant.1 ∙ ap (λ (xs : List UnboundRelationship). (o ++ opening) ++ flat v unbound_shape xs) all ∙ append_assoc o opening (flat v unbound_shape c.args.unbounds.now) ∙ ap (λ (n : ℕ). o ++ (head 0x90 0xD4 n ++ flat v unbound_shape c.args.unbounds.now)) (sym (len_forms v unbound_shape c.args.unbounds.now))
