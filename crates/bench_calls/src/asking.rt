@@ -2,7 +2,6 @@
 use crate::link::{Link, Stopped};
 use crate::tally::Tally;
 use crate::transport::{PIECE, hear};
-use bytes::Bytes;
 use client::ClientFault;
 use driver::TrackingClient;
 use messages::Request;
@@ -13,7 +12,11 @@ use wire::Wish;
 pub(crate) trait Asks {
     fn ask(&mut self, request: Request) -> Result<(), Stopped>;
 
-    fn take_out(&mut self, max: usize) -> Result<Bytes, Stopped>;
+    /// Lends what waits to go.
+    fn unsent(&self) -> &[u8];
+
+    /// So many bytes of it are gone.
+    fn sent(&mut self, count: usize);
 
     /// Hears a piece, and counts what it tells, or keeps it.
     fn hear(&mut self, piece: &[u8], tally: &mut Tally) -> Result<(), Stopped>;
@@ -28,8 +31,12 @@ impl Asks for Link {
         Ok(())
     }
 
-    fn take_out(&mut self, max: usize) -> Result<Bytes, Stopped> {
-        Ok(self.client.take_out(max)?)
+    fn unsent(&self) -> &[u8] {
+        self.client.unsent()
+    }
+
+    fn sent(&mut self, count: usize) {
+        self.client.sent(count);
     }
 
     fn hear(&mut self, piece: &[u8], tally: &mut Tally) -> Result<(), Stopped> {
@@ -94,8 +101,12 @@ impl Asks for Tracked {
         Ok(())
     }
 
-    fn take_out(&mut self, max: usize) -> Result<Bytes, Stopped> {
-        Ok(self.tracking.take_out(max)?)
+    fn unsent(&self) -> &[u8] {
+        self.tracking.unsent()
+    }
+
+    fn sent(&mut self, count: usize) {
+        self.tracking.sent(count);
     }
 
     fn hear(&mut self, piece: &[u8], _tally: &mut Tally) -> Result<(), Stopped> {

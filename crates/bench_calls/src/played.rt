@@ -5,7 +5,7 @@ use crate::batches::{Pipeline, submit};
 use crate::link::{Link, Ours, Stopped, new_server};
 use crate::requests::{hello, logon};
 use crate::tally::Tally;
-use crate::transport::{PIECE, feed_piece};
+use crate::transport::{PIECE, feed_piece, front, waiting};
 use client::Client;
 use engine::Engine;
 use server::Worked;
@@ -59,16 +59,17 @@ fn say(server: &mut Ours, conn: u64, requests: &[u8]) -> Result<(), Stopped> {
     Ok(())
 }
 
-/// Takes out what a server answers.
+/// Hands over what a server answers.
 fn answer(server: &mut Ours, conn: u64, answers: &[u8], watch: Watch) -> Result<(), Stopped> {
     for expected in answers.chunks(PIECE) {
-        let piece = server.take_out(conn, PIECE)?;
-        if !is_expected(&piece, expected, watch) {
+        let piece = waiting(server, conn)?;
+        if !is_expected(piece, expected, watch) {
             return Err(Stopped);
         }
+        let count = piece.len();
+        server.sent(conn, count);
     }
-    let rest = server.take_out(conn, PIECE)?;
-    if rest.is_empty() {
+    if waiting(server, conn)?.is_empty() {
         Ok(())
     } else {
         Err(Stopped)
@@ -146,7 +147,7 @@ pub(crate) fn server_alone(
     Ok(entries.wrapping_add(recording.len() as u64))
 }
 
-/// A caller has asked: takes out its requests, and plays it their answers. Answers what is recorded behind them.
+/// A caller has asked: hands over its requests, and plays it their answers. Answers what is recorded behind them.
 fn settle<'a, A: Asks>(
     link: &mut A,
     tally: &mut Tally,
@@ -155,10 +156,12 @@ fn settle<'a, A: Asks>(
 ) -> Result<&'a [u8], Stopped> {
     let (requests, behind) = part(recording)?;
     for expected in requests.chunks(PIECE) {
-        let piece = link.take_out(PIECE)?;
-        if !is_expected(&piece, expected, watch) {
+        let piece = front(link.unsent());
+        if !is_expected(piece, expected, watch) {
             return Err(Stopped);
         }
+        let count = piece.len();
+        link.sent(count);
     }
     let (answers, rest) = part(behind)?;
     for piece in answers.chunks(PIECE) {

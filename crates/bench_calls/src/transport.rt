@@ -19,9 +19,12 @@ const MAX_TURNS: usize = 64;
 
 /// The client writes a piece, and the server reads it.
 pub(crate) fn up(server: &mut Ours, link: &mut Link, tally: &mut Tally) -> Result<(), Stopped> {
-    let piece = link.client.take_out(PIECE)?;
+    let piece = front(link.client.unsent());
     tally.add_up(piece.len());
-    feed_piece(server, link.conn, &piece)
+    feed_piece(server, link.conn, piece)?;
+    let count = piece.len();
+    link.client.sent(count);
+    Ok(())
 }
 
 /// The server reads a piece.
@@ -37,14 +40,29 @@ pub(crate) fn feed_piece(server: &mut Ours, conn: u64, piece: &[u8]) -> Result<(
 /// The server writes all that waits, and the client reads it piece by piece.
 pub(crate) fn down(server: &mut Ours, link: &mut Link, tally: &mut Tally) -> Result<(), Stopped> {
     for _ in 0..MAX_PIECES {
-        let piece = server.take_out(link.conn, PIECE)?;
+        let piece = waiting(server, link.conn)?;
         if piece.is_empty() {
             return Ok(());
         }
         tally.add_down(piece.len());
-        hear(link, &piece, tally)?;
+        hear(link, piece, tally)?;
+        let count = piece.len();
+        server.sent(link.conn, count);
     }
     Err(Stopped)
+}
+
+/// What waits to go at a session, at most a piece.
+pub(crate) fn waiting(server: &Ours, conn: u64) -> Result<&[u8], Stopped> {
+    match server.unsent(conn) {
+        Some(bytes) => Ok(front(bytes)),
+        None => Err(Stopped),
+    }
+}
+
+/// At most a piece of these bytes.
+pub(crate) fn front(bytes: &[u8]) -> &[u8] {
+    &bytes[..bytes.len().min(PIECE)]
 }
 
 /// The client reads bytes, in pieces from where it stands.
