@@ -4,7 +4,7 @@ use Rattle.std.specs.Io.KnownBytes.{Appends}
 use Rattle.std.proofs.KnownBytes.{Appends-trans}
 use Rattle.std.proofs.lemmas.List.{length_push}
 use Rattle.session.specs.declared.kinds.Cause.{Cause}
-use Rattle.programs.specs.Prelude.{conn_line}
+use Rattle.prints.specs.Prelude.{conn_line}
 use Rattle.bolt.specs.Served.{HasServedAll, listening_line, served_lines}
 
 -- one line more

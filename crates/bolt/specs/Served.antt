@@ -9,7 +9,7 @@ use Rattle.session.specs.declared.kinds.Cause.{Cause}
 use Rattle.server.specs.declared.server.Server.{Server}
 use Rattle.server.specs.Serving.{Rest, empty}
 use Rattle.server.specs.Views.{Fits}
-use Rattle.programs.specs.Serving.{conn_line}
+use Rattle.prints.specs.Telling.{conn_line}
 
 -- the line of a port at which connections are taken
 abbrev pub listening_line : ℕ → List ℕ

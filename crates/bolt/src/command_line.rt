@@ -1,6 +1,6 @@
 //! The words of the command line, before any command.
 ghost use Rattle.std.specs.Prelude.{◌≡◌};
-ghost use Rattle.programs.specs.Stopping.{Gets};
+ghost use Rattle.prints.specs.Stopping.{Gets};
 ghost use Rattle.bolt.specs.Starting.{unread_status, unread_text};
 
 use commands::help_text;

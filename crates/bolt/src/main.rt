@@ -8,7 +8,7 @@ mod sockets;
 
 use command_line::{refuse, words_of};
 use commands::{CommandLine, asked, command};
-use programs::fill_closed;
+use prints::fill_closed;
 use script_file::replay_file;
 use sockets::{loop_through, serve_on, shell_at};
 use std::process::ExitCode;

@@ -4,7 +4,7 @@ ghost use Rattle.std.specs.IoError.{error_kind};
 ghost use Rattle.bolt.specs.Reasons.{connected_line, place_name};
 
 use crate::sockets::SILENCE;
-use programs::{escape, put_fault};
+use prints::{escape, put_fault};
 use std::alloc::{AllocError, Global};
 use std::io;
 use std::io::ErrorKind;

@@ -7,10 +7,11 @@ ghost use Rattle.bolt.specs.Served.{IsAtFirst, HasServedAll, listening_line};
 
 use crate::reasons::{put_connected, put_failed, put_lost, put_unreached, put_unread};
 use engine::{FixedTable, OneUser};
-use programs::{
-    BothWays, OneWay, ServerStreams, ShellStreams, drain, put_fault, run_loop, serve_next, shell,
-};
+use loops::{BothWays, OneWay, run_loop};
+use one_by_one::{ServerStreams, drain, serve_next};
+use prints::put_fault;
 use server::Server;
+use shells::{ShellStreams, shell};
 use std::alloc::{AllocError, Global};
 use std::io::{Read, Write};
 use std::net::{Shutdown, TcpListener, TcpStream};

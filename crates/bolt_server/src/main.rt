@@ -5,7 +5,7 @@ mod password;
 mod running;
 mod words;
 
-use programs::fill_closed;
+use prints::fill_closed;
 use running::run;
 use std::process::ExitCode;
 

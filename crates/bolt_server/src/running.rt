@@ -4,7 +4,7 @@ use crate::password::password_of;
 use crate::words::{Asked, read};
 use engine::{FixedTable, Named, OneUser};
 use listening::{Limits, Place, put_reason, serve_at};
-use programs::{escape, put_fault};
+use prints::{escape, put_fault};
 use server::Server;
 use std::alloc::Global;
 use std::io;

@@ -4,7 +4,7 @@ use Rattle.std.specs.Fmt.{decimal}
 use Rattle.std.specs.List.{flat_map}
 use Rattle.std.specs.Str.{bytes_eq, chars}
 use Rattle.strsim.specs.Edits.{levenshtein_row}
-use Rattle.programs.specs.Escaping.{escaped}
+use Rattle.prints.specs.Escaping.{escaped}
 use Rattle.commands.specs.declared.arguments.Wanted.{Wanted}
 use Rattle.commands.specs.declared.arguments.Wanted.TheVariants as want
 use Rattle.commands.specs.declared.help.TheConstants.{HELP}

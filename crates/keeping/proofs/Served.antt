@@ -7,8 +7,9 @@ use Rattle.session.specs.declared.kinds.Cause.{Cause}
 use Rattle.server.specs.Serving.{Live, Rest}
 use Rattle.server.specs.Views.{rest_of}
 use Rattle.server.specs.declared.server.Server.{Server}
-use Rattle.programs.specs.Prelude.{HasServed, conn_line}
-use Rattle.programs.specs.Serving.{IsVacant}
+use Rattle.prints.specs.Prelude.{conn_line}
+use Rattle.one_by_one.specs.Prelude.{HasServed}
+use Rattle.one_by_one.specs.Serving.{IsVacant}
 use Rattle.lasting.specs.Kept.{Kept, ledger_of}
 use Rattle.lasting.specs.Ledger.{LeavesLedger}
 use Rattle.sqlite.specs.Held.{state}

@@ -3,7 +3,7 @@ use Rattle.std.specs.Prelude.{◌≡◌, ◌⊎◌, ℕ, List, [], ◌∷◌, �
 use Rattle.std.specs.Fmt.{decimal}
 use Rattle.lasting.specs.declared.fault.OpenFault.{OpenFault}
 use Rattle.lasting.specs.declared.fault.OpenFault.TheVariants.{Database, OtherTables, NoLedger, Memory}
-use Rattle.programs.specs.Escaping.{escaped}
+use Rattle.prints.specs.Escaping.{escaped}
 use Rattle.keeping.specs.declared.reasons.Reason.{Reason}
 use Rattle.keeping.specs.declared.reasons.Reason.TheVariants as reason
 

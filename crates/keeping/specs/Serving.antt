@@ -10,8 +10,8 @@ use Rattle.session.specs.declared.kinds.Cause.{Cause}
 use Rattle.server.specs.Serving.{Rest}
 use Rattle.streams.specs.declared.fault.StreamFault.{StreamFault}
 use Rattle.streams.specs.declared.fault.StreamFault.TheVariants as fault
-use Rattle.programs.specs.Serving.{conn_line}
-use Rattle.programs.specs.Stopping.{Gets}
+use Rattle.prints.specs.Telling.{conn_line}
+use Rattle.prints.specs.Stopping.{Gets}
 use Rattle.keeping.specs.declared.reasons.Reason.{Reason}
 use Rattle.keeping.specs.declared.reasons.Reason.TheVariants as reason
 

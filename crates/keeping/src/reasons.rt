@@ -1,13 +1,13 @@
 //! Why a server over a file ends, and what is said of it.
-ghost use Rattle.std.specs.Prelude.{◌≡◌, ℕ, List, IfOk, string_bytes};
-ghost use Rattle.programs.specs.Stopping.{Gets};
+ghost use Rattle.std.specs.Prelude.{ℕ, List, IfOk, string_bytes};
+ghost use Rattle.prints.specs.Stopping.{Gets};
 ghost use Rattle.keeping.specs.Reasons.{IsLineOf, IsSaidOf, IsSaidOfFault};
 
 use lasting::OpenFault;
-use programs::escape;
+use prints::{escape, tell};
 use std::alloc::{AllocError, Global};
 use std::io;
-use streams::{Sink, write_all};
+use streams::Sink;
 
 /// Why a server over a file ends.
 #[derive(Clone, Copy, Debug)]
@@ -80,14 +80,6 @@ fn reason_line(alloc: Global, file: &str, reason: Reason) -> Result<String, Allo
     let words = reason_words(alloc, reason)?;
     let line = format!(in alloc; "{name}: {words}\n")?;
     Ok(line)
-}
-
-/// Writes a text, as far as it is taken.
-pub(crate) fn tell<W: Sink>(text: &[u8], err: &mut W)
-    ensures { Gets (W.has_failed err.old) (W.has_failed err.new) (W.taken err.old) (W.taken err.new)
-        text.now }
-{
-    let _ = write_all(err, text);
 }
 
 /// Says on a line why the server of a file ends: `FILE: WHY`, the file's name escaped. If no memory is left for that line, it is

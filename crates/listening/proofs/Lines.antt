@@ -2,10 +2,10 @@
 use Rattle.std.proofs.Common.{◌≡◌, sym, ◌∙◌, append_assoc, ℕ, Bool, List, [], ◌∷◌, ◌++◌, codes, Option}
 use Rattle.std.specs.Fmt.{decimal}
 use Rattle.session.specs.declared.kinds.Cause.{Cause}
-use Rattle.programs.specs.Names.{cause_code}
-use Rattle.programs.specs.Serving.{conn_line}
-use Rattle.programs.specs.Stopping.{Gets}
-use Rattle.programs.proofs.Moved.{gets_then}
+use Rattle.prints.specs.Names.{cause_code}
+use Rattle.prints.specs.Telling.{conn_line}
+use Rattle.prints.specs.Stopping.{Gets}
+use Rattle.prints.proofs.Gets.{gets_then}
 use Rattle.listening.specs.Reasons.{IsErrorOf}
 
 -- the line of a connection that has ended, by its five parts

@@ -1,7 +1,7 @@
 -- What is said of the reason for which a server over sockets ends.
 use Rattle.std.specs.Prelude.{◌≡◌, ◌⊎◌, ℕ, List, [], ◌∷◌, ◌++◌, codes}
 use Rattle.std.specs.Fmt.{decimal}
-use Rattle.programs.specs.Escaping.{escaped}
+use Rattle.prints.specs.Escaping.{escaped}
 use Rattle.listening.specs.declared.reasons.Reason.{Reason}
 use Rattle.listening.specs.declared.reasons.Reason.TheVariants as reason
 

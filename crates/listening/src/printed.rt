@@ -1,15 +1,15 @@
 //! The journal of a server, printed a line for each connection.
 ghost use Rattle.std.specs.Prelude.{◌≡◌, None, [], ◌∷◌};
 ghost use Rattle.std.specs.Fmt.{decimal};
-ghost use Rattle.programs.specs.Names.{cause_code};
-ghost use Rattle.programs.specs.Serving.{conn_line};
-ghost use Rattle.programs.specs.Stopping.{Gets};
+ghost use Rattle.prints.specs.Names.{cause_code};
+ghost use Rattle.prints.specs.Telling.{conn_line};
+ghost use Rattle.prints.specs.Stopping.{Gets};
 ghost use Rattle.hosts.specs.Running.{TellsMore};
 ghost use Rattle.listening.specs.Printing.{cause_of};
 
 use hosts::{Journal, Parting};
 use itoa::Buffer;
-use programs::cause_code;
+use prints::cause_code;
 use server::Cause;
 use std::cell::Cell;
 use streams::{Sink, write_all};

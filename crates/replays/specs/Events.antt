@@ -17,7 +17,7 @@ use Rattle.scripts.specs.declared.line.Times.TheVariants as times
 use Rattle.scripts.specs.Views as line
 use Rattle.scripts.specs.Views.{LineView}
 use Rattle.scripts.specs.Meant.{meant}
-use Rattle.programs.specs.Names.{refusal_code}
+use Rattle.prints.specs.Names.{refusal_code}
 use Rattle.world.specs.Connections.{Connection, Peer, Ours, Foreign, wish_of}
 use Rattle.world.specs.World.{World, Event, Opens, Submit, ToServer, ToClient, Work, PutsNoop, Cut, ClientLost, ServerLost, Feeds, Seen, Opened, Submitted, Fed, Gave, SawWork, SawNoop, SawNothing, Refusal, V1, V2, V3}
 use Rattle.wire.specs.Limits.{max_message}

@@ -7,7 +7,7 @@ use Rattle.engine.specs.Views.{EntryView}
 use Rattle.engine.specs.Welcomes.{under_own_name}
 use Rattle.session.specs.Session.{Setting}
 use Rattle.scripts.specs.Views.{LineView}
-use Rattle.programs.specs.Telling.{refused_line}
+use Rattle.prints.specs.Telling.{refused_line}
 use Rattle.world.specs.declared.kinds.Refused.{Refused}
 use Rattle.world.specs.declared.kinds.Refused.TheVariants.{NoSuchConnection, WrongPeer, SessionsFull, Memory}
 use Rattle.world.specs.declared.kinds.Seen.{Seen as SeenTold}

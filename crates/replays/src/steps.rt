@@ -10,7 +10,7 @@ ghost use Rattle.replays.specs.Running.{LeadsBy, SettlesBy, Stepped};
 
 use client::SubmitFault;
 use engine::{Engine, Gate};
-use programs::refusal_code;
+use prints::refusal_code;
 use server::{What, Worked};
 use std::alloc::AllocError;
 use world::{Event, Refused, Seen, World};

@@ -1,5 +1,5 @@
 use Rattle.std.proofs.Common.{refl}
-use Rattle.programs.proofs.Moved.{gets_then}
+use Rattle.prints.proofs.Gets.{gets_then}
 use Rattle.listening.proofs.reasons.put_reason.Goals as goal
 
 pub returns-clause-text : goal.returns-clause-text

@@ -1,6 +1,6 @@
 use Rattle.std.proofs.Common.{◌≡◌, ◌++◌, ◌-◌, take, string_bytes, flat_map}
 use Rattle.engine.specs.Prelude.{entries_view}
-use Rattle.programs.specs.Prelude.{entry_line}
+use Rattle.prints.specs.Prelude.{entry_line}
 use Rattle.replays.proofs.reports.push_entries.Given as goal
 
 abbrev pub invariant-loop-entry : goal.invariant-loop-entry

@@ -1,5 +1,5 @@
 use Rattle.std.proofs.Common.{◌≡◌, ◌++◌, ◌-◌, take, string_bytes, flat_map}
-use Rattle.programs.specs.Prelude.{lost_line}
+use Rattle.prints.specs.Prelude.{lost_line}
 use Rattle.replays.proofs.reports.push_lost.Given as goal
 
 abbrev pub invariant-loop-ordinal : goal.invariant-loop-ordinal

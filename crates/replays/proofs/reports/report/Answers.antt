@@ -1,6 +1,6 @@
 use Rattle.std.proofs.Common.{ap, ◌∙◌, ◌++◌, flat_map}
 use Rattle.engine.specs.Prelude.{entries_view}
-use Rattle.programs.specs.Prelude.{entry_line}
+use Rattle.prints.specs.Prelude.{entry_line}
 use Rattle.replays.specs.Prelude.{connections_text}
 use Rattle.replays.proofs.reports.report.Goals as goal
 

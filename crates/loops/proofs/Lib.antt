@@ -1,0 +1,5 @@
+pub mod Stops
+pub mod Taken
+pub mod Turned
+pub mod Looped
+pub mod Broken

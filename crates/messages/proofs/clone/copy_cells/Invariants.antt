@@ -1,6 +1,0 @@
-use Rattle.std.proofs.Common.{◌≡◌, take}
-use Rattle.cells.specs.Prelude.{entries}
-use Rattle.messages.proofs.clone.copy_cells.Given as goal
-
-abbrev pub invariant-loop-name : goal.invariant-loop-name
-invariant-loop-name l = entries l.copies.items ≡ entries (take l.name-index l.name-items)

@@ -1,0 +1,14 @@
+use Rattle.std.proofs.Common.{◌≡◌, ℕ, List, length, ◌≤◌, ◌*◌, ◌+◌}
+use Rattle.std.specs.Io.KnownBytes.{Consumes}
+use Rattle.one_by_one.proofs.connections.drain.Given as goal
+
+-- each read drops 1,024 bytes at most, and leaves one read less
+abbrev pub invariant-loop : goal.invariant-loop
+invariant-loop g l = record {
+  dropped : List ℕ;
+  read : Consumes l.fn.streams.at.left (g.I.Source.left l.streams-inside.source) dropped;
+  few : length dropped ≤ 1024 * l.counter;
+  reads : g.I.Source.reads l.streams-inside.source + l.counter ≤ l.fn.streams.at.reads;
+  written : g.O.Sink.taken l.streams-inside.sink ≡ l.fn.streams.at.written;
+  write_failed : g.O.Sink.has_failed l.streams-inside.sink ≡ l.fn.streams.at.write_failed;
+}

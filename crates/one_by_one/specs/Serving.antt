@@ -1,0 +1,56 @@
+-- What serving one connection after another does.
+use Rattle.std.specs.Prelude.{◌≡◌, ◌⊎◌, ◌≤◌, ℕ, ◌+◌, Bool, true, List, [], ◌++◌, length, Option, Some, None, Result, Ok, Err, IfErr}
+use Rattle.std.specs.Io.KnownBytes.{Consumes, IsAtEnd}
+use Rattle.engine.specs.Views.{EntryView}
+use Rattle.session.specs.declared.kinds.Cause.{Cause}
+use Rattle.session.specs.Session.{Setting}
+use Rattle.server.specs.declared.server.Server.{Server}
+use Rattle.server.specs.Serving.{Rest, opened}
+use Rattle.server.specs.Views.{Fits}
+use Rattle.streams.specs.declared.fault.StreamFault.{StreamFault}
+use Rattle.serves.specs.Settling.{IsDueTo}
+use Rattle.serves.specs.Serving.{Serves}
+use Rattle.one_by_one.specs.declared.connections.ServedOne.{ServedOne}
+use Rattle.one_by_one.specs.Streams.{Connection}
+
+-- no session lives
+abbrev pub IsVacant : {E G : Type 0} → (E → List EntryView) → Server E G → Type 0
+IsVacant {G = G} entries s = (r : Rest G) × Fits entries s r × (r.sessions ≡ [])
+
+-- what is told of a connection: the cause of its end; or that it is lost, and the fault that broke it off
+abbrev pub told_of : Result Cause StreamFault → ServedOne
+told_of (Ok cause) = record { cause = cause; fault = None }
+told_of (Err fault) = record { cause = Cause.Lost; fault = Some fault }
+
+module _ {G : Type 0} (r : Rest G) where
+  -- A session was opened with this number, the next, and the server stands so.
+  pub record HasOpened (conn : ℕ) (Now : Rest G → Type 0) : Type 0 where
+    pub number : conn ≡ r.next
+    pub now : Now (opened r)
+
+  -- One more session was opened and given up, and the ledger has grown by some entries, or by none.
+  abbrev pub HasServed : (Rest G → Type 0) → Type 0
+  HasServed Now = (more : List EntryView)
+      × Now (record { sessions = []; next = r.next + 1; ledger = r.ledger ++ more; gate = r.gate })
+
+  -- the same, or no session could be opened
+  abbrev pub MayHaveServed : (Rest G → Type 0) → Type 0
+  MayHaveServed Now = Now r ⊎ HasServed Now
+
+  -- The connection was served as the conversation for what was read has it, whole or up to a fault, which is a stream's only if that has
+  -- failed; and this is told of it.
+  abbrev pub ServesSo : ℕ → Setting → (Rest G → Type 0) → Connection → Connection → ServedOne → Type 0
+  ServesSo conn S Now before after told =
+      (served : Result Cause StreamFault)
+      × Serves r conn S Now before.left after.left before.written after.written served
+      × (told ≡ told_of served)
+      × IfErr served (λ e. IsDueTo e after.read_failed after.write_failed)
+
+-- Bytes were read and dropped, 65,536 at most: to the end of the input, to a failure, or by 64 reads that gave some. Nothing was written.
+pub record Drains (before after : Connection) : Type 0 where
+  pub dropped : List ℕ
+  pub read : Consumes before.left after.left dropped
+  pub few : length dropped ≤ 65536
+  pub ends : IsAtEnd after.left ⊎ (after.read_failed ≡ true) ⊎ (after.reads + 64 ≤ before.reads)
+  pub written : after.written ≡ before.written
+  pub write_failed : after.write_failed ≡ before.write_failed

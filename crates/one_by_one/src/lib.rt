@@ -1,0 +1,6 @@
+//! A server of one connection after another, over streams.
+#![tactic(auto)]
+
+mod connections;
+
+pub use connections::{ServedOne, ServerStreams, drain, open_session, serve_next};

@@ -1,0 +1,4 @@
+pub mod Escapings
+pub mod Stops
+pub mod Gets
+pub mod Spelled

@@ -1,0 +1,14 @@
+-- What is printed of a cell is the spelling of its one form.
+use Rattle.std.proofs.Common.{◌≡◌, ap, ◌∙◌}
+use Rattle.hex.specs.Hex.{encode_lower}
+use Rattle.packstream.specs.Prelude.{Tree, canon}
+use Rattle.wire.specs.declared.Version.{Version}
+use Rattle.cells.specs.Prelude.{fault, structures}
+use Rattle.cells.proofs.Fine.{fine_scan}
+use Rattle.structures.specs.Prelude.{Form, form}
+use Rattle.structures.proofs.Formed.{again}
+use Rattle.prints.specs.Telling.{spelled}
+
+pub spelled_form : (v : Version) (cell t : Tree) → Form v cell t → spelled v cell ≡ encode_lower (canon t)
+unfolding spelled
+spelled_form v cell t f = ap (λ (s : Tree). encode_lower (canon s)) (ap (form v) f.1 ∙ again v t (fine_scan (fault v) 0 f.0.0 (structures t) f.0.1))

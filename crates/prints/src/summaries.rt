@@ -1,0 +1,123 @@
+//! What is printed of what a client heard.
+ghost use Rattle.std.specs.Prelude.{◌≡◌, IfOk, string_bytes};
+ghost use Rattle.cells.specs.Shape.{shape, shapes};
+ghost use Rattle.messages.specs.View.{response_view};
+ghost use Rattle.prints.specs.Telling.{IsSpelled, row_line, row_text, heard_line, fault_line, failure_line};
+ghost use Rattle.prints.specs.Names.{outcome_name, phase_name};
+
+use crate::escapes::escape;
+use crate::names::{outcome_name, phase_name};
+use arrayvec::ArrayString;
+use bytes::BytesMut;
+use client::Outcome;
+use itoa::Buffer;
+use machine::Phase;
+use messages::Response;
+use packstream::encode;
+use std::alloc::{AllocError, Global};
+use structures::{Cell, write};
+use wire::Version;
+
+/// How many bytes the line of a summary has at most: it has 49 at the longest number and names.
+pub const LONGEST_SUMMARY: usize = 64;
+
+/// `heard ORDINAL OUTCOME PHASE` on a line. Takes no memory.
+pub fn heard_line(ordinal: u64, outcome: Outcome, phase: Phase) -> ArrayString<LONGEST_SUMMARY>
+    ensures { result.bytes ≡ heard_line ordinal (outcome_name outcome) (phase_name phase) }
+{
+    let mut digits = Buffer::new();
+    let mut line = ArrayString::new();
+    line.push_str("heard ");
+    line.push_str(digits.format(ordinal));
+    line.push_str(" ");
+    line.push_str(outcome_name(outcome));
+    line.push_str(" ");
+    line.push_str(phase_name(phase));
+    line.push_str("\n");
+    line
+}
+
+/// `row HEX` on a line. A row that was heard at the version can be written.
+pub(crate) fn row(alloc: Global, version: Version, cells: Vec<Cell>) -> Result<String, AllocError>
+    ensures { IfOk result (λ t. string_bytes t ≡ row_text version (shapes cells.items)) }
+{
+    let list = Cell::List(cells);
+    let hex = spelled(alloc, version, &list)?;
+    row_text(alloc, hex.as_str())
+}
+
+/// The shortest spelling of a cell, in lower case hex.
+fn spelled(alloc: Global, version: Version, cell: &Cell) -> Result<String, AllocError>
+    ensures { IfOk result (λ t. IsSpelled version (shape cell.now) (string_bytes t)) }
+{
+    let Ok(packed) = write(alloc, version, cell) else {
+        return Err(AllocError);
+    };
+    let mut spelling = BytesMut::new(alloc);
+    let Ok(()) = encode(&packed, &mut spelling) else {
+        return Err(AllocError);
+    };
+    let hex = hex::encode(alloc, spelling.as_slice())?;
+    Ok(hex)
+}
+
+fn row_text(alloc: Global, hex: &str) -> Result<String, AllocError>
+    ensures { IfOk result (λ t. string_bytes t ≡ row_line hex.now) }
+{
+    let text = format!(in alloc; "row {hex}\n")?;
+    Ok(text)
+}
+
+/// `heard ORDINAL OUTCOME PHASE` on a line.
+pub fn summary(
+    alloc: Global,
+    ordinal: u64,
+    outcome: Outcome,
+    phase: Phase,
+) -> Result<String, AllocError>
+    ensures { IfOk result (λ t. string_bytes t
+        ≡ heard_line ordinal (outcome_name outcome) (phase_name phase)) }
+{
+    let outcome = outcome_name(outcome);
+    let phase = phase_name(phase);
+    summary_text(alloc, ordinal, outcome, phase)
+}
+
+fn summary_text(
+    alloc: Global,
+    ordinal: u64,
+    outcome: &str,
+    phase: &str,
+) -> Result<String, AllocError>
+    ensures { IfOk result (λ t. string_bytes t ≡ heard_line ordinal outcome.now phase.now) }
+{
+    let text = format!(in alloc; "heard {ordinal} {outcome} {phase}\n")?;
+    Ok(text)
+}
+
+/// `fault CODE MESSAGE` on a line, of a FAILURE alone.
+pub(crate) fn failure(alloc: Global, response: &Response) -> Result<Vec<u8>, AllocError>
+    ensures { IfOk result (λ t. t.items ≡ failure_line (response_view response.now)) }
+{
+    match response {
+        Response::Failure { code, message } => {
+            failure_text(alloc, code.as_str(), message.as_str())
+        }
+        _ => Ok(Vec::new(alloc)),
+    }
+}
+
+/// The code and the message are a stranger's.
+fn failure_text(alloc: Global, code: &str, message: &str) -> Result<Vec<u8>, AllocError>
+    ensures { IfOk result (λ t. t.items ≡ fault_line code.now message.now) }
+{
+    let code = escape(alloc, code)?;
+    let message = escape(alloc, message)?;
+    let mut line = Vec::new(alloc);
+    line.extend_from_slice(b"fault ")?;
+    line.extend_from_slice(code.as_bytes())?;
+    line.extend_from_slice(b" ")?;
+    line.extend_from_slice(message.as_bytes())?;
+    line.extend_from_slice(b"\n")?;
+    Ok(line)
+}

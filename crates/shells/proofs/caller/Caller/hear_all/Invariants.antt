@@ -1,0 +1,11 @@
+use Rattle.shells.specs.Prelude.{Hears, IsAt, Place}
+use Rattle.std.proofs.Common.{None}
+use Rattle.shells.proofs.caller.Caller.hear_all.Given as goal
+
+-- what was heard so far is printed
+abbrev pub invariant-loop-self : goal.invariant-loop-self
+invariant-loop-self g l = (p : Place) → IsAt l.fn.self p → Hears None p l.fn.streams.at l.streams.at l.self
+
+-- how many more reads may give bytes
+abbrev pub decreases-loop-self : goal.decreases-loop-self
+decreases-loop-self g l = l.streams.at.reads

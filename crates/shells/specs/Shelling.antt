@@ -1,0 +1,190 @@
+-- What the parts of a shell do, with or without a fault, and how a shell ends.
+use Rattle.std.specs.Prelude.{◌≡◌, ◌⊎◌, ℕ, Bool, true, false, if◌then◌else◌, List, [], ◌∷◌, ◌++◌, ◌==◌, drop, Option, Some, None, IfSome, Result, Ok, Err}
+use Rattle.std.specs.List.{All}
+use Rattle.std.specs.Io.KnownBytes.{Appends, Consumes, IsAtEnd}
+use Rattle.wire.specs.declared.Version.{Version}
+use Rattle.messages.specs.View.{RequestView}
+use Rattle.client.specs.declared.SubmitFault.{SubmitFault}
+use Rattle.client.specs.Rest.{Note, awaits, refuses}
+use Rattle.streams.specs.declared.fault.StreamFault.{StreamFault}
+use Rattle.streams.specs.Failing.{StaysSound}
+use Rattle.streams.specs.Fronts.{AppendsFront}
+use Rattle.asks.specs.Asking.{hears_all, IsAwaited, IsTurn}
+use Rattle.scripts.specs.Views.{Text}
+use Rattle.scripts.specs.Words.{is_empty}
+use Rattle.scripts.specs.Script.{lines, filled_from, filled_lines}
+use Rattle.scripts.specs.Rows.{request_line_of}
+use Rattle.shells.specs.declared.caller.Caller.{Caller}
+use Rattle.shells.specs.declared.shells.Conversation.{Conversation}
+use Rattle.prints.specs.declared.stop.StopReason.{StopReason}
+use Rattle.prints.specs.declared.stop.StopReason.TheVariants.{Unreadable, Broken}
+use Rattle.prints.specs.Names.{refusal_code}
+use Rattle.prints.specs.Stopping.{Gets, IsStopOf, ends_with, said_of}
+use Rattle.prints.specs.Telling.{refused_line}
+use Rattle.shells.specs.Talking.{FailsToPut, Place, IsAt, submitted, sent_out, said, Printed, printed_text, HeardUpTo, heard_log, Log, Exchanges, IsServersTurn, Moves, IsUsedUp, Stands, Anywhere, place_after}
+use Rattle.shells.specs.Streams.{Streams}
+
+-- These notes are printed, or a fault came while one was.
+pub record PrintsNotes (v : Version) (notes : List Note) (broken : Option StreamFault)
+    (before after : Streams) : Type 0 where
+  pub done : Printed v notes broken
+  pub moves : Moves broken before after (said (printed_text done) done.told)
+
+-- what is seen of a server's answers
+pub record ServerSide : Type 0 where
+  pub left : Option (List ℕ)
+  pub reads : ℕ
+  pub failed : Bool
+
+abbrev pub server_side : Streams → ServerSide
+server_side s = record { left = s.left; reads = s.reads; failed = s.read_failed }
+
+-- This was told, and nothing else.
+pub record TellsMore (before after : Streams) (text : List ℕ) : Type 0 where
+  pub only : after ≡ record before { told = after.told; deaf = after.deaf }
+  pub got : Gets before.deaf after.deaf before.told after.told text
+
+-- Bytes were read and fed, and what they tell was printed, up to a fault.
+pub record Hears (fault : Option StreamFault) (p : Place) (before after : Streams) (c : Caller)
+    : Type 0 where
+  pub heard : HeardUpTo fault p
+  pub moves : Moves fault before after (heard_log [] heard)
+  pub at : IsAt c (place_after p heard.fed)
+
+-- Bytes were read, fed and printed until no answer was still to come, the input had ended, or a fault came.
+pub record HearsAll (fault : Option StreamFault) (p : Place) (before after : Streams) (c : Caller)
+    : Type 0 where
+  pub hears : Hears fault p before after c
+  pub ends : fault ≡ None
+      → IsAtEnd after.left ⊎ (awaits (hears_all p.rest hears.heard.fed).knows ≡ false)
+
+-- What waited to be sent, or some of it, of which so many bytes were taken out, was written; then bytes were heard as `HearsAll` has it.
+pub record Converses (fault : Option StreamFault) (p : Place) (before after : Streams) (c : Caller)
+    : Type 0 where
+  pub out : ℕ
+  pub heard : HeardUpTo fault p
+  pub moves : Moves fault before after (heard_log p.rest.unsent heard)
+  pub at : IsAt c (place_after (sent_out p out) heard.fed)
+  pub ends : fault ≡ None → (drop out p.rest.unsent ≡ [])
+      × (IsAtEnd after.left ⊎ (awaits (hears_all p.rest heard.fed).knows ≡ false))
+
+-- An exchange was made, up to a fault.
+pub record Asks (fault : Option StreamFault) (p : Place) (before after : Streams)
+    (Now : Place → Type 0) : Type 0 where
+  pub log : Log
+  pub place : Place
+  pub exchange : Exchanges (IsUsedUp before.left after.left) fault p log place
+  pub moves : Moves fault before after log
+  pub at : Now place
+
+-- A request was submitted; or it is refused, which was printed; or a fault came: nothing was printed, or a beginning of it.
+abbrev pub Submits : Place → RequestView → ℕ → Option (List ℕ) → Option (List ℕ)
+    → (Place → Type 0) → Result Bool StreamFault → Type 0
+Submits p q number before after Now (Ok true) =
+    (refuses p.rest.knows q ≡ None) × (after ≡ before) × Now (submitted p q)
+Submits p q number before after Now (Ok false) =
+    (why : SubmitFault) × (code : List ℕ) × (refuses p.rest.knows q ≡ Some why)
+    × (refusal_code why ≡ Some code) × Appends before after (refused_line number code) × Now p
+Submits p q number before after Now (Err fault) =
+    Now p × ((after ≡ before)
+    ⊎ ((why : SubmitFault) × (code : List ℕ) × (refuses p.rest.knows q ≡ Some why)
+    × (refusal_code why ≡ Some code) × AppendsFront before after (refused_line number code)))
+
+-- a line with its number, unless it is empty
+abbrev pub if_filled : ℕ → Text → List (ℕ × Text)
+if_filled n line = if is_empty line then [] else (n, line) ∷ []
+
+-- Of these bytes of the input each line that has ended is done, and the last is begun: whatever follows, its lines follow those.
+pub record Progress (start now : Streams) (script : List ℕ) (c : Conversation) : Type 0 where
+  pub done : List (ℕ × Text)
+  pub stands : Stands None start now done (IsAt c.caller)
+  pub begun : All (λ b. (b == 10) ≡ false) c.begun.items
+  pub follow : (more : List ℕ) → filled_lines (script ++ more)
+      ≡ done ++ filled_from c.number (lines (c.begun.items ++ more))
+
+-- the fault by which a conversation is broken off
+abbrev pub fault_in : Option StopReason → Option StreamFault
+fault_in None = None
+fault_in (Some (Unreadable n)) = None
+fault_in (Some (Broken fault)) = Some fault
+
+-- which lines of a script are done: all; or those before the first that can't be read; or a beginning of them
+abbrev pub AreDone : Option StopReason → List (ℕ × Text) → List (ℕ × Text) → Type 0
+AreDone None all done = all ≡ done
+AreDone (Some (Unreadable n)) all done =
+    (line : Text) × (rest : List (ℕ × Text)) × (all ≡ done ++ (n, line) ∷ rest)
+    × (request_line_of line ≡ None)
+AreDone (Some (Broken fault)) all done = (rest : List (ℕ × Text)) × (all ≡ done ++ rest)
+
+-- Of these lines, behind others that were done, as many are done as a stop leaves.
+pub record Does (stop : Option StopReason) (start now : Streams) (before all : List (ℕ × Text))
+    (Now : Place → Type 0) : Type 0 where
+  pub done : List (ℕ × Text)
+  pub lines : AreDone stop all done
+  pub stands : Stands (fault_in stop) start now (before ++ done) Now
+
+-- the same of all lines of a script
+abbrev pub DoesAll : Option StopReason → Streams → Streams → List ℕ → Type 0
+DoesAll stop start now script = Does stop start now [] (filled_lines script) Anywhere
+
+-- A byte more of the input was done; or it stopped at it, before the bytes after it were looked at.
+abbrev pub TakesByte : Streams → Streams → List ℕ → ℕ → Conversation → Result (Unit {0}) StopReason
+    → Type 0
+TakesByte start now script byte c (Ok x) = Progress start now (script ++ byte ∷ []) c
+TakesByte start now script byte c (Err stop) =
+    (more : List ℕ) → DoesAll (Some stop) start now (script ++ byte ∷ more)
+
+-- a piece more of the input was done, or it stopped in it
+abbrev pub Takes : Streams → Streams → List ℕ → List ℕ → Conversation → Result (Unit {0}) StopReason
+    → Type 0
+Takes start now script piece c (Ok x) = Progress start now (script ++ piece) c
+Takes start now script piece c (Err stop) = DoesAll (Some stop) start now (script ++ piece)
+
+-- the input was read, to its end if nothing stops before, and its lines were done
+pub record Runs (stop : Option StopReason) (before after : Option (List ℕ)) (start now : Streams)
+    : Type 0 where
+  pub script : List ℕ
+  pub read : Consumes before after script
+  pub end : stop ≡ None → IsAtEnd after
+  pub does : DoesAll stop start now script
+
+-- How a shell went. Its status says whether it stopped, and why; standard error has why at last. Its lines are those of the bytes of the input
+-- that were read: all of them to the end; or those before the first that can't be read, which has the number that is told. The streams moved
+-- as the conversation over these lines has it. A stream is told to have failed only if one of them has.
+pub record Shells (status : ℕ) (input_failed : Bool) (before after : Option (List ℕ))
+    (start now : Streams) : Type 0 where
+  pub stop : Option StopReason
+  pub ends : status ≡ ends_with stop
+  pub cause : IfSome stop (λ s.
+      IsStopOf s ((input_failed ≡ true) ⊎ (now.read_failed ≡ true)) (FailsToPut now))
+  pub told : Option (List ℕ)
+  pub deaf : Bool
+  pub runs : Runs stop before after start (record now { told = told; deaf = deaf })
+  pub said : Gets deaf now.deaf told now.told (said_of stop)
+
+-- The streams to the server and standard output are as sound as they were.
+pub record IsSound (before after : Streams) : Type 0 where
+  pub source : StaysSound before.read_failed after.read_failed
+  pub sink : StaysSound before.write_failed after.write_failed
+  pub out : StaysSound before.print_failed after.print_failed
+
+-- It is the turn of a client's server: the sink took all that the client puts out, and an answer is still to come.
+abbrev pub IsAsked : Streams → Caller → Option (List ℕ) → Option (List ℕ) → Type 0
+IsAsked now c left taken = (p : Place) → IsAt c p → IsTurn p.rest now.left left now.written taken
+
+-- the same if the sink took all before
+abbrev pub IsHeard : Streams → Caller → Option (List ℕ) → Option (List ℕ) → Type 0
+IsHeard now c left taken =
+    (p : Place) → IsAt c p → Appends now.written taken [] × IsAwaited p.rest now.left left
+
+-- the same after any conversation that leaves the streams and the client so
+abbrev pub IsTurnAfter : Streams → Caller → Option (List ℕ) → Option (List ℕ) → Type 0
+IsTurnAfter now c left taken =
+    (start : Streams) (done : List (ℕ × Text)) → Stands None start now done (IsAt c)
+    → IsServersTurn start left taken
+
+-- the same after any beginning of an input
+abbrev pub IsTurnWithin : Streams → Conversation → Option (List ℕ) → Option (List ℕ) → Type 0
+IsTurnWithin now c left taken =
+    (start : Streams) (script : List ℕ) → Progress start now script c
+    → IsServersTurn start left taken

@@ -1,0 +1,275 @@
+-- What a client at a shell does with numbered lines: what it sends and reads, what is printed and told, and where it stands then.
+use Rattle.std.specs.Prelude.{◌≡◌, ◌⊎◌, ℕ, Bool, true, false, not, ◌&&◌, if◌then◌else◌, List, [], ◌∷◌, ◌++◌, drop, codes, Option, Some, None}
+use Rattle.std.specs.List.{flat_map}
+use Rattle.std.specs.Io.KnownBytes.{Appends, Consumes, IsAtEnd}
+use Rattle.wire.specs.declared.Version.{Version}
+use Rattle.wire.specs.declared.Version.TheVariants.{V51}
+use Rattle.wire.specs.declared.Wish.TheVariants.{Newest}
+use Rattle.machine.specs.declared.Phase.{Phase}
+use Rattle.machine.specs.Following.{is_defunct}
+use Rattle.messages.specs.View.{RequestView}
+use Rattle.client.specs.declared.Outcome.{Outcome}
+use Rattle.client.specs.declared.SubmitFault.{SubmitFault}
+use Rattle.client.specs.Rest.{Knows, Note, Rest, begun as begun_rest, refuses, after_submit, taken_out, awaits}
+use Rattle.client.specs.Fits.{Fits}
+use Rattle.streams.specs.declared.fault.StreamFault.{StreamFault}
+use Rattle.streams.specs.declared.fault.StreamFault.TheVariants.{ReadFailed, WriteFailed, Memory}
+use Rattle.streams.specs.Failing.{StaysSound}
+use Rattle.streams.specs.Fronts.{AppendsFront}
+use Rattle.asks.specs.Asking.{hears_all, after_all, IsNeeded, given_up, losses_then}
+use Rattle.scripts.specs.Views.{Text, ScriptRequestView}
+use Rattle.scripts.specs.Meant.{meant}
+use Rattle.scripts.specs.Rows.{request_line_of}
+use Rattle.shells.specs.declared.caller.Caller.{Caller}
+use Rattle.prints.specs.Names.{refusal_code, version_name}
+use Rattle.prints.specs.Stopping.{Gets}
+use Rattle.prints.specs.Telling.{lost_line, refused_line}
+use Rattle.shells.specs.Printing.{IsBegun, IsFront, explained_all, versions_after, notes_text}
+use Rattle.shells.specs.Streams.{Streams}
+
+-- where a client stands, and the version at which rows are printed and requests are made
+pub record Place : Type 0 where
+  pub rest : Rest
+  pub version : Version
+
+-- at the beginning: the newest version, until one is heard
+abbrev pub first_place : Place
+first_place = record { rest = begun_rest Newest; version = V51 }
+
+-- a client that stands there
+pub record IsAt (c : Caller) (p : Place) : Type 0 where
+  pub fits : Fits c.client p.rest
+  pub version : c.version ≡ p.version
+
+-- after a request that is accepted
+abbrev pub submitted : Place → RequestView → Place
+submitted p q = record { rest = after_submit p.rest q; version = p.version }
+
+-- after so many bytes were taken out
+abbrev pub sent_out : Place → ℕ → Place
+sent_out p n = record { rest = taken_out p.rest n; version = p.version }
+
+-- where a client stands after these bytes of its server
+abbrev pub place_after : Place → List ℕ → Place
+place_after p bytes = record {
+  rest = after_all p.rest bytes;
+  version = versions_after p.version (hears_all p.rest bytes).notes;
+}
+
+-- what is printed of these bytes
+abbrev pub text_of : Place → List ℕ → List ℕ
+text_of p bytes = notes_text p.version (hears_all p.rest bytes).notes
+
+-- what is told at the start: the version that was taken, and how a line looks; or that there is no conversation
+abbrev pub greeting_of : Bool → Version → List ℕ
+greeting_of true v = codes "no conversation\n"
+greeting_of false v = codes "version " ++ version_name v
+    ++ codes "; each line is a request: hello, logon [bad], logoff, goodbye, reset, run TEXT HEX [r] [token T], begin [r] [token T], commit, rollback, discard N or pull N\n"
+
+-- the same where a client stands after the version was heard
+abbrev pub greeting : Place → List ℕ
+greeting p = greeting_of p.rest.knows.over p.version
+
+-- all that a client was told is printed, unless a sink failed or memory ran out
+abbrev pub is_printed : Option StreamFault → Bool
+is_printed None = true
+is_printed (Some ReadFailed) = true
+is_printed (Some WriteFailed) = false
+is_printed (Some Memory) = false
+
+-- no answer is still to come, and the client goes on: nothing but a GOODBYE waits
+abbrev pub is_settled : Knows → Bool
+is_settled k = not (awaits k) && not k.over
+
+-- what became of the requests that waited for an answer
+abbrev pub lost_of : Knows → List (ℕ × Outcome)
+lost_of k = if is_settled k then [] else losses_then k
+
+-- a line for each of them
+abbrev pub losses_text : List (ℕ × Outcome) → List ℕ
+losses_text losses = flat_map lost_line losses
+
+-- why a client has ended: its server took no version, or its answer can't be; nothing where a summary led to Defunct
+abbrev pub ending_by : Option Version → Phase → List ℕ
+ending_by None ph = codes "the server took no version\n"
+ending_by (Some v) ph = if is_defunct ph then []
+    else codes "the server's answer can't be: C6\n"
+
+-- why no answer comes any more, if no fault says so: the server is gone while one is awaited, or the client has ended
+abbrev pub ending : Knows → List ℕ
+ending k = if awaits k then codes "the server is gone\n"
+    else (if k.over then ending_by k.version k.phase else [])
+
+-- the same, unless a fault comes, which is told by itself
+abbrev pub why_text : Option StreamFault → Knows → List ℕ
+why_text None k = ending k
+why_text (Some fault) k = []
+
+-- the bytes that were sent to the server and read of it, and what was printed on standard output and told on standard error
+pub record Log : Type 0 where
+  pub sent : List ℕ
+  pub read : List ℕ
+  pub printed : List ℕ
+  pub told : List ℕ
+
+-- one log after another
+abbrev pub and_then : Log → Log → Log
+and_then a b = record {
+  sent = a.sent ++ b.sent;
+  read = a.read ++ b.read;
+  printed = a.printed ++ b.printed;
+  told = a.told ++ b.told;
+}
+
+-- what is printed and told, if nothing is sent or read
+abbrev pub said : List ℕ → List ℕ → Log
+said printed told = record { sent = []; read = []; printed = printed; told = told }
+
+-- a log of which more is told
+abbrev pub told_more : Log → List ℕ → Log
+told_more l text = record l { told = l.told ++ text }
+
+-- Of notes, in order, those that are printed; and what comes of the others, of which there are none unless a fault comes at the first: a beginning
+-- of it is printed, and each summary that isn't is told.
+pub record Printed (v : Version) (notes : List Note) (broken : Option StreamFault) : Type 0 where
+  pub shown : List Note
+  pub unshown : List Note
+  pub begun : List ℕ
+  pub told : List ℕ
+  pub parts : notes ≡ shown ++ unshown
+  pub next : IsBegun broken (versions_after v shown) unshown begun told
+
+-- what is printed of them
+abbrev pub printed_text : {v : Version} {notes : List Note} {broken : Option StreamFault}
+    → Printed v notes broken → List ℕ
+printed_text {v = v} x = explained_all v x.shown ++ x.begun
+
+-- Bytes are read as long as an answer is still to come, and printed as they are heard. A fault may break it off, perhaps while a note is printed.
+-- After a sink's failure, and if memory ran out, some of what was read wasn't fed or printed.
+pub record HeardUpTo (fault : Option StreamFault) (p : Place) : Type 0 where
+  pub fed : List ℕ
+  pub unheard : List ℕ
+  pub needed : IsNeeded p.rest (fed ++ unheard)
+  pub broken : Option StreamFault
+  pub breaks : (broken ≡ None) ⊎ (broken ≡ fault)
+  pub printed : Printed p.version (hears_all p.rest fed).notes broken
+  pub whole : is_printed fault ≡ true
+      → (printed.unshown ≡ []) × ((unheard ≡ []) ⊎ ((hears_all p.rest fed).knows.over ≡ true))
+
+-- what is read, printed and told so, if this was sent
+abbrev pub heard_log : {fault : Option StreamFault} {p : Place} → List ℕ → HeardUpTo fault p → Log
+heard_log sent h = record {
+  sent = sent;
+  read = h.fed ++ h.unheard;
+  printed = printed_text h.printed;
+  told = h.printed.told;
+}
+
+-- what is told where a client is given up: what became of its requests, and why no answer comes
+abbrev pub parting : Option StreamFault → Knows → List ℕ
+parting fault k = losses_text (lost_of k) ++ why_text fault k
+
+-- What waits to be sent is sent, and answers are heard. It ends if none is still to come, or if the server is gone, or by a fault. Then the
+-- client is given up, unless all was answered, and what became of the requests that waited is told, and why no answer comes.
+pub record Exchanges (Gone : Type 0) (fault : Option StreamFault) (p : Place) (log : Log) (q : Place)
+    : Type 0 where
+  pub out : ℕ
+  pub heard : HeardUpTo fault p
+  pub moved : log ≡ told_more (heard_log p.rest.unsent heard)
+      (parting fault (hears_all p.rest heard.fed).knows)
+  pub ends : fault ≡ None
+      → (drop out p.rest.unsent ≡ []) × (Gone ⊎ (awaits (hears_all p.rest heard.fed).knows ≡ false))
+  pub after : q ≡ record {
+    rest = given_up (after_all (taken_out p.rest out) heard.fed);
+    version = versions_after p.version (hears_all p.rest heard.fed).notes;
+  }
+
+-- what is told once the version is heard; nothing where a fault came before
+abbrev pub greeting_after : Option StreamFault → Place → List ℕ
+greeting_after None p = greeting p
+greeting_after (Some fault) p = []
+
+-- so much of a text is printed: all of it, or a beginning where a fault comes
+abbrev pub IsPart : Option StreamFault → List ℕ → List ℕ → Type 0
+IsPart None text part = part ≡ text
+IsPart (Some fault) text part = IsFront part text
+
+-- A line with its number is refused, which is printed; or its request is sent and its answers are heard. A fault may break that off.
+pub data TalksLine (Gone : Type 0) (fault : Option StreamFault) (p : Place) (l : ℕ × Text)
+    : Log → Place → Type 0 where
+  refuses_line : (q : ScriptRequestView) (why : SubmitFault) (code part : List ℕ)
+      → request_line_of l.1 ≡ Some q → refuses p.rest.knows (meant p.version q) ≡ Some why
+      → refusal_code why ≡ Some code → IsPart fault (refused_line l.0 code) part
+      → TalksLine Gone fault p l (said part []) p
+  answers_line : (q : ScriptRequestView) (log : Log) (r : Place) → request_line_of l.1 ≡ Some q
+      → refuses p.rest.knows (meant p.version q) ≡ None
+      → Exchanges Gone fault (submitted p (meant p.version q)) log r → TalksLine Gone fault p l log r
+
+-- A client's conversation, after these lines: the version is heard, and then the lines follow. A fault may break the last of it off. What holds
+-- if the server is gone is told beside.
+pub data Talked (Gone : Type 0) : Option StreamFault → List (ℕ × Text) → Log → Place → Type 0 where
+  opens : (fault : Option StreamFault) (log : Log) (p : Place)
+      → Exchanges Gone fault first_place log p
+      → Talked Gone fault [] (told_more log (greeting_after fault p)) p
+  next_line : (fault : Option StreamFault) (lines : List (ℕ × Text)) (l : ℕ × Text) (log more : Log)
+      (p r : Place) → Talked Gone None lines log p → TalksLine Gone fault p l more r
+      → Talked Gone fault (lines ++ l ∷ []) (and_then log more) r
+
+-- all of it was put out, or a beginning
+abbrev pub Puts : Bool → Option (List ℕ) → Option (List ℕ) → List ℕ → Type 0
+Puts true before after bytes = Appends before after bytes
+Puts false before after bytes = AppendsFront before after bytes
+
+-- The streams moved as a log has it; the server was sent all, or a beginning where a sink failed or memory ran out. A stream that fails is told:
+-- without such a fault each is as sound as it was.
+pub record Moves (fault : Option StreamFault) (before after : Streams) (log : Log) : Type 0 where
+  pub read : Consumes before.left after.left log.read
+  pub sent : Puts (is_printed fault) before.written after.written log.sent
+  pub printed : Appends before.printed after.printed log.printed
+  pub told : Gets before.deaf after.deaf before.told after.told log.told
+  pub source : (fault ≡ Some ReadFailed → ⊥) → StaysSound before.read_failed after.read_failed
+  pub sinks : (fault ≡ Some WriteFailed → ⊥) → StaysSound before.write_failed after.write_failed
+      × StaysSound before.print_failed after.print_failed
+
+-- one of the sinks has failed
+abbrev pub FailsToPut : Streams → Type 0
+FailsToPut now = (now.write_failed ≡ true) ⊎ (now.print_failed ≡ true)
+
+-- nothing is left of the bytes that were known
+abbrev pub IsUsedUp : Option (List ℕ) → Option (List ℕ) → Type 0
+IsUsedUp None after = Unit {0}
+IsUsedUp (Some bytes) after = IsAtEnd after
+
+-- What a conversation did after these lines: it moved the streams so, and the client stands there. A fault came in the last exchange, or
+-- behind it. The server is gone only if nothing is left of its bytes.
+pub record Stands (fault : Option StreamFault) (start now : Streams) (lines : List (ℕ × Text))
+    (Now : Place → Type 0) : Type 0 where
+  pub log : Log
+  pub place : Place
+  pub broken : Option StreamFault
+  pub breaks : (broken ≡ None) ⊎ (broken ≡ fault)
+  pub talked : Talked (IsUsedUp start.left now.left) broken lines log place
+  pub moves : Moves fault start now log
+  pub at : Now place
+
+-- nothing is said of where a client stands
+abbrev pub Anywhere : Place → Type 0
+Anywhere p = Unit {0}
+
+-- A client asks its server, after so much of a conversation: for the version, or for the answers to a request that it accepts.
+pub data IsAsking : Log → Place → Type 0 where
+  asks_version : IsAsking (said [] []) first_place
+  asks_answer : (lines : List (ℕ × Text)) (log : Log) (p : Place) (q : RequestView)
+      → Talked (Unit {0}) None lines log p → refuses p.rest.knows q ≡ None
+      → IsAsking log (submitted p q)
+
+-- It is the server's turn: after so much of a conversation its sink took all that is asked of it, and after the bytes that were read of it an
+-- answer is still to come.
+pub record IsServersTurn (start : Streams) (left written : Option (List ℕ)) : Type 0 where
+  pub log : Log
+  pub place : Place
+  pub asking : IsAsking log place
+  pub read : List ℕ
+  pub input : Consumes start.left left (log.read ++ read)
+  pub awaited : awaits (hears_all place.rest read).knows ≡ true
+  pub asked : Appends start.written written (log.sent ++ place.rest.unsent)
