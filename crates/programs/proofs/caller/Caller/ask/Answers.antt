@@ -1,9 +1,0 @@
-use Rattle.programs.proofs.Heard.{asked}
-use Rattle.programs.proofs.caller.Caller.ask.Goals as goal
-
-pub converse-asked-requires : goal.converse-asked-requires
-converse-asked-requires g c = c.requires
-
-pub returns-clause-asks : goal.returns-clause-asks
-returns-clause-asks g c = λ p at.
-    asked (g.E.Sink.taken c.part.new.err) (g.E.Sink.has_failed c.part.new.err) (rw (← c.streams.view_is) at (c.converse-asked.ensures.converses p at)) c.part.ensures.version c.part.ensures.gives_up (rw c.err.ensures.value at c.part.ensures.tells)

@@ -1,7 +1,0 @@
-use Rattle.std.proofs.Common.{List, ℕ, ◌++◌, take}
-use Rattle.programs.specs.Prelude.{Progress, Streams}
-use Rattle.programs.proofs.shells.Conversation.take.Given as goal
-
--- the bytes before it are done
-abbrev pub invariant-loop-byte : goal.invariant-loop-byte
-invariant-loop-byte g l = (start : Streams) (script : List ℕ) → Progress start l.fn.streams.at script l.fn.self → Progress start l.streams.at (script ++ take l.byte-index l.piece) l.self
