@@ -42,6 +42,7 @@ pub(crate) fn signed(wide: Width, bytes: &[u8]) -> i64
 
 /// A number of this width.
 #[tactic(auto, unfolding(crate::specs::Reading::number_at))]
+#[inline]
 pub fn number_of(left: usize, wide: Width, bytes: &[u8]) -> Result<(u64, &[u8]), Stop>
     ensures { Gives (λ x. (x.0, x.1.now)) result (number_at left (width wide) bytes.now) }
 {
@@ -54,6 +55,7 @@ pub fn number_of(left: usize, wide: Width, bytes: &[u8]) -> Result<(u64, &[u8]),
 
 /// A signed number of this width.
 #[tactic(auto, unfolding(crate::specs::Reading::int_at, crate::specs::Reading::number_at))]
+#[inline]
 pub fn signed_of(left: usize, wide: Width, bytes: &[u8]) -> Result<(i64, &[u8]), Stop>
     ensures { Gives (λ x. (int x.0, x.1.now)) result (int_at left wide bytes.now) }
 {
@@ -66,6 +68,7 @@ pub fn signed_of(left: usize, wide: Width, bytes: &[u8]) -> Result<(i64, &[u8]),
 
 /// The length or the count that a marker announces.
 #[tactic(auto, unfolding(crate::specs::Reading::size_at))]
+#[inline]
 pub fn size_of(left: usize, size: Size, bytes: &[u8]) -> Result<(u64, &[u8]), Stop>
     ensures { Gives (λ x. (x.0, x.1.now)) result (size_at left size bytes.now) }
 {
@@ -77,6 +80,7 @@ pub fn size_of(left: usize, size: Size, bytes: &[u8]) -> Result<(u64, &[u8]), St
 
 /// As many bytes as a marker announces.
 #[tactic(auto, unfolding(crate::specs::Reading::bytes_at))]
+#[inline]
 pub fn bytes_of(left: usize, size: Size, bytes: &[u8]) -> Result<(&[u8], &[u8]), Stop>
     ensures { Gives (λ x. (x.0.now, x.1.now)) result (bytes_at left size bytes.now) }
 {
@@ -105,6 +109,7 @@ fn checked(bytes: &[u8]) -> Option<&str>
 
 /// A text of as many bytes as a marker announces.
 #[tactic(auto, using(crate::proofs::Texts::texts), unfolding(crate::specs::Reading::text_at))]
+#[inline(always)]
 pub fn text_of(left: usize, size: Size, bytes: &[u8]) -> Result<(&str, &[u8]), Stop>
     ensures { Gives (λ x. (x.0.now, x.1.now)) result (text_at left size bytes.now) }
 {
@@ -117,6 +122,7 @@ pub fn text_of(left: usize, size: Size, bytes: &[u8]) -> Result<(&str, &[u8]), S
 
 /// A key that none of these pairs has.
 #[tactic(auto, unfolding(crate::specs::Reading::key_at, crate::specs::Reading::key_of))]
+#[inline]
 pub fn key_of<'a, T>(pairs: &[(String, T)], bytes: &'a [u8]) -> Result<(&'a str, &'a [u8]), Stop>
     ensures { Gives (λ x. (x.0.now, x.1.now)) result
         (key_at (map (λ e. string_bytes e.0) pairs.now) bytes.now) }
@@ -152,4 +158,17 @@ pub fn new_key_of<'a>(seen: &mut Seen<'a>, bytes: &'a [u8]) -> Result<(&'a str, 
         return Err(Stop::Fault(Reason::KeyTwice, left));
     }
     Ok((key, rest))
+}
+
+/// The first capacity of a list. Doubled from here the longest list of a message has room for 73,728 members. The list and a copy of
+/// it then stay below the threshold at which glibc gives memory back to the system, so no page is faulted in again for each message.
+const AT_ONCE: u64 = 1_152;
+
+/// How many members to make room for: no more than their count, the bytes that are left, and `AT_ONCE`.
+pub fn first_room(count: u64, bytes: &[u8]) -> usize
+    ensures bytes { result ≤ length bytes.now }
+    ensures count { result ≤ count }
+    ensures at_once { result ≤ AT_ONCE }
+{
+    count.min(bytes.len() as u64).min(AT_ONCE) as usize
 }

@@ -68,6 +68,7 @@ fn twin_compared<T>(pairs: &[(String, T)]) -> usize
 }
 
 /// Whether one of the pairs has the key.
+#[inline]
 pub fn has_key<T>(pairs: &[(String, T)], key: &str) -> bool
     ensures { result ≡ is_among key.now (map (λ e. string_bytes e.0) pairs.now) }
 {

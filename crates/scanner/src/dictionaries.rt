@@ -13,11 +13,11 @@ ghost use Rattle.structures.specs.Form.{form};
 ghost use Rattle.structures.specs.Steps.{form_entry};
 
 use crate::fault::Unscanned;
-use crate::plain::{first_room, int_in, text_in};
+use crate::plain::{int_in, text_in};
 use crate::scan::cell_in;
 use cells::Cell;
 use packstream::marker::{Marker, Size, marker_of};
-use packstream::reading::{key_of, new_key_of, size_of};
+use packstream::reading::{first_room, key_of, new_key_of, size_of};
 use packstream::seen::Seen;
 use packstream::twins::FEW;
 use std::alloc::Global;

@@ -7,10 +7,10 @@ ghost use Rattle.cells.specs.Shape.{text_of, texts_of, numbers_of, element_of, e
 ghost use Rattle.scanner.specs.Fields.{Laid, OpensList, OpensStructure};
 
 use crate::fault::Unscanned;
-use crate::plain::{first_room, int_in, text_in};
+use crate::plain::{int_in, text_in};
 use cells::ElementIds;
 use packstream::marker::{Marker, marker_of};
-use packstream::reading::size_of;
+use packstream::reading::{first_room, size_of};
 use std::alloc::Global;
 
 /// How many members a list has, and what stands behind its head.
@@ -57,6 +57,7 @@ pub(crate) fn structure_head(room: u8, tag: u8, bytes: &[u8]) -> Result<(u64, &[
 }
 
 /// A text of memory's own.
+#[inline(never)]
 pub(crate) fn string_in(alloc: Global, bytes: &[u8]) -> Result<(String, &[u8]), Unscanned>
     ensures { (room : ℕ)
         → IfOk result (λ x. layer (inner room) bytes.now ≡ Ok (text_of x.0, x.1.now)) }

@@ -11,8 +11,9 @@ use crate::fault::Unscanned;
 use crate::fields::{
     element_in, elements_in, indices_in, labels_in, list_head, string_in, structure_head,
 };
-use crate::plain::{first_room, int_in};
+use crate::plain::int_in;
 use cells::{Node, Path, Relationship, UnboundRelationship, tags};
+use packstream::reading::first_room;
 use std::alloc::Global;
 use wire::Version;
 

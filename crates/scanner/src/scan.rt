@@ -15,10 +15,10 @@ use crate::dictionaries::dict_of;
 use crate::fault::Unscanned;
 use crate::graphs::{node_of, path_of, relationship_of, unbound_of};
 use crate::moments::moment_of;
-use crate::plain::{first_room, int_in};
+use crate::plain::int_in;
 use cells::{Cell, check_cell, tags};
 use packstream::marker::{Marker, Size, Width, marker_of};
-use packstream::reading::{bytes_of, number_of, signed_of, size_of, text_of};
+use packstream::reading::{bytes_of, first_room, number_of, signed_of, size_of, text_of};
 use std::alloc::Global;
 use wire::Version;
 
