@@ -170,6 +170,8 @@ pub fn put_end<O: Sink>(
 ) -> Result<(), StreamFault>
     ensures told { OnOk result
         (Appends (O.taken out.old) (O.taken out.new) (conn_line conn cause)) }
+    ensures front { OnErr result
+        (AppendsFront (O.taken out.old) (O.taken out.new) (conn_line conn cause)) }
     ensures read { IsErrOf result StreamFault.ReadFailed → ⊥ }
     ensures written { IsErrOf result StreamFault.WriteFailed → O.has_failed out.new ≡ true }
 {
