@@ -37,7 +37,7 @@ loses r Now lost e h = rw e (h.1, h.0)
 pub reads_none : (r : Rest) (left : Option (List ℕ)) (before : List Note) (Now : Rest → Type 0) → Now r → ReadsOn r left left before before Now
 reads_none r left before Now now = record { fed = []; unheard = []; input = Consumes-nil left; told = sym (append-nil before); now = now; needed = inl refl; whole = inl refl }
 
-awaits_open : (k : Knows) → awaits k ≡ true → k.over ≡ true → ⊥
+pub awaits_open : (k : Knows) → awaits k ≡ true → k.over ≡ true → ⊥
 awaits_open k e o = let f : awaits k ≡ false = rw o refl in true≢false (sym e ∙ f)
 
 module _ {r : Rest} {left mid : Option (List ℕ)} {before notes : List Note} {Was : Rest → Type 0} (so : ReadsOn r left mid before notes Was) where

@@ -4,9 +4,10 @@ ghost use Rattle.prints.specs.Stopping.{Gets};
 ghost use Rattle.bolt.specs.Starting.{unread_status, unread_text};
 
 use commands::help_text;
+use prints::tell;
 use std::env::Env;
 use std::io::ErrorKind;
-use streams::{Sink, write_all};
+use streams::Sink;
 
 /// Why there are no words.
 #[derive(Clone, Copy, Debug, PartialEq, Eq)]
@@ -48,12 +49,4 @@ pub(crate) fn refuse<E: Sink>(unread: Unread, err: &mut E) -> u8
             2
         }
     }
-}
-
-/// Writes a text, as far as it is taken.
-fn tell<E: Sink>(text: &[u8], err: &mut E)
-    ensures { Gets (E.has_failed err.old) (E.has_failed err.new) (E.taken err.old) (E.taken err.new)
-        text.now }
-{
-    let _ = write_all(err, text);
 }

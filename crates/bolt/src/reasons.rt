@@ -4,11 +4,11 @@ ghost use Rattle.std.specs.IoError.{error_kind};
 ghost use Rattle.bolt.specs.Reasons.{connected_line, place_name};
 
 use crate::sockets::SILENCE;
-use prints::{escape, put_fault};
+use prints::{escape, put_fault, tell};
 use std::alloc::{AllocError, Global};
 use std::io;
 use std::io::ErrorKind;
-use streams::{Over, Sink, StreamFault, write_all};
+use streams::{Over, Sink, StreamFault};
 
 /// Says why a file isn't had: the fault on a line, and on the next the file and the system's reason, if there is memory for it.
 /// It answers the exit status.
@@ -56,14 +56,14 @@ pub(crate) fn put_lost<S, E: Sink>(alloc: Global, silence: &str, stream: &Over<S
         return;
     }
     if let Ok(text) = format!(in alloc; "the server: {silence} for {SILENCE} seconds\n") {
-        let _ = write_all(err, text.as_bytes());
+        tell(text.as_bytes(), err);
     }
 }
 
 /// Says which host and port a shell is connected to, if there is memory for it.
 pub(crate) fn put_connected<E: Sink>(alloc: Global, host: &str, port: u16, err: &mut E) {
     if let Ok(text) = connected_line(alloc, host, port) {
-        let _ = write_all(err, text.as_bytes());
+        tell(text.as_bytes(), err);
     }
 }
 
@@ -87,7 +87,7 @@ fn place_name(alloc: Global, host: &str, port: u16) -> Result<String, AllocError
 /// A name and the system's reason on a line, if there is memory for it.
 fn put_reason<E: Sink>(alloc: Global, name: &str, error: &io::Error, err: &mut E) {
     if let Ok(text) = format!(in alloc; "{name}: {error}\n") {
-        let _ = write_all(err, text.as_bytes());
+        tell(text.as_bytes(), err);
     }
 }
 

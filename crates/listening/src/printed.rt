@@ -9,7 +9,7 @@ ghost use Rattle.listening.specs.Printing.{cause_of};
 
 use hosts::{Journal, Parting};
 use itoa::Buffer;
-use prints::cause_code;
+use prints::{cause_code, tell};
 use server::Cause;
 use std::cell::Cell;
 use streams::{Sink, write_all};
@@ -36,14 +36,6 @@ fn cause_of(parting: Parting) -> Cause
     match parting {
         Parting::Whole(cause) | Parting::Cut(cause) => cause,
     }
-}
-
-/// Writes a text, as far as it is taken.
-fn tell<O: Sink>(text: &[u8], out: &mut O)
-    ensures { Gets (O.has_failed out.old) (O.has_failed out.new) (O.taken out.old) (O.taken out.new)
-        text.now }
-{
-    let _ = write_all(out, text);
 }
 
 /// Writes a number in decimal, as far as it is taken.

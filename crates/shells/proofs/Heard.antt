@@ -9,17 +9,13 @@ use Rattle.streams.specs.declared.fault.StreamFault.{StreamFault}
 use Rattle.streams.specs.declared.fault.StreamFault.TheVariants.{ReadFailed, WriteFailed, Memory}
 use Rattle.asks.specs.Prelude.{HearsPiece, IsAwaited, IsNeeded, ReadsPiece, Tale, Writes, after_all, after_notes, given_up, hears_all}
 use Rattle.streams.specs.Prelude.{StaysSound}
-use Rattle.asks.proofs.Asked.{needed_taken}
+use Rattle.asks.proofs.Asked.{awaits_open, needed_taken}
 use Rattle.asks.proofs.Tales.{hears_all-append}
 use Rattle.shells.specs.declared.caller.Caller.{Caller}
 use Rattle.shells.specs.Prelude.{Asks, Converses, HeardUpTo, Hears, HearsAll, IsAt, IsBegun, Moves, Place, Printed, Puts, Streams, and_then, heard_log, is_printed, parting, place_after, sent_out, versions_after, PrintsNotes}
 use Rattle.prints.specs.Prelude.{Gets}
 use Rattle.shells.proofs.Moved.{moves_by, moves_none, moves_read, moves_then, moves_told, moves_weak, used_at_end}
 use Rattle.shells.proofs.Printed.{logs_then, printed_all, printed_none, printed_then, place_more}
-
--- a client that awaits an answer goes on
-awaits_open : (k : Knows) → awaits k ≡ true → k.over ≡ true → ⊥
-awaits_open k e o = let f : awaits k ≡ false = rw o refl in true≢false (sym e ∙ f)
 
 -- ---- one piece
 
