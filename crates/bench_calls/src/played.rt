@@ -87,7 +87,11 @@ pub(crate) fn work(server: &mut Ours, first: u64, after: u64) -> Result<(), Stop
             match server.work(conn)? {
                 Worked::Idle => {}
                 Worked::Full | Worked::Ended(_) => return Err(Stopped),
-                Worked::Row | Worked::Wrote { .. } => is_idle = false,
+                Worked::Row => {
+                    server.write_rows(conn);
+                    is_idle = false;
+                }
+                Worked::Wrote { .. } => is_idle = false,
             }
         }
         if is_idle {

@@ -92,7 +92,10 @@ fn work(server: &mut Ours, link: &mut Link, tally: &mut Tally) -> Result<(), Sto
         match server.work(link.conn)? {
             Worked::Idle | Worked::Ended(_) => return Ok(()),
             Worked::Full => down(server, link, tally)?,
-            Worked::Row | Worked::Wrote { .. } => {}
+            Worked::Row => {
+                server.write_rows(link.conn);
+            }
+            Worked::Wrote { .. } => {}
         }
     }
     Err(Stopped)

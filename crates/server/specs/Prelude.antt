@@ -1,6 +1,6 @@
 -- The words of this crate's definitions, as proofs import them.
 pub use Rattle.server.specs.Feeding.{arrives, arrival, Feeding, takes_none, takes_item, feeding, WantsRoom}
-pub use Rattle.server.specs.Serving.{Rest, Live, opened, fresh, find, replace, without, after_feeding, fed_live, with_kept, taken_from, noop_put, cause_or, empty, with_session, with_sessions, is_full, on_live, feed_at, take_out_at, unsent_at, left_by, sent_at, setting, after_step, work_at, lost_at, Opens, MayFeed, MayTakeOut, MayWork, MayPutNoop}
+pub use Rattle.server.specs.Serving.{Rest, Live, opened, fresh, find, replace, without, after_feeding, fed_live, with_kept, taken_from, noop_put, cause_or, empty, with_session, with_sessions, is_full, on_live, feed_at, take_out_at, unsent_at, left_by, sent_at, setting, after_step, work_at, WritesAt, lost_at, Opens, MayFeed, MayTakeOut, MayWork, MayPutNoop}
 pub use Rattle.server.specs.Incoming.{offered, opened_of, fed, IsReceived}
 pub use Rattle.server.specs.Views.{live_of, rest_of, Fits}
 pub use Rattle.server.specs.Places.{Place, PlacesAt}

@@ -19,7 +19,7 @@ pub(crate) struct Connected {
 impl Connected {
     ghost use Rattle.std.specs.Prelude.{◌≡◌, IfOk, OnErr};
     ghost use Rattle.server.specs.Serving.{fresh, with_kept, fed_live, taken_from, noop_put, MayFeed, MayTakeOut, MayPutNoop, MayWork};
-    ghost use Rattle.session.specs.Rest.{IsCounted, stepped};
+    ghost use Rattle.session.specs.Rest.{IsCounted, WritesRows, stepped};
     ghost use Rattle.server.specs.Views.{live_of};
 
     pub(crate) fn new(alloc: Global, conn: u64) -> Result<Connected, AllocError>
@@ -115,5 +115,13 @@ impl Connected {
         ensures counted { IfOk result IsCounted }
     {
         self.session.work(self.conn, engine, gate)
+    }
+
+    /// Writes rows that are owed, as so many steps do that tell a row each; and answers how many.
+    pub(crate) fn write_rows(&mut self) -> usize
+        ensures rows { WritesRows result (live_of self.old).kept (live_of self.new).kept }
+        ensures live { live_of self.new ≡ with_kept (live_of self.old) (live_of self.new).kept }
+    {
+        self.session.write_rows()
     }
 }

@@ -1,6 +1,6 @@
 //! Up to sixteen sessions over one engine and one gate.
 ghost use Rattle.std.specs.Prelude.{◌≡◌, ◌↔◌, Some, None, option_map, IfOk, IfErr, OnErr, IfSome, IsErrOf};
-ghost use Rattle.server.specs.Serving.{empty, find, feed_at, work_at, take_out_at, noop_at, unsent_at, sent_at, lost_at, state_at, cause_at, is_full, Opens, RefusesCall, MayFeed, MayTakeOut, MayWork, MayPutNoop};
+ghost use Rattle.server.specs.Serving.{empty, find, feed_at, work_at, take_out_at, noop_at, unsent_at, sent_at, lost_at, state_at, cause_at, is_full, Opens, WritesAt, RefusesCall, MayFeed, MayTakeOut, MayWork, MayPutNoop};
 ghost use Rattle.session.specs.Rest.{IsCounted};
 ghost use Rattle.server.specs.Views.{rest_of, Lends};
 
@@ -115,6 +115,19 @@ impl<E: Engine, G: Gate> Server<E, G> {
             return Err(Refused::Memory);
         };
         Ok(worked)
+    }
+
+    /// Writes rows that a session owes to a PULL, as so many calls of `work` would that tell a row each, one behind the other; and answers how
+    /// many. None if no live session has the number. It may stop before the last of them: a row past 65,535 bytes or with a cell that holds
+    /// others takes a call of `work`, and where there is no memory for one that call tells it.
+    pub fn write_rows(&mut self, conn: u64) -> usize
+        ensures { WritesAt conn result (rest_of E.entries self.old) (rest_of E.entries self.new) }
+    {
+        let Some(at) = place_of(&self.sessions, conn) else {
+            return 0;
+        };
+        let session = &mut self.sessions[at];
+        session.write_rows()
     }
 
     /// Takes out the smaller of `max` and what waits to go, in order; if that is none, without memory. N1 exactly if no live session

@@ -77,7 +77,8 @@ pub(crate) fn settle<E: Engine, G: Gate, O: Sink>(
     Err(StreamFault::Memory)
 }
 
-/// Works a step, or makes room for it by writing what waits to go; or answers how the session stands if nothing is due.
+/// Works a step, and writes the rows behind a first one; or makes room for it by writing what waits to go; or answers how the session
+/// stands if nothing is due.
 fn work_once<E: Engine, G: Gate, O: Sink>(
     server: &mut Server<E, G>,
     conn: u64,
@@ -93,7 +94,10 @@ fn work_once<E: Engine, G: Gate, O: Sink>(
     ensures failed { IfErr result (λ e. IsDueTo e false (O.has_failed sink.new)) }
 {
     match work_step(server, conn) {
-        Ok(Next::Step) => Ok(None),
+        Ok(Next::Step) => {
+            server.write_rows(conn);
+            Ok(None)
+        }
         Ok(Next::Rest) => Ok(Some(liveness(server, conn))),
         Ok(Next::Room) => match put_out(server, conn, sink) {
             Ok(()) => Ok(None),

@@ -11,3 +11,4 @@ pub mod Summed
 pub mod Listed
 pub mod Fielded
 pub mod Sent
+pub mod Owed

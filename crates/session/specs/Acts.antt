@@ -38,9 +38,10 @@ use Rattle.session.specs.declared.spelling.Unwritten.TheVariants as unwritten
 use Rattle.session.specs.Faults.{failure}
 use Rattle.session.specs.Said.{fits}
 use Rattle.machine.specs.Asks.{is_goodbye, is_reset}
+use Rattle.machine.specs.Following.{interruptible}
 use Rattle.machine.specs.Rows.{row_at}
 use Rattle.session.specs.Session.{Open, no_result, Tx, no_tx, Change, change_alone, change_inside, Reply, fails, if_fits, used_up, unwritable, passed_over, in_transaction, query_mode}
-use Rattle.session.specs.Rest.{Kept, Step, version_of, worked_of, commit_entries}
+use Rattle.session.specs.Rest.{Kept, Step, version_of, worked_of, commit_entries, reset_among}
 use Rattle.wire.specs.Limits.{max_message}
 use Rattle.engine.specs.Limits.{ledger_bound}
 
@@ -222,6 +223,23 @@ abbrev pub SendsRow : Kept → Kept → Type 0
 SendsRow old new = (row : List Tree) (rest : List (List Tree)) → old.result.rows ≡ row ∷ rest
     → (IsPut (version_of old) (ResponseView.Record row) old.unsent new.unsent)
     × (new ≡ record old { result = one_less old.result; unsent = new.unsent })
+
+-- what is open once so many rows were written
+abbrev pub passed : ℕ → Open → Open
+passed n left = record left { rows = drop n left.rows; written = n + left.written }
+
+-- So many rows are owed to the request, one after the other.
+abbrev pub OwesRows : ℕ → State → Open → RequestView → Type 0
+OwesRows n s left q = (i : ℕ) → i < n → owes_row s (passed i left) q ≡ true
+
+-- They are owed to the first that waits, if it isn't interrupted.
+pub record AreOwed (n : ℕ) (k : Kept) : Type 0 where
+  pub request : RequestView
+  pub later : List Arrival
+  pub goes : k.ended ≡ None
+  pub waits : k.waiting ≡ Asked request ∷ later
+  pub heard : (reset_among k.waiting && interruptible k.state) ≡ false
+  pub owed : OwesRows n k.state k.result request
 
 -- the ledger's length after it, if it commits
 abbrev pub length_after : List EntryView → Option Change → Option ℕ

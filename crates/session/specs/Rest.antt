@@ -1,5 +1,5 @@
 -- What a session keeps of its past: as much as its later steps depend on, and nothing else.
-use Rattle.std.specs.Prelude.{◌≡◌, ℕ, suc, ◌+◌, ◌<◌, Bool, true, false, not, ◌&&◌, ◌||◌, if◌then◌else◌, nat_le, Option, Some, None, is_some, option_map, unwrap_or, List, [], ◌∷◌, ◌++◌, length, take, drop, Result, Ok, Err}
+use Rattle.std.specs.Prelude.{◌≡◌, ℕ, zero, suc, ◌+◌, ◌<◌, Bool, true, false, not, ◌&&◌, ◌||◌, if◌then◌else◌, nat_le, Option, Some, None, is_some, option_map, unwrap_or, List, [], ◌∷◌, ◌++◌, length, take, drop, Result, Ok, Err}
 use Rattle.packstream.specs.Tree.{Tree}
 use Rattle.wire.specs.declared.Version.{Version}
 use Rattle.wire.specs.declared.Version.TheVariants.{V51}
@@ -207,6 +207,17 @@ stepped S conn x =
         ledger = x.ledger ++ commit_entries conn x.kept.first d.commit;
       },
     )
+
+-- A step writes a row, over any setting and ledger, and the ledger stays as it is.
+abbrev pub StepsRow : Kept → Kept → Type 0
+StepsRow old new = (S : Setting) (conn : ℕ) (ledger : List EntryView)
+    → stepped S conn (record { kept = old; ledger = ledger })
+    ≡ (Worked.Row, record { kept = new; ledger = ledger })
+
+-- So many steps write a row each.
+abbrev pub WritesRows : ℕ → Kept → Kept → Type 0
+WritesRows zero old new = new ≡ old
+WritesRows (suc n) old new = (mid : Kept) × WritesRows n old mid × StepsRow mid new
 
 -- a commit that is told is of a ledger shorter than 2^63
 abbrev pub IsCounted : Worked → Type 0

@@ -16,6 +16,7 @@ mod remaining;
 mod result;
 mod result_end;
 mod rows;
+mod rows_owed;
 mod session;
 mod spelling;
 mod step;

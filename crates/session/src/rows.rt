@@ -59,6 +59,7 @@ fn most_bytes(cell: &Cell) -> usize {
 
 /// Appends the written run of the RECORD of a row, spelled where it goes out; or says no, and appends nothing: of a row with a cell
 /// that holds others, of one past a chunk, or for want of memory.
+#[inline(always)]
 pub(crate) fn put_record(version: Version, row: &[Cell], out: &mut BytesMut) -> bool
     ensures put { result ≡ true → IsPut version (Record (shapes row.now)) out.old.items out.new.items }
     ensures other { result ≡ false → out.new.items ≡ out.old.items }
@@ -78,6 +79,7 @@ pub(crate) fn put_record(version: Version, row: &[Cell], out: &mut BytesMut) -> 
 }
 
 /// Appends the same of the first of these rows.
+#[inline(always)]
 pub(crate) fn put_first(version: Version, rows: &Remaining, out: &mut BytesMut) -> bool
     requires { 0 < rows.now.count }
     ensures put { result ≡ true → (row : List Tree) (rest : List (List Tree))
@@ -88,6 +90,7 @@ pub(crate) fn put_first(version: Version, rows: &Remaining, out: &mut BytesMut) 
 }
 
 /// Adds a RECORD between a place for a header and the end of its run.
+#[inline(always)]
 fn put_framed(version: Version, row: &[Cell], out: &mut Adding) -> Result<(), Unspelled>
     ensures before { out.new.before ≡ out.old.before }
     ensures spelled { OnOk result (out.new.more ≡ (out.old.more ++ 0 ∷ 0 ∷ 0xB1 ∷ 0x71 ∷ [])

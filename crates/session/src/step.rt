@@ -62,11 +62,19 @@ impl Session {
             Turn::Serves => {
                 let worked = self.serve(conn, engine, gate);
                 if self.body.capacity() > MAX_KEPT {
-                    self.body = BytesMut::new(self.alloc);
+                    self.free_body();
                 }
                 worked
             }
         }
+    }
+
+    /// Gives the room for what a step writes back.
+    #[inline(never)]
+    fn free_body(&mut self)
+        ensures { kept_of self.new ≡ kept_of self.old }
+    {
+        self.body = BytesMut::new(self.alloc);
     }
 
     /// Serves the first request that waits.
@@ -131,14 +139,15 @@ impl Session {
     }
 
     /// Whether a RESET waits that interrupts the state.
-    fn is_interrupted(&self) -> bool
+    pub(crate) fn is_interrupted(&self) -> bool
         ensures { let k = kept_of self.now in result
             ≡ (reset_among k.waiting && interruptible k.state) }
     {
         self.queue.has_reset() && is_interruptible(self.state)
     }
 
-    /// Writes the row that is due, or the FAILURE if it can't be written.
+    /// Writes the row that is due, or the FAILURE if it can't be written. It is a call, so that no other step pays for its locals.
+    #[inline(never)]
     fn send<E: Engine>(
         &mut self,
         conn: u64,
@@ -164,8 +173,9 @@ impl Session {
         self.send_spelled(conn, kind, engine)
     }
 
-    /// Puts the first row of the open result, spelled where it goes out; or says no, and changes nothing.
-    fn put_first(&mut self) -> bool
+    /// Puts the first row of the open result, spelled where it goes out; or says no, and changes nothing. It stands in the loop over rows.
+    #[inline(always)]
+    pub(crate) fn put_first(&mut self) -> bool
         requires row { 0 < self.old.result.rows.count }
         ensures sent { result ≡ true → SendsRow (kept_of self.old) (kept_of self.new) }
         ensures other { result ≡ false → kept_of self.new ≡ kept_of self.old }

@@ -1,5 +1,5 @@
 //! What requests, states and versions are, in the protocol's words.
-ghost use Rattle.std.specs.Prelude.{◌≡◌};
+ghost use Rattle.std.specs.Prelude.{◌≡◌, ◌<◌, ◌+◌, ℕ, false};
 ghost use Rattle.wire.specs.Offers.{version_answer};
 ghost use Rattle.machine.specs.Following.{interruptible};
 ghost use Rattle.session.specs.Session.{is_halted, in_transaction, used_up, count_at, query_mode, result_mode};
@@ -58,6 +58,16 @@ pub(crate) fn is_used_up(count: Count, written: usize) -> bool
     match count {
         Count::All => false,
         Count::Of(rows) => rows <= 0 || rows as usize <= written,
+    }
+}
+
+/// How many rows a PULL with this count is given further, if there are so many.
+pub(crate) fn left_of(count: Count, written: usize) -> usize
+    ensures { (i : ℕ) → i < result → used_up count (i + written) ≡ false }
+{
+    match count {
+        Count::All => usize::MAX,
+        Count::Of(rows) => count_of(Count::Of(rows), 0).saturating_sub(written),
     }
 }
 

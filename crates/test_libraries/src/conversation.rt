@@ -130,6 +130,8 @@ pub enum Step {
     /// A message of fewer than 256 bytes is fed in one chunk.
     Send(&'static [u8], What),
     Work(Worked),
+    /// So many rows that are owed are written.
+    Rows(usize),
     /// Steps until there is nothing to do.
     WorkAll(Worked),
     /// All that waits to go is taken out.
@@ -298,6 +300,7 @@ fn is_so(alloc: Global, server: &mut Table, conn: u64, step: &Step) -> bool {
         }
         Send(message, what) => is_sent(server, conn, message, what),
         Work(told) => server.work(conn) == Ok(*told),
+        Rows(count) => server.write_rows(conn) == *count,
         WorkAll(told) => work_all(server, conn) == Ok(*told),
         Out(bytes) => is_out(server, conn, 1000000, bytes),
         Next(most, bytes) => is_out(server, conn, *most, bytes),

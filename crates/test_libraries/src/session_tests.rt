@@ -179,8 +179,11 @@ const CLOSED: Worked = Worked::Wrote {
 const STREAMS: &[Step] = &[
     Send(ROWS, What::Message),
     WorkAll(Worked::Idle),
+    Rows(0),
     Out(FIELDS),
     Send(PULL_TWO, What::Message),
+    Rows(2),
+    Rows(0),
     WorkAll(Worked::Idle),
     Stands(State::Streaming),
     Out(&[

@@ -4,10 +4,21 @@ use Rattle.serves.specs.Prelude.{settled, liveness_of}
 use Rattle.serves.specs.declared.due.Next.TheVariants as next
 use Rattle.serves.proofs.Stepping.{goes_by, goes_with, goes_wrong, holds_part, holds_same}
 use Rattle.serves.proofs.Called.{ended_there, holds_none, holds_some}
+use Rattle.serves.proofs.Rows.{goes_rows, grows_rows, rows_tell}
 use Rattle.serves.proofs.due.work_once.Goals as goal
 
 pub returns-in-Ok-Step-clause-steps : goal.returns-in-Ok-Step-clause-steps
-returns-in-Ok-Step-clause-steps g c = λ r u t before i o. goes_by i g.E.Engine.answer g.G.Gate.welcomes o (rest_of g.E.Engine.entries c.work_step.new.server) next.Step (rw c.in-Ok-Step.field-0-is at c.in-Ok-Step.ensures.works)
+returns-in-Ok-Step-clause-steps g c = λ r u t before i o.
+    let mid = rest_of g.E.Engine.entries c.work_step.new.server in
+    let new = rest_of g.E.Engine.entries c.write_rows.new.self in
+    goes_rows i g.E.Engine.answer g.G.Gate.welcomes c.write_rows.result mid new (rows_tell g.E.Engine.answer g.G.Gate.welcomes mid c.args.conn c.write_rows.result new c.write_rows.ensures)
+    (goes_by i g.E.Engine.answer g.G.Gate.welcomes o mid next.Step (rw c.in-Ok-Step.field-0-is at c.in-Ok-Step.ensures.works))
+
+pub returns-in-Ok-Step-clause-grows : goal.returns-in-Ok-Step-clause-grows
+returns-in-Ok-Step-clause-grows g c = λ r i h.
+    let mid = rest_of g.E.Engine.entries c.work_step.new.server in
+    let new = rest_of g.E.Engine.entries c.write_rows.new.self in
+    grows_rows c.args.conn g.E.Engine.answer g.G.Gate.welcomes c.write_rows.result mid new (rows_tell g.E.Engine.answer g.G.Gate.welcomes mid c.args.conn c.write_rows.result new c.write_rows.ensures) r i (c.in-Ok-Step.ensures.grows r i h)
 
 pub returns-in-Ok-Rest-clause-steps : goal.returns-in-Ok-Rest-clause-steps
 returns-in-Ok-Rest-clause-steps g c = λ r u t before i o.

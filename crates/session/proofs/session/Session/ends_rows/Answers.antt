@@ -1,4 +1,4 @@
-use Rattle.std.proofs.Common.{◌≡◌, ◌<◌, ◌≤◌, length, arith}
+use Rattle.std.proofs.Common.{◌<◌, ◌≤◌, length, arith}
 use Rattle.session.specs.Prelude.{version_of, kept_of}
 use Rattle.session.proofs.Listed.{rows_counted}
 use Rattle.session.proofs.Replies.{acts_same, ends_some, ends_all}
