@@ -184,7 +184,10 @@ impl Link {
     fn work_all(&mut self) -> Result<(), Unplayed> {
         for _step in 0..MANY {
             match self.work()? {
-                Worked::Row | Worked::Wrote { .. } => {}
+                Worked::Row => {
+                    self.server.write_rows(CONN);
+                }
+                Worked::Wrote { .. } => {}
                 _ => return Ok(()),
             }
         }
