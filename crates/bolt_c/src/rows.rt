@@ -16,7 +16,7 @@ use crate::answers::MessageFault;
 use bytes::BytesMut;
 use messages::{MsgFault, Response, write_response};
 use packstream::MAX_SIZE;
-use speller::{Adding, Unspelled, put_list};
+use speller::{Output, Unspelled, put_list};
 use std::alloc::{AllocError, Global};
 use structures::Cell;
 use wire::Version;
@@ -52,7 +52,7 @@ fn record_of(alloc: Global, row: &[Cell]) -> Result<Response, AllocError>
 }
 
 /// Adds the message of a row, in the form of the version.
-fn put_row(version: Version, row: &[Cell], out: &mut Adding) -> Result<(), Unspelled>
+fn put_row(version: Version, row: &[Cell], out: &mut Output) -> Result<(), Unspelled>
     ensures before { out.new.before ≡ out.old.before }
     ensures spelled { OnOk result (out.new.more
         ≡ (out.old.more ++ 0xB1 ∷ 0x71 ∷ []) ++ canon (form version (list (trees_of (shapes row.now))))) }
@@ -69,7 +69,7 @@ fn spelled_short(alloc: Global, version: Version, row: &[Cell]) -> Option<BytesM
     ensures { IfSome result (λ text. response_spelling version (Record (shapes row.now)) ≡ Ok text.items) }
 {
     let mut text = BytesMut::new(alloc);
-    let mut adding = Adding::to(&mut text);
+    let mut adding = Output::taking(&mut text);
     let Ok(()) = put_row(version, row, &mut adding) else {
         return None;
     };

@@ -9,4 +9,3 @@ pub mod Hears
 pub mod Fed
 pub mod Runs
 pub mod Few
-pub mod Framed

@@ -1,5 +1,6 @@
 -- What a client holds, as the rest of a run.
 use Rattle.std.specs.Prelude.{◌≡◌, ℕ, map, Option, Some, None, Result, Ok, Err}
+use Rattle.packstream.specs.Writing.{whole}
 use Rattle.wire.specs.declared.Version.{Version}
 use Rattle.messages.specs.View.{RequestView, request_view}
 use Rattle.messages.specs.Arrivals.{IsWritten}
@@ -26,7 +27,7 @@ rest_of c = record {
   wish = c.wish;
   knows = knowledge_of c.pipeline;
   item = item_of c.stream;
-  unsent = c.out.items;
+  unsent = whole c.out;
 }
 
 -- For the crates above that still speak of every rest: the client's rest is this one.

@@ -26,6 +26,7 @@ use bytes::{Bytes, BytesMut};
 use inbox::Inbox;
 use machine::{MAX_WAITING, Phase, PhaseSet};
 use messages::Request;
+use packstream::writing::Output;
 use reader::Reader;
 use std::alloc::Global;
 use std::collections::VecDeque;
@@ -68,7 +69,7 @@ impl Client {
                 opening: Opening::new(),
                 inbox: Inbox::new(alloc),
             },
-            out,
+            out: Output::marked(out, 0),
             alloc,
         })
     }
@@ -102,7 +103,7 @@ impl Client {
         ensures short { IfOk result (λ bytes. length bytes < 2 ^ 63) }
         ensures memory { OnErr result (0 < length (take max (rest_of self.old).unsent)) }
     {
-        let count = max.min(self.out.len());
+        let count = max.min(self.out.whole_len());
         let Ok(bytes) = self.out.freeze_to(count) else {
             return Err(ClientFault::Memory);
         };
@@ -120,7 +121,7 @@ impl Client {
     pub fn sent(&mut self, count: usize)
         ensures { rest_of self.new ≡ taken_out (rest_of self.old) count }
     {
-        self.out.advance(count.min(self.out.len()));
+        self.out.advance(count.min(self.out.whole_len()));
     }
 
     /// Uses a piece of the server's bytes to the end of the item begun (the version answer, a no-op, a message), else all of it,

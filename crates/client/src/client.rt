@@ -2,7 +2,7 @@
 
 use crate::pipeline::Pipeline;
 use crate::stream::Stream;
-use bytes::BytesMut;
+use packstream::writing::Output;
 use std::alloc::Global;
 use wire::Wish;
 
@@ -19,6 +19,6 @@ pub struct Client {
     pub(crate) pipeline: Pipeline,
     pub(crate) stream: Stream,
     /// What isn't taken out.
-    pub(crate) out: BytesMut,
+    pub(crate) out: Output,
     pub(crate) alloc: Global,
 }

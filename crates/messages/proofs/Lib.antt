@@ -11,3 +11,4 @@ pub mod Added
 pub mod Named
 pub mod Kept
 pub mod Scanned
+pub mod Put

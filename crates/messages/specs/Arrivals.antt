@@ -145,6 +145,11 @@ request_bytes v m = run_of_result (request_spelling v m)
 abbrev pub IsWritten : Version → RequestView → Type 0
 IsWritten v m = (b : List ℕ) × (request_spelling v m ≡ Ok b) × Req v m b
 
+-- its run was put
+pub record PutsRequest (v : Version) (m : RequestView) (bytes : List ℕ) : Type 0 where
+  pub written : IsWritten v m
+  pub run : bytes ≡ request_bytes v m
+
 -- requests each with a spelling that stands for it
 abbrev pub AreWritten : Version → List RequestView → Type 0
 AreWritten v [] = Unit {0}

@@ -11,7 +11,7 @@ pub use Rattle.messages.specs.Writing.{Onward, with_entry, entry_put, named_put,
 unfoldable pub use Rattle.messages.specs.Writing.{request_spelling, response_spelling}
 pub use Rattle.messages.specs.Added.{Adds, AddsEntries, AddsCells}
 pub use Rattle.messages.specs.Scanned.{SpellsEntry, SpellsExtra, SpellsNamed, SpellsDict, SpellsList}
-pub use Rattle.messages.specs.Arrivals.{End, then_read, taken_in, taken_by, taken, Arrival, Shook, NoMagic, Idle, Asked, Unread, TooLong, arrival_of_offer, version_shaken, server_end, then_request, requests_in, after_shake, arrivals_of, arrivals, without_idle, too_long, requests_of, ArrivesWhole, run_of_result, request_bytes, IsWritten, AreWritten, RequestsArrive, ArrivalsGoOn, IsLast, NothingFollows, Heard, Chosen, Strange, Quiet, Told, heard_among, heard_version, version_chosen, client_end, then_response, heard_in, after_version, heard_of, hears, heard_bytes, IsSaid, IsSpoken, SaysArrive, SoFarArrives, NoVersionArrives, HearsGoOn, IsLastHeard, NothingMoreHeard}
+pub use Rattle.messages.specs.Arrivals.{End, then_read, taken_in, taken_by, taken, Arrival, Shook, NoMagic, Idle, Asked, Unread, TooLong, arrival_of_offer, version_shaken, server_end, then_request, requests_in, after_shake, arrivals_of, arrivals, without_idle, too_long, requests_of, ArrivesWhole, run_of_result, request_bytes, IsWritten, PutsRequest, AreWritten, RequestsArrive, ArrivalsGoOn, IsLast, NothingFollows, Heard, Chosen, Strange, Quiet, Told, heard_among, heard_version, version_chosen, client_end, then_response, heard_in, after_version, heard_of, hears, heard_bytes, IsSaid, IsSpoken, SaysArrive, SoFarArrives, NoVersionArrives, HearsGoOn, IsLastHeard, NothingMoreHeard}
 pub use Rattle.messages.specs.Summaries.{Summary, Greeting, RowsLeft, Closing, Committed, Plain, Refused, Passed, bookmark, bookmark_of, greeting, ending, response_of_summary, form_of, IsShort, HasTexts, room, FitsRoom, ReadsBack}
 pub use Rattle.messages.specs.Saying.{here, IsEntry, absent, further, SaysEntry, the_text, reads, writes, writes_unsaid, all_rows, some_rows, of_last, of_last_unsaid, the_token, token_unsaid, metadata_unsaid, SaysNamed, no_more, passed_over, then_named, HasOnly, SaysField, of_text, of_cells, of_list, of_extra, SaysFields, no_fields, then_field, SaysRow, of_row, SaysMessage, IsSpelled}
 pub use Rattle.messages.specs.Sound.{IsCell, IsCount, IsRequest, IsResponse, RequestsReadBack, ResponsesReadBack, RequestsAreMade, ResponsesAreMade}

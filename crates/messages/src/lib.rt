@@ -16,6 +16,7 @@ mod read_requests;
 mod read_responses;
 mod request;
 mod response;
+mod runs;
 mod scan_entries;
 pub mod short_ways;
 mod tags;
@@ -29,6 +30,7 @@ pub use of_packed::{request_of, response_of};
 use packstream::MAX_SIZE;
 pub use request::{Auth, Count, Mode, Request};
 pub use response::Response;
+pub use runs::{close_run, put_run, write_request_run};
 use wire::MAX_MESSAGE;
 
 /// The most bytes of a transaction's token: neither end reads or writes a longer one (M5).

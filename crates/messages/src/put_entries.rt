@@ -11,10 +11,10 @@ ghost use Rattle.messages.specs.View.{auth_view, token_view};
 use crate::entries::is_token;
 use crate::request::{Auth, Count, Mode};
 use crate::write_requests::number_of;
-use speller::{Adding, Unspelled, put_int, put_text};
+use speller::{Output, Unspelled, put_int, put_text};
 
 /// An entry that holds a text.
-fn put_named(out: &mut Adding, name: &str, text: &str) -> Result<(), Unspelled>
+fn put_named(out: &mut Output, name: &str, text: &str) -> Result<(), Unspelled>
     ensures before { out.new.before ≡ out.old.before }
     ensures added { OnOk result (out.new.more
         ≡ out.old.more ++ text_bytes name.now ++ text_bytes text.now) }
@@ -25,7 +25,7 @@ fn put_named(out: &mut Adding, name: &str, text: &str) -> Result<(), Unspelled>
 }
 
 /// The entry of a number of rows.
-fn put_rows(out: &mut Adding, number: i64) -> Result<(), Unspelled>
+fn put_rows(out: &mut Output, number: i64) -> Result<(), Unspelled>
     ensures before { out.new.before ≡ out.old.before }
     ensures added { OnOk result (out.new.more
         ≡ out.old.more ++ canon (dict (entry_then (codes "n") (int number) no_entries))) }
@@ -39,7 +39,7 @@ fn put_rows(out: &mut Adding, number: i64) -> Result<(), Unspelled>
 }
 
 /// The entry of a count.
-pub(crate) fn put_number(out: &mut Adding, count: Count) -> Result<(), Unspelled>
+pub(crate) fn put_number(out: &mut Output, count: Count) -> Result<(), Unspelled>
     ensures before { out.new.before ≡ out.old.before }
     ensures adds { OnOk result (AddsEntries (rows_put count) out.old.more out.new.more) }
 {
@@ -52,7 +52,7 @@ pub(crate) fn put_number(out: &mut Adding, count: Count) -> Result<(), Unspelled
 
 /// The entry of a mode; that of writing isn't written.
 #[tactic(auto, unfolding(packstream::specs::Canon::head))]
-fn put_mode(out: &mut Adding, mode: Mode) -> Result<(), Unspelled>
+fn put_mode(out: &mut Output, mode: Mode) -> Result<(), Unspelled>
     ensures before { out.new.before ≡ out.old.before }
     ensures added { OnOk result (out.new.more
         ≡ out.old.more ++ canon (dict (entries_of (mode_pairs mode)))) }
@@ -70,7 +70,7 @@ fn put_mode(out: &mut Adding, mode: Mode) -> Result<(), Unspelled>
 
 /// The entry of a token, the last.
 #[tactic(auto, using(crate::proofs::Named::token_entry_added))]
-fn put_token(out: &mut Adding, token: &String) -> Result<(), Unspelled>
+fn put_token(out: &mut Output, token: &String) -> Result<(), Unspelled>
     ensures before { out.new.before ≡ out.old.before }
     ensures added { OnOk result (out.new.more ≡ out.old.more ++ canon_entries (entries_of
         ((codes "tx_metadata", token_dict (string_bytes token.now)) ∷ []))) }
@@ -83,7 +83,7 @@ fn put_token(out: &mut Adding, token: &String) -> Result<(), Unspelled>
 
 /// The entries of a transaction with a token: the mode comes first.
 #[tactic(auto, using(crate::proofs::Named::token_added, crate::proofs::Named::mode_and_token_added))]
-fn put_with_token(out: &mut Adding, mode: Mode, token: &String) -> Result<(), Unspelled>
+fn put_with_token(out: &mut Output, mode: Mode, token: &String) -> Result<(), Unspelled>
     ensures before { out.new.before ≡ out.old.before }
     ensures adds { OnOk result (AddsEntries
         (transaction_put mode (Some (string_bytes token.now))) out.old.more out.new.more) }
@@ -106,7 +106,7 @@ fn put_with_token(out: &mut Adding, mode: Mode, token: &String) -> Result<(), Un
 
 /// The entries of a transaction: its mode, and its token if it has one.
 pub(crate) fn put_transaction(
-    out: &mut Adding,
+    out: &mut Output,
     mode: Mode,
     token: &Option<String>,
 ) -> Result<(), Unspelled>
@@ -125,7 +125,7 @@ pub(crate) fn put_transaction(
 
 /// The entries that say who a client is, without their head.
 #[tactic(auto, using(crate::proofs::Named::login_named))]
-fn put_login(out: &mut Adding, auth: &Auth) -> Result<(), Unspelled>
+fn put_login(out: &mut Output, auth: &Auth) -> Result<(), Unspelled>
     ensures before { out.new.before ≡ out.old.before }
     ensures added { OnOk result (out.new.more
         ≡ out.old.more ++ canon_entries (entries_of (login_pairs (auth_view auth.now)))) }
@@ -137,7 +137,7 @@ fn put_login(out: &mut Adding, auth: &Auth) -> Result<(), Unspelled>
 }
 
 /// The entries of LOGON.
-pub(crate) fn put_auth(out: &mut Adding, auth: &Auth) -> Result<(), Unspelled>
+pub(crate) fn put_auth(out: &mut Output, auth: &Auth) -> Result<(), Unspelled>
     ensures before { out.new.before ≡ out.old.before }
     ensures adds { OnOk result (AddsEntries
         (Ok (entries_of (login_pairs (auth_view auth.now)))) out.old.more out.new.more) }
@@ -148,7 +148,7 @@ pub(crate) fn put_auth(out: &mut Adding, auth: &Auth) -> Result<(), Unspelled>
 }
 
 /// The entry of HELLO that names the client, alone.
-pub(crate) fn put_agent(out: &mut Adding, agent: &String) -> Result<(), Unspelled>
+pub(crate) fn put_agent(out: &mut Output, agent: &String) -> Result<(), Unspelled>
     ensures before { out.new.before ≡ out.old.before }
     ensures adds { OnOk result (AddsEntries
         (Ok (entries_of (hello_pairs (string_bytes agent.now) None))) out.old.more out.new.more) }
@@ -160,7 +160,7 @@ pub(crate) fn put_agent(out: &mut Adding, agent: &String) -> Result<(), Unspelle
 
 /// The entries of HELLO where it says who the client is.
 pub(crate) fn put_agent_and_login(
-    out: &mut Adding,
+    out: &mut Output,
     agent: &String,
     auth: &Auth,
 ) -> Result<(), Unspelled>
@@ -176,7 +176,7 @@ pub(crate) fn put_agent_and_login(
 }
 
 /// The entries of FAILURE.
-pub(crate) fn put_error(out: &mut Adding, code: &String, message: &String) -> Result<(), Unspelled>
+pub(crate) fn put_error(out: &mut Output, code: &String, message: &String) -> Result<(), Unspelled>
     ensures before { out.new.before ≡ out.old.before }
     ensures adds { OnOk result (AddsEntries
         (Ok (entries_of (error_pairs (string_bytes code.now) (string_bytes message.now))))

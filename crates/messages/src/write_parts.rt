@@ -12,7 +12,7 @@ ghost use Rattle.wire.specs.declared.Version.{Version as AnyVersion};
 use crate::fault::MsgFault;
 use bytes::BytesMut;
 use packstream::{MAX_SIZE, Value};
-use speller::{Adding, Unspelled, put_dict};
+use speller::{Output, Unspelled, put_dict};
 use std::alloc::{AllocError, Global};
 use structures::{Cell, write_entries};
 use wire::Version;
@@ -86,7 +86,7 @@ pub(crate) fn cells_value(
 pub(crate) const FIELD_DEPTH: u8 = 31;
 
 /// The head of a structure.
-pub(crate) fn put_structure(out: &mut Adding, count: u8, tag: u8) -> Result<(), Unspelled>
+pub(crate) fn put_structure(out: &mut Output, count: u8, tag: u8) -> Result<(), Unspelled>
     requires { count ≤ 15 }
     ensures before { out.new.before ≡ out.old.before }
     ensures ok { OnOk result (out.new.more ≡ out.old.more ++ (0xB0 + count) ∷ tag ∷ []) }
@@ -97,7 +97,7 @@ pub(crate) fn put_structure(out: &mut Adding, count: u8, tag: u8) -> Result<(), 
 
 /// A structure without fields.
 #[tactic(auto, using(crate::proofs::Added::plain_added))]
-pub(crate) fn put_plain(out: &mut Adding, tag: u8) -> Result<(), Unspelled>
+pub(crate) fn put_plain(out: &mut Output, tag: u8) -> Result<(), Unspelled>
     ensures before { out.new.before ≡ out.old.before }
     ensures adds { OnOk result (Adds (Ok (structure tag no_trees)) out.old.more out.new.more) }
 {
@@ -106,7 +106,7 @@ pub(crate) fn put_plain(out: &mut Adding, tag: u8) -> Result<(), Unspelled>
 }
 
 /// Gives the output back with what was added, if that is no longer than a message may be, else as it was.
-pub(crate) fn keep_short(out: &mut BytesMut, adding: Adding) -> bool
+pub(crate) fn keep_short(out: &mut BytesMut, adding: Output) -> bool
     ensures kept { result ≡ true → out.new.items ≡ adding.before ++ adding.more }
     ensures short { result ≡ true → length adding.more ≤ max_size }
     ensures undone { result ≡ false → out.new.items ≡ adding.before }
@@ -121,7 +121,7 @@ pub(crate) fn keep_short(out: &mut BytesMut, adding: Adding) -> bool
 
 /// A dictionary of cells, in the form of the version.
 pub(crate) fn put_cells(
-    out: &mut Adding,
+    out: &mut Output,
     version: Version,
     cells: &Vec<(String, Cell)>,
 ) -> Result<(), Unspelled>

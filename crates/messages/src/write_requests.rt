@@ -24,7 +24,7 @@ use crate::write_parts::{
 };
 use bytes::BytesMut;
 use packstream::Value;
-use speller::{Adding, Unspelled, put_text};
+use speller::{Output, Unspelled, put_text};
 use std::alloc::{AllocError, Global};
 use structures::Cell;
 use wire::Version;
@@ -267,7 +267,7 @@ pub(crate) fn request_value(
 
 /// A structure of a count.
 #[tactic(auto, using(crate::proofs::Added::in_dict))]
-fn put_count(out: &mut Adding, tag: u8, count: Count) -> Result<(), Unspelled>
+fn put_count(out: &mut Output, tag: u8, count: Count) -> Result<(), Unspelled>
     ensures before { out.new.before ≡ out.old.before }
     ensures adds { OnOk result
         (Adds (with_dict tag (rows_put count)) out.old.more out.new.more) }
@@ -278,7 +278,7 @@ fn put_count(out: &mut Adding, tag: u8, count: Count) -> Result<(), Unspelled>
 }
 
 #[tactic(auto, using(crate::proofs::Added::in_dict))]
-fn put_begin(out: &mut Adding, mode: Mode, token: &Option<String>) -> Result<(), Unspelled>
+fn put_begin(out: &mut Output, mode: Mode, token: &Option<String>) -> Result<(), Unspelled>
     ensures before { out.new.before ≡ out.old.before }
     ensures adds { OnOk result
         (Adds (with_dict begin_tag (transaction_put mode (token_view token.now)))
@@ -290,7 +290,7 @@ fn put_begin(out: &mut Adding, mode: Mode, token: &Option<String>) -> Result<(),
 }
 
 #[tactic(auto, using(crate::proofs::Named::hello_added))]
-fn put_hello_alone(out: &mut Adding, agent: &String) -> Result<(), Unspelled>
+fn put_hello_alone(out: &mut Output, agent: &String) -> Result<(), Unspelled>
     ensures before { out.new.before ≡ out.old.before }
     ensures adds { (v : AnyVersion) → hello_has_login v ≡ false
         → OnOk result (Adds (form_put v (request_contents (Hello (string_bytes agent.now) None)))
@@ -302,7 +302,7 @@ fn put_hello_alone(out: &mut Adding, agent: &String) -> Result<(), Unspelled>
 }
 
 #[tactic(auto, using(crate::proofs::Named::hello_and_login_added))]
-fn put_hello_with_auth(out: &mut Adding, agent: &String, auth: &Auth) -> Result<(), Unspelled>
+fn put_hello_with_auth(out: &mut Output, agent: &String, auth: &Auth) -> Result<(), Unspelled>
     ensures before { out.new.before ≡ out.old.before }
     ensures adds { (v : AnyVersion) → hello_has_login v ≡ true
         → OnOk result (Adds (form_put v (request_contents
@@ -316,7 +316,7 @@ fn put_hello_with_auth(out: &mut Adding, agent: &String, auth: &Auth) -> Result<
 
 /// HELLO, with who the client is if the version tells it there.
 fn put_hello(
-    out: &mut Adding,
+    out: &mut Output,
     version: Version,
     agent: &String,
     auth: &Option<Auth>,
@@ -335,7 +335,7 @@ fn put_hello(
 
 /// LOGON, if the version has it.
 #[tactic(auto, using(crate::proofs::Named::logon_added))]
-fn put_logon(out: &mut Adding, version: Version, auth: &Auth) -> Result<(), Unspelled>
+fn put_logon(out: &mut Output, version: Version, auth: &Auth) -> Result<(), Unspelled>
     ensures before { out.new.before ≡ out.old.before }
     ensures adds { OnOk result (Adds
         (form_put version (request_contents (Logon (auth_view auth.now))))
@@ -351,7 +351,7 @@ fn put_logon(out: &mut Adding, version: Version, auth: &Auth) -> Result<(), Unsp
 
 /// LOGOFF, if the version has it.
 #[tactic(auto, using(crate::proofs::Named::logoff_added))]
-fn put_logoff(out: &mut Adding, version: Version) -> Result<(), Unspelled>
+fn put_logoff(out: &mut Output, version: Version) -> Result<(), Unspelled>
     ensures before { out.new.before ≡ out.old.before }
     ensures adds { OnOk result (Adds
         (form_put version (request_contents Logoff)) out.old.more out.new.more) }
@@ -363,7 +363,7 @@ fn put_logoff(out: &mut Adding, version: Version) -> Result<(), Unspelled>
 }
 
 fn put_run(
-    out: &mut Adding,
+    out: &mut Output,
     version: Version,
     text: &String,
     params: &Vec<(String, Cell)>,
@@ -383,7 +383,12 @@ fn put_run(
     Ok(())
 }
 
-fn put_request(out: &mut Adding, version: Version, request: &Request) -> Result<(), Unspelled>
+/// Adds the one spelling that is written of a request at the version.
+pub(crate) fn put_request(
+    out: &mut Output,
+    version: Version,
+    request: &Request,
+) -> Result<(), Unspelled>
     ensures before { out.new.before ≡ out.old.before }
     ensures adds { OnOk result
         (Adds (form_put version (request_contents (request_view request.now)))
@@ -418,7 +423,7 @@ pub fn spell_request(version: Version, request: &Request, out: &mut BytesMut) ->
     ensures short { result ≡ true → length out.new.items ≤ length out.old.items + max_size }
     ensures other { result ≡ false → out.new.items ≡ out.old.items }
 {
-    let mut adding = Adding::to(out);
+    let mut adding = Output::taking(out);
     match put_request(&mut adding, version, request) {
         Ok(()) => keep_short(out, adding),
         Err(_) => {

@@ -22,7 +22,7 @@ use crate::write_parts::{
 };
 use bytes::BytesMut;
 use packstream::Value;
-use speller::{Adding, Unspelled, put_list};
+use speller::{Output, Unspelled, put_list};
 use std::alloc::Global;
 use structures::{Cell, write_members};
 use wire::Version;
@@ -84,7 +84,7 @@ pub(crate) fn response_value(
 }
 
 fn put_success(
-    out: &mut Adding,
+    out: &mut Output,
     version: Version,
     metadata: &Vec<(String, Cell)>,
 ) -> Result<(), Unspelled>
@@ -99,7 +99,7 @@ fn put_success(
 }
 
 /// A row, in the form of the version.
-fn put_row(out: &mut Adding, version: Version, row: &Vec<Cell>) -> Result<(), Unspelled>
+fn put_row(out: &mut Output, version: Version, row: &Vec<Cell>) -> Result<(), Unspelled>
     ensures before { out.new.before ≡ out.old.before }
     ensures adds { OnOk result
         (AddsCells version (list (trees_of (shapes row.now.items))) out.old.more out.new.more) }
@@ -108,7 +108,7 @@ fn put_row(out: &mut Adding, version: Version, row: &Vec<Cell>) -> Result<(), Un
     Ok(())
 }
 
-fn put_record(out: &mut Adding, version: Version, row: &Vec<Cell>) -> Result<(), Unspelled>
+fn put_record(out: &mut Output, version: Version, row: &Vec<Cell>) -> Result<(), Unspelled>
     ensures before { out.new.before ≡ out.old.before }
     ensures adds { OnOk result
         (Adds (form_put version (response_contents (Record (shapes row.now.items))))
@@ -120,7 +120,7 @@ fn put_record(out: &mut Adding, version: Version, row: &Vec<Cell>) -> Result<(),
 }
 
 #[tactic(auto, using(crate::proofs::Named::failure_added))]
-fn put_failure(out: &mut Adding, code: &String, message: &String) -> Result<(), Unspelled>
+fn put_failure(out: &mut Output, code: &String, message: &String) -> Result<(), Unspelled>
     ensures before { out.new.before ≡ out.old.before }
     ensures adds { (v : AnyVersion)
         → OnOk result (Adds
@@ -132,7 +132,7 @@ fn put_failure(out: &mut Adding, code: &String, message: &String) -> Result<(), 
     Ok(())
 }
 
-fn put_response(out: &mut Adding, version: Version, response: &Response) -> Result<(), Unspelled>
+fn put_response(out: &mut Output, version: Version, response: &Response) -> Result<(), Unspelled>
     ensures before { out.new.before ≡ out.old.before }
     ensures adds { OnOk result
         (Adds (form_put version (response_contents (response_view response.now)))
@@ -155,7 +155,7 @@ pub fn spell_response(version: Version, response: &Response, out: &mut BytesMut)
     ensures short { result ≡ true → length out.new.items ≤ length out.old.items + max_size }
     ensures other { result ≡ false → out.new.items ≡ out.old.items }
 {
-    let mut adding = Adding::to(out);
+    let mut adding = Output::taking(out);
     match put_response(&mut adding, version, response) {
         Ok(()) => keep_short(out, adding),
         Err(_) => {

@@ -17,7 +17,7 @@ ghost use Rattle.packstream.specs.Limits.{max_size};
 
 use crate::MAX_SIZE;
 use crate::fault::{PackFault, Reason, Unwritten};
-use crate::output::Adding;
+use crate::output::Output;
 use crate::packed::Packed;
 use crate::sizes::value_size;
 use crate::value::Value;
@@ -26,7 +26,7 @@ use bytes::BytesMut;
 
 /// A text, in place: the loop over a dictionary's pairs has no call for a key.
 #[inline]
-fn put_key(out: &mut Adding, key: &str) -> Result<(), Unwritten>
+fn put_key(out: &mut Output, key: &str) -> Result<(), Unwritten>
     ensures before { out.new.before ≡ out.old.before }
     ensures writes { Writes result out.old.more out.new.more (text_bytes key.now) }
 {
@@ -39,7 +39,7 @@ fn put_key(out: &mut Adding, key: &str) -> Result<(), Unwritten>
 
 /// A text, by a call, which keeps `put_value` small.
 #[inline(never)]
-fn put_text(out: &mut Adding, text: &str) -> Result<(), Unwritten>
+fn put_text(out: &mut Output, text: &str) -> Result<(), Unwritten>
     ensures before { out.new.before ≡ out.old.before }
     ensures writes { Writes result out.old.more out.new.more (text_bytes text.now) }
 {
@@ -47,7 +47,7 @@ fn put_text(out: &mut Adding, text: &str) -> Result<(), Unwritten>
 }
 
 #[inline(never)]
-fn put_bytes(out: &mut Adding, bytes: &[u8]) -> Result<(), Unwritten>
+fn put_bytes(out: &mut Output, bytes: &[u8]) -> Result<(), Unwritten>
     ensures before { out.new.before ≡ out.old.before }
     ensures writes { Writes result out.old.more out.new.more
         (long_head 0xCC (length bytes.now) ++ bytes.now) }
@@ -61,7 +61,7 @@ fn put_bytes(out: &mut Adding, bytes: &[u8]) -> Result<(), Unwritten>
 
 #[cycle(encoder)]
 #[tactic(auto, using(crate::proofs::Views::dicts))]
-fn put_value(out: &mut Adding, value: &Value) -> Result<(), Unwritten>
+fn put_value(out: &mut Output, value: &Value) -> Result<(), Unwritten>
     requires { IsSound (tree value.now) }
     ensures before { out.new.before ≡ out.old.before }
     ensures writes { Writes result out.old.more out.new.more (canon (tree value.now)) }
@@ -83,7 +83,7 @@ fn put_value(out: &mut Adding, value: &Value) -> Result<(), Unwritten>
 #[cycle(encoder)]
 #[tactic(auto, using(crate::proofs::Putting::len_trees, crate::proofs::Putting::count_le, crate::proofs::Putting::head_some, crate::proofs::Putting::parts))]
 #[inline(never)]
-fn put_list(out: &mut Adding, members: &[Value]) -> Result<(), Unwritten>
+fn put_list(out: &mut Output, members: &[Value]) -> Result<(), Unwritten>
     requires { AreSound (trees_of (trees members.now)) }
     ensures before { out.new.before ≡ out.old.before }
     ensures writes { Writes result out.old.more out.new.more
@@ -99,7 +99,7 @@ fn put_list(out: &mut Adding, members: &[Value]) -> Result<(), Unwritten>
 #[cycle(encoder)]
 #[tactic(auto, using(crate::proofs::Putting::len_entries, crate::proofs::Putting::entry_count_le, crate::proofs::Putting::head_some, crate::proofs::Putting::parts))]
 #[inline(never)]
-fn put_dict(out: &mut Adding, pairs: &[(String, Value)]) -> Result<(), Unwritten>
+fn put_dict(out: &mut Output, pairs: &[(String, Value)]) -> Result<(), Unwritten>
     requires { HaveSoundValues (entries_of (entries pairs.now)) }
     ensures before { out.new.before ≡ out.old.before }
     ensures writes { Writes result out.old.more out.new.more
@@ -115,7 +115,7 @@ fn put_dict(out: &mut Adding, pairs: &[(String, Value)]) -> Result<(), Unwritten
 #[cycle(encoder)]
 #[tactic(auto, using(crate::proofs::Putting::len_trees, crate::proofs::Putting::parts))]
 #[inline(never)]
-fn put_struct(out: &mut Adding, tag: u8, fields: &[Value]) -> Result<(), Unwritten>
+fn put_struct(out: &mut Output, tag: u8, fields: &[Value]) -> Result<(), Unwritten>
     requires { IsSound (structure tag (trees_of (trees fields.now))) }
     ensures before { out.new.before ≡ out.old.before }
     ensures writes { Writes result out.old.more out.new.more
@@ -129,7 +129,7 @@ fn put_struct(out: &mut Adding, tag: u8, fields: &[Value]) -> Result<(), Unwritt
 /// A member of a list, in its loop: the members are often integers, and these take no call.
 #[cycle(encoder)]
 #[inline(always)]
-fn put_member(out: &mut Adding, value: &Value) -> Result<(), Unwritten>
+fn put_member(out: &mut Output, value: &Value) -> Result<(), Unwritten>
     requires { IsSound (tree value.now) }
     ensures before { out.new.before ≡ out.old.before }
     ensures writes { Writes result out.old.more out.new.more (canon (tree value.now)) }
@@ -145,7 +145,7 @@ fn put_member(out: &mut Adding, value: &Value) -> Result<(), Unwritten>
 
 #[cycle(encoder)]
 #[tactic(auto, using(crate::proofs::Putting::flat_more, crate::proofs::Putting::flat_room, crate::proofs::Putting::sound_at, crate::proofs::Putting::parts))]
-fn put_members(out: &mut Adding, members: &[Value]) -> Result<(), Unwritten>
+fn put_members(out: &mut Output, members: &[Value]) -> Result<(), Unwritten>
     requires { AreSound (trees_of (trees members.now)) }
     ensures before { out.new.before ≡ out.old.before }
     ensures writes { Writes result out.old.more out.new.more
@@ -162,7 +162,7 @@ fn put_members(out: &mut Adding, members: &[Value]) -> Result<(), Unwritten>
 
 #[cycle(encoder)]
 #[tactic(auto, using(crate::proofs::Putting::flats_more, crate::proofs::Putting::flats_room, crate::proofs::Putting::values_sound_at, crate::proofs::Putting::parts))]
-fn put_pairs(out: &mut Adding, pairs: &[(String, Value)]) -> Result<(), Unwritten>
+fn put_pairs(out: &mut Output, pairs: &[(String, Value)]) -> Result<(), Unwritten>
     requires { HaveSoundValues (entries_of (entries pairs.now)) }
     ensures before { out.new.before ≡ out.old.before }
     ensures writes { Writes result out.old.more out.new.more
@@ -179,7 +179,7 @@ fn put_pairs(out: &mut Adding, pairs: &[(String, Value)]) -> Result<(), Unwritte
 
 #[cycle(encoder)]
 #[tactic(auto, using(crate::proofs::Putting::parts))]
-fn put_pair(out: &mut Adding, pair: &(String, Value)) -> Result<(), Unwritten>
+fn put_pair(out: &mut Output, pair: &(String, Value)) -> Result<(), Unwritten>
     requires { IsSound (tree pair.now.1) }
     ensures before { out.new.before ≡ out.old.before }
     ensures writes { Writes result out.old.more out.new.more
@@ -191,7 +191,7 @@ fn put_pair(out: &mut Adding, pair: &(String, Value)) -> Result<(), Unwritten>
 
 /// Adds the shortest spelling, if it is not too long.
 #[tactic(auto, using(crate::proofs::Only::shortest, crate::proofs::Only::none_short))]
-fn spell(out: &mut Adding, packed: &Packed) -> Result<(), PackFault>
+fn spell(out: &mut Output, packed: &Packed) -> Result<(), PackFault>
     requires { out.old.more ≡ [] }
     ensures before { out.new.before ≡ out.old.before }
     ensures ok { OnOk result (out.new.more ≡ canon packed.now) }
@@ -231,7 +231,7 @@ pub fn encode(packed: &Packed, out: &mut BytesMut) -> Result<(), PackFault>
         → (r ≡ reason.Size) × (o ≡ 0) }
     ensures err { OnErr result (out.new.items ≡ out.old.items) }
 {
-    let mut adding = Adding::to(out);
+    let mut adding = Output::taking(out);
     match spell(&mut adding, packed) {
         Ok(()) => {
             *out = adding.keep();

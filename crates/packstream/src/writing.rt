@@ -5,12 +5,12 @@ ghost use Rattle.byteorder.specs.Endian.{big_bytes};
 ghost use Rattle.packstream.specs.Canon.{long_head, head, int_bytes, text_bytes};
 ghost use Rattle.packstream.specs.Limits.{max_size};
 
-pub use crate::output::Adding;
+pub use crate::output::Output;
 use std::alloc::AllocError;
 
 /// The shortest of the long heads of so many: a marker for one, two or four bytes of their count, and these.
 #[tactic(auto, unfolding(crate::specs::Canon::long_head))]
-pub fn put_long(out: &mut Adding, marker: u8, n: u32) -> Result<(), AllocError>
+pub fn put_long(out: &mut Output, marker: u8, n: u32) -> Result<(), AllocError>
     requires { marker ≤ 253 }
     ensures before { out.new.before ≡ out.old.before }
     ensures ok { OnOk result (out.new.more ≡ out.old.more ++ long_head marker n) }
@@ -27,7 +27,7 @@ pub fn put_long(out: &mut Adding, marker: u8, n: u32) -> Result<(), AllocError>
 /// The head of a text, a list or a dictionary of so many: in its marker alone up to 15.
 #[tactic(auto, unfolding(crate::specs::Canon::head))]
 #[inline]
-pub fn put_head(out: &mut Adding, tiny: u8, marker: u8, n: u32) -> Result<(), AllocError>
+pub fn put_head(out: &mut Output, tiny: u8, marker: u8, n: u32) -> Result<(), AllocError>
     requires tiny { tiny ≤ 240 }
     requires marker { marker ≤ 253 }
     ensures before { out.new.before ≡ out.old.before }
@@ -44,7 +44,7 @@ pub fn put_head(out: &mut Adding, tiny: u8, marker: u8, n: u32) -> Result<(), Al
 /// An integer. It stands where it is asked for, so that no loop over integers has a call for each.
 #[tactic(auto, unfolding(crate::specs::Canon::int_bytes))]
 #[inline(always)]
-pub fn put_int(out: &mut Adding, n: i64) -> Result<(), AllocError>
+pub fn put_int(out: &mut Output, n: i64) -> Result<(), AllocError>
     ensures before { out.new.before ≡ out.old.before }
     ensures ok { OnOk result (out.new.more ≡ out.old.more ++ int_bytes n) }
 {
@@ -62,7 +62,7 @@ pub fn put_int(out: &mut Adding, n: i64) -> Result<(), AllocError>
 }
 
 /// A float, by its bits.
-pub fn put_float(out: &mut Adding, bits: u64) -> Result<(), AllocError>
+pub fn put_float(out: &mut Output, bits: u64) -> Result<(), AllocError>
     ensures before { out.new.before ≡ out.old.before }
     ensures ok { OnOk result (out.new.more ≡ out.old.more ++ (0xC1 ∷ big_bytes 8 bits)) }
 {
@@ -72,7 +72,7 @@ pub fn put_float(out: &mut Adding, bits: u64) -> Result<(), AllocError>
 /// A text of at most 65,536 bytes.
 #[tactic(auto, using(crate::proofs::Putting::parts))]
 #[inline]
-pub fn put_short_text(out: &mut Adding, text: &str) -> Result<(), AllocError>
+pub fn put_short_text(out: &mut Output, text: &str) -> Result<(), AllocError>
     requires { length text.now ≤ max_size }
     ensures before { out.new.before ≡ out.old.before }
     ensures ok { OnOk result (out.new.more ≡ out.old.more ++ text_bytes text.now) }
@@ -83,7 +83,7 @@ pub fn put_short_text(out: &mut Adding, text: &str) -> Result<(), AllocError>
 
 /// A byte string of at most 65,536 bytes.
 #[tactic(auto, using(crate::proofs::Putting::parts))]
-pub fn put_short_bytes(out: &mut Adding, bytes: &[u8]) -> Result<(), AllocError>
+pub fn put_short_bytes(out: &mut Output, bytes: &[u8]) -> Result<(), AllocError>
     requires { length bytes.now ≤ max_size }
     ensures before { out.new.before ≡ out.old.before }
     ensures ok { OnOk result (out.new.more

@@ -118,7 +118,7 @@ impl<E: Engine, G: Gate> Server<E, G> {
     }
 
     /// Writes rows that a session owes to a PULL, as so many calls of `work` would that tell a row each, one behind the other; and answers how
-    /// many. None if no live session has the number. It may stop before the last of them: a row past 65,535 bytes or with a cell that holds
+    /// many; 0 if no live session has the number. It may stop before the last of them: a row past 65,535 bytes or with a cell that holds
     /// others takes a call of `work`, and where there is no memory for one that call tells it.
     pub fn write_rows(&mut self, conn: u64) -> usize
         ensures { WritesAt conn result (rest_of E.entries self.old) (rest_of E.entries self.new) }

@@ -1,6 +1,5 @@
 -- The SUCCESS of a RUN, spelled from the names of its fields.
-use Rattle.std.proofs.Common.{◌≡◌, ◌<◌, ◌≤◌, ◌+◌, ℕ, zero, suc, true, nat_lt, List, [], ◌∷◌, ◌++◌, length, take, get_or, map, Ok, codes, refl, ap, sym, ◌∙◌, append_assoc, add-one, arith, String, Global, string_bytes}
-use Rattle.std.proofs.lemmas.Bool.Decides.{nat_tests}
+use Rattle.std.proofs.Common.{◌≡◌, ◌<◌, ◌≤◌, ◌+◌, ℕ, zero, suc, true, List, [], ◌∷◌, ◌++◌, length, take, drop, get_or, map, Ok, codes, refl, ap, sym, ◌∙◌, append_assoc, add-one, arith, String, Global, string_bytes}
 use Rattle.std.proofs.lemmas.Str.{IsUtf8-string_bytes}
 use Rattle.std.proofs.lemmas.List.{append-nil}
 use Rattle.packstream.specs.Prelude.{Tree, text, dict, Trees, count, depth, trees_depth, entries_of, trees_of, head, int_bytes, text_bytes, canon, canon_all, IsGood, AreSound, ArePlain}
@@ -8,11 +7,13 @@ use Rattle.packstream.proofs.Ranges.{fits_pos}
 use Rattle.wire.specs.declared.Version.{Version}
 use Rattle.cells.specs.Prelude.{scan, fault as structure_fault, structures, structures_in}
 use Rattle.structures.specs.Prelude.{typed_all}
-use Rattle.messages.specs.Prelude.{SUCCESS, contents, form_put, response_contents, response_spelling, IsCell, Adds}
+use Rattle.wire.specs.Prelude.{written_run}
+use Rattle.messages.specs.Prelude.{SUCCESS, run_of_result, contents, form_put, response_contents, response_spelling, IsCell, Adds}
 use Rattle.messages.proofs.Added.{cells_added, appended}
 use Rattle.messages.proofs.Rounds.{response_reads_back}
-use Rattle.session.specs.Prelude.{fields_told, fields_said, fits, IsBody}
-use Rattle.session.proofs.Fitting.{said_fits, said_body}
+use Rattle.session.specs.Prelude.{fields_told, fields_said, fits, IsRun}
+use Rattle.session.proofs.Fitting.{said_fits}
+use Rattle.session.proofs.Summed.{small_head}
 
 -- the names, as trees
 abbrev pub names_in : List (String Global) → Trees
@@ -63,36 +64,35 @@ bare ss = rw (unstructured ss) refl
 a_cell : (v : Version) (ss : List (String Global)) → IsCell v (metadata_of ss)
 a_cell v ss = (metadata_of ss, (good ss).plain, ((0, ap (scan (structure_fault v) 0) (bare ss)), rw (themselves ss) refl))
 
-small_head : (tiny m n : ℕ) → n ≤ 15 → head tiny m n ≡ (tiny + n) ∷ []
-unfolding head
-small_head tiny m n h = let e : nat_lt n 16 ≡ true = grind (arith, nat_tests) in rw e refl
-
 -- the parts, one after another, are the metadata
-pub joined : (ss : List (String Global)) (old a b c new : List ℕ) → length ss ≤ 15 → a ≡ old ++ 0xB1 ∷ 0x70 ∷ 0xA2 ∷ 0x86 ∷ codes "fields" → b ≡ a ++ (0x90 + length ss) ∷ [] → c ≡ b ++ canon_all (names_in ss) → new ≡ c ++ 0x87 ∷ (codes "t_first" ++ 0 ∷ [])
-    → new ≡ (old ++ 0xB1 ∷ 0x70 ∷ []) ++ canon (metadata_of ss)
+pub joined : (ss : List (String Global)) (old a b c new : List ℕ) → length ss ≤ 15 → a ≡ old ++ 0 ∷ 0 ∷ 0xB1 ∷ 0x70 ∷ 0xA2 ∷ 0x86 ∷ codes "fields" → b ≡ a ++ (0x90 + length ss) ∷ [] → c ≡ b ++ canon_all (names_in ss) → new ≡ c ++ 0x87 ∷ (codes "t_first" ++ 0 ∷ [])
+    → new ≡ (old ++ 0 ∷ 0 ∷ 0xB1 ∷ 0x70 ∷ []) ++ canon (metadata_of ss)
 unfolding head int_bytes
 joined ss old a b c new few p q r s =
     let m = canon_all (names_in ss) in
     let t : List ℕ = 0x87 ∷ (codes "t_first" ++ 0 ∷ []) in
-    let f : List ℕ = 0xB1 ∷ 0x70 ∷ 0xA2 ∷ 0x86 ∷ codes "fields" in
+    let f : List ℕ = 0 ∷ 0 ∷ 0xB1 ∷ 0x70 ∷ 0xA2 ∷ 0x86 ∷ codes "fields" in
     let h : List ℕ = (0x90 + length ss) ∷ [] in
     let e : head 0x90 0xD4 (count (names_in ss)) ≡ h = ap (head 0x90 0xD4) (counted ss) ∙ small_head 0x90 0xD4 (length ss) few in
     s ∙ ap (λ x. x ++ t) (r ∙ ap (λ x. x ++ m) (q ∙ ap (λ x. x ++ h) p))
     ∙ append_assoc ((old ++ f) ++ h) m t ∙ append_assoc (old ++ f) h (m ++ t) ∙ append_assoc old f (h ++ (m ++ t))
     ∙ ap (λ x. old ++ (f ++ x)) (sym (append_assoc h m t)) ∙ ap (λ x. old ++ (f ++ ((x ++ m) ++ t))) (sym e)
-    ∙ sym (append_assoc old (0xB1 ∷ 0x70 ∷ []) (canon (metadata_of ss)))
+    ∙ sym (append_assoc old (0 ∷ 0 ∷ 0xB1 ∷ 0x70 ∷ []) (canon (metadata_of ss)))
 
--- What was added to nothing, and is no longer than a message, is the body.
-pub fields_body : (v : Version) (ss : List (String Global)) (b : List ℕ) → b ≡ (0xB1 ∷ 0x70 ∷ []) ++ canon (metadata_of ss) → length b ≤ 65536
-    → IsBody v (fields_said (map string_bytes ss)) b × (fits v (fields_said (map string_bytes ss)) ≡ true)
+-- The run of what was added to nothing, behind the place of a header, is the response's.
+pub fields_run : (v : Version) (ss : List (String Global)) (more run : List ℕ) → more ≡ ([] ++ 0 ∷ 0 ∷ 0xB1 ∷ 0x70 ∷ []) ++ canon (metadata_of ss) → length more ≤ 65537 → run ≡ written_run (drop 2 more)
+    → IsRun v (fields_said (map string_bytes ss)) run × (fits v (fields_said (map string_bytes ss)) ≡ true)
 unfolding response_spelling
-fields_body v ss b e short =
+fields_run v ss more run e few r =
     let m = fields_said (map string_bytes ss) in
-    let adds : Adds (form_put v (response_contents m)) [] b = cells_added v (λ x. contents SUCCESS (x ∷ []) []) 0x70 (metadata_of ss) (metadata_of ss) [] (0xB1 ∷ 0x70 ∷ []) b (omega arith) (λ x h. rw h refl) refl refl e (good ss) (deep ss) (bare ss) in
+    let b : List ℕ = (0xB1 ∷ 0x70 ∷ []) ++ canon (metadata_of ss) in
+    let is : more ≡ 0 ∷ 0 ∷ b = e in
+    let short : length b ≤ 65536 = omega (arith, few, ap length is) in
+    let adds : Adds (form_put v (response_contents m)) [] b = cells_added v (λ x. contents SUCCESS (x ∷ []) []) 0x70 (metadata_of ss) (metadata_of ss) [] (0xB1 ∷ 0x70 ∷ []) b (omega arith) (λ x h. rw h refl) refl refl refl (good ss) (deep ss) (bare ss) in
     let t = appended (form_put v (response_contents m)) [] b adds short in
     let said : response_spelling v m ≡ Ok b = t.1 ∙ ap Ok (sym t.2) in
     let back = (response_reads_back v m b (a_cell v ss) said).0 in
-    (said_body v m b said back, said_fits v m b said back)
+    (r ∙ ap (λ x. written_run (drop 2 x)) is ∙ sym (ap run_of_result said), said_fits v m b said back)
 
 -- Names that are added one after another.
 names_more : (ss : List (String Global)) (i : ℕ) (d : String Global) → i < length ss → canon_all (names_in (take (suc i) ss)) ≡ canon_all (names_in (take i ss)) ++ text_bytes (string_bytes (get_or ss i d))

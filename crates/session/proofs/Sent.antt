@@ -1,11 +1,9 @@
 -- A row that is spelled where it goes out, as the model's step.
-use Rattle.std.proofs.Common.{◌≡◌, ◌<◌, ◌≤◌, ◌+◌, ◌-◌, ℕ, suc, true, List, [], ◌∷◌, ◌++◌, length, take, drop, Result, Ok, Err, IfOk, refl, sym, ap, subst, ◌∙◌, append_assoc, length-append, length-take, length-drop, arith, w16}
-use Rattle.std.proofs.lemmas.List.{append-nil, take_at, drop_at, drop-drop}
-use Rattle.std.specs.Int.{to_be_bytes}
+use Rattle.std.proofs.Common.{◌≡◌, ◌<◌, ◌≤◌, ℕ, suc, true, List, [], ◌∷◌, ◌++◌, length, drop, Result, Ok, Err, IfOk, refl, sym, ap, subst, ◌∙◌, arith}
+use Rattle.std.proofs.lemmas.List.{append-nil}
 use Rattle.packstream.specs.Prelude.{Tree, list, trees_of, canon, IsGood, depth}
 use Rattle.wire.specs.declared.Version.{Version}
 use Rattle.wire.specs.Prelude.{written_run}
-use Rattle.wire.proofs.Runs.{text_of-short}
 use Rattle.cells.specs.declared.cell.Cell.{Cell}
 use Rattle.cells.specs.Prelude.{shapes, structures, fault_of_structure, IsWritable, are_typed}
 use Rattle.cells.proofs.Both.{both_true}
@@ -23,35 +21,6 @@ use Rattle.session.specs.declared.kinds.Worked.TheVariants as worked
 use Rattle.session.specs.Prelude.{Open, Reply, OneRow, Kept, Steps, replies, puts, row_reply, version_of, IsPut, SendsRow, fits, IsBody, one_less}
 use Rattle.session.specs.Acts.{after_bytes}
 use Rattle.session.proofs.Fitting.{said_fits, said_body}
-use borrow.Rule.Slice.PartMut.{put_mid}
-
--- what is written back of a slice as long as it was
-written_back : (l p : List ℕ) → length p ≡ length l → take (length l) (p ++ drop (length p) l) ≡ p
-written_back l p e = ap (λ (n : ℕ). take n (p ++ drop (length p) l)) (sym e) ∙ take_at p (drop (length p) l) (length p) refl
-
--- a header in its place
-pub header_put : (l m h : List ℕ) (start k : ℕ) → m ≡ l → k ≡ 2 → start + 2 ≤ length l → length h ≡ 2
-    → take (length l) (put_mid start k m h ++ drop (length (put_mid start k m h)) l) ≡ take start l ++ (h ++ drop (start + 2) l)
-header_put l m h start k e2 e3 some two =
-    let same : put_mid start k m h ≡ put_mid start 2 l h = ap (λ (x : List ℕ). put_mid start k x h) e2 ∙ ap (λ (n : ℕ). put_mid start n l h) e3 in
-    let long : length (put_mid start 2 l h) ≡ length l =
-    omega (arith, two, some, length-append (take start l) (h ++ drop 2 (drop start l)), length-append h (drop 2 (drop start l)), length-take start l, length-drop start l, length-drop 2 (drop start l)) in
-    written_back l (put_mid start k m h) (ap length same ∙ long) ∙ same ∙ ap (λ (a : List ℕ). take start l ++ (h ++ a)) (drop-drop 2 start l)
-
--- a text between the place of its header and the end of its run becomes the run
-pub run_put : (before more out new text : List ℕ) (start count : ℕ) → start ≡ length before → count ≡ length more - 4 → count ≤ 65535 → more ≡ 0 ∷ 0 ∷ (text ++ 0 ∷ 0 ∷ []) → out ≡ before ++ more
-    → new ≡ take start out ++ (to_be_bytes w16 count ++ drop (start + 2) out) → new ≡ before ++ written_run text
-run_put before more out new text start count s n few e o p =
-    let t : List ℕ = text ++ 0 ∷ 0 ∷ [] in
-    let whole : out ≡ (before ++ 0 ∷ 0 ∷ []) ++ t = o ∙ ap (λ x. before ++ x) e ∙ sym (append_assoc before (0 ∷ 0 ∷ []) t) in
-    let front : take start out ≡ before = ap (λ x. take start x) (o ∙ ap (λ x. before ++ x) e) ∙ take_at before (0 ∷ 0 ∷ t) start (sym s) in
-    let rest : drop (start + 2) out ≡ t = ap (drop (start + 2)) whole ∙ drop_at (before ++ 0 ∷ 0 ∷ []) t (start + 2) (length-append before (0 ∷ 0 ∷ []) ∙ ap (λ (x : ℕ). x + 2) (sym s)) in
-    let size : count ≡ length text = omega (arith, n, ap length e, length-append text (0 ∷ 0 ∷ [])) in
-    let short : length text ≤ 65535 = omega (arith, size, few) in
-    p ∙ ap (λ x. x ++ (to_be_bytes w16 count ++ drop (start + 2) out)) front
-    ∙ ap (λ x. before ++ (to_be_bytes w16 count ++ x)) rest
-    ∙ ap (λ x. before ++ (to_be_bytes w16 x ++ t)) size
-    ∙ ap (λ x. before ++ x) (sym (append_assoc (to_be_bytes w16 (length text)) text (0 ∷ 0 ∷ [])) ∙ sym (text_of-short text short))
 
 -- a row of cells is typed
 pub typed_row : (cs : List Cell) → are_typed (trees_of (shapes cs)) ≡ true
@@ -73,15 +42,14 @@ record_body v ts b k e short g d w =
     (said_body v m b said back, said_fits v m b said back)
 
 -- so its run was put
-pub record_put : (v : Version) (ts : List Tree) (before more old new : List ℕ) → are_typed (trees_of ts) ≡ true → more ≡ ([] ++ 0 ∷ 0 ∷ 0xB1 ∷ 0x71 ∷ []) ++ canon (form v (list (trees_of ts))) ++ 0 ∷ 0 ∷ [] → length more ≤ 65539 → IsGood (form v (list (trees_of ts))) → depth (form v (list (trees_of ts))) ≤ 31 → IsWritable v (list (trees_of ts))
-    → before ≡ old → ((text : List ℕ) → more ≡ 0 ∷ 0 ∷ (text ++ 0 ∷ 0 ∷ []) → new ≡ before ++ written_run text) → IsPut v (ResponseView.Record ts) old new
-record_put v ts before more old new k e few g d w was h =
-    let c = canon (form v (list (trees_of ts))) in
-    let text : List ℕ = (0xB1 ∷ 0x71 ∷ []) ++ c in
-    let is : more ≡ 0 ∷ 0 ∷ (text ++ 0 ∷ 0 ∷ []) = e in
-    let short : length text ≤ 65536 = omega (arith, few, ap length is, length-append text (0 ∷ 0 ∷ [])) in
+pub record_put : (v : Version) (ts : List Tree) (before more run old : List ℕ) → are_typed (trees_of ts) ≡ true → more ≡ ([] ++ 0 ∷ 0 ∷ 0xB1 ∷ 0x71 ∷ []) ++ canon (form v (list (trees_of ts))) → length more ≤ 65537 → IsGood (form v (list (trees_of ts))) → depth (form v (list (trees_of ts))) ≤ 31 → IsWritable v (list (trees_of ts))
+    → before ≡ old → run ≡ written_run (drop 2 more) → IsPut v (ResponseView.Record ts) old (before ++ run)
+record_put v ts before more run old k e few g d w was r =
+    let text : List ℕ = (0xB1 ∷ 0x71 ∷ []) ++ canon (form v (list (trees_of ts))) in
+    let is : more ≡ 0 ∷ 0 ∷ text = e in
+    let short : length text ≤ 65536 = omega (arith, few, ap length is) in
     let b = record_body v ts text k refl short g d w in
-    record { body = text; spelled = b.0; fits = b.1; run = h text is ∙ ap (λ x. x ++ written_run text) was }
+    record { body = text; spelled = b.0; fits = b.1; run = ap (λ x. x ++ run) was ∙ ap (λ x. old ++ x) (r ∙ ap (λ x. written_run (drop 2 x)) is) }
 
 -- The first row, sent.
 pub row_sent : (ledger : List EntryView) (k new : Kept) (q : RequestView) (later : List Arrival) (conn : ℕ) → 0 < length k.result.rows → SendsRow k new → Steps (replies ledger k q later (row_reply (version_of k) k.result.rows k.result)) conn k.first worked.Row new ledger ledger

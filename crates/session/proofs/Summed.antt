@@ -1,13 +1,13 @@
 -- The text of a summary, added an entry after the other.
-use Rattle.std.proofs.Common.{◌≡◌, ◌≤◌, ◌<◌, ◌^◌, ℕ, List, [], ◌∷◌, ◌++◌, length, ap, sym, subst, ◌∙◌, append_assoc, arith, decimal}
+use Rattle.std.proofs.Common.{◌+◌, true, nat_lt, refl, codes, ◌≡◌, ◌≤◌, ◌<◌, ◌^◌, ℕ, List, [], ◌∷◌, ◌++◌, length, ap, sym, subst, ◌∙◌, append_assoc, arith, decimal}
 use Rattle.std.proofs.lemmas.List.{append-nil, length-append}
-use Rattle.std.proofs.lemmas.Fmt.{length-decimal-le}
+use Rattle.std.proofs.lemmas.Bool.Decides.{nat_tests}
 use Rattle.packstream.specs.Prelude.{Tree, text, dict, structure, no_trees, tree_then, Entries, no_entries, entry_then, entry_count, head, text_bytes, canon, canon_entries}
-use Rattle.packstream.proofs.Putting.{canon_some}
 use Rattle.wire.specs.declared.Version.{Version}
-use Rattle.messages.specs.Prelude.{Summary, response_of_summary, form_of, IsShort}
-use Rattle.messages.proofs.Fitting.{text_is, form_le, room_le}
-use Rattle.session.specs.Prelude.{IsBody}
+use Rattle.wire.specs.Prelude.{written_run}
+use Rattle.messages.specs.Prelude.{Summary, run_of_result, response_of_summary, form_of, IsShort}
+use Rattle.messages.proofs.Fitting.{text_is}
+use Rattle.session.specs.Prelude.{IsRun}
 
 -- the head of a structure of one dictionary, then its entries
 pub headed : (tag n : ℕ) (es : Entries) (old a new : List ℕ) → head 0xA0 0xD8 (entry_count es) ≡ n ∷ [] → a ≡ old ++ 0xB1 ∷ tag ∷ n ∷ [] → new ≡ a ++ canon_entries es → new ≡ old ++ canon (structure tag (tree_then (dict es) no_trees))
@@ -26,21 +26,28 @@ entry_first k s es a b new p q =
 pub entry_last : (k : List ℕ) (t : Tree) (a new : List ℕ) → new ≡ a ++ (text_bytes k ++ canon t) → new ≡ a ++ canon_entries (entry_then k t no_entries)
 entry_last k t a new p = p ∙ ap (λ x. a ++ (text_bytes k ++ x)) (sym (append-nil (canon t)))
 
--- its key, and then what it holds
-pub key_then : (k : List ℕ) (t : Tree) (a b new : List ℕ) → b ≡ a ++ text_bytes k → new ≡ b ++ canon t → new ≡ a ++ canon_entries (entry_then k t no_entries)
-key_then k t a b new p q = entry_last k t a new (q ∙ ap (λ x. x ++ canon t) p ∙ append_assoc a (text_bytes k) (canon t))
+-- a head of few
+pub small_head : (tiny m n : ℕ) → n ≤ 15 → head tiny m n ≡ (tiny + n) ∷ []
+unfolding head
+small_head tiny m n h = let e : nat_lt n 16 ≡ true = grind (arith, nat_tests) in rw e refl
 
--- a word with a number is no long text
-pub numbered_short : (w : List ℕ) (n : ℕ) → length w ≤ 16 → n < 2 ^ 64 → length (w ++ decimal n) ≤ 65536
-numbered_short w n h lt = omega (arith, h, length-append w (decimal n), length-decimal-le 20 n (omega arith) (omega arith) lt)
+-- a bookmark of few digits
+pub bookmarked : (digits old a b new : List ℕ) → length digits ≤ 12 → a ≡ old ++ 0x88 ∷ codes "bookmark" → b ≡ a ++ (0x80 + (3 + length digits)) ∷ codes "bk:" → new ≡ b ++ digits
+    → new ≡ old ++ (text_bytes (codes "bookmark") ++ text_bytes (codes "bk:" ++ digits))
+unfolding head
+bookmarked digits old a b new few p q r =
+    let k : List ℕ = 0x88 ∷ codes "bookmark" in
+    let n : ℕ = 3 + length digits in
+    let h : List ℕ = (0x80 + n) ∷ codes "bk:" in
+    let m : ℕ = length (codes "bk:" ++ digits) in
+    let same : m ≡ n = omega arith in
+    let e : head 0x80 0xD0 m ≡ (0x80 + n) ∷ [] = small_head 0x80 0xD0 m (omega (arith, few, same)) ∙ ap (λ x. (0x80 + x) ∷ []) same in
+    r ∙ ap (λ x. x ++ digits) (q ∙ ap (λ x. x ++ h) p) ∙ append_assoc (old ++ k) h digits ∙ append_assoc old k (h ++ digits)
+    ∙ ap (λ x. old ++ (k ++ (x ++ (codes "bk:" ++ digits)))) (sym e)
 
--- what was added to nothing is the body
-pub summary_body : (v : Version) (s : Summary) (b : List ℕ) → IsShort s → b ≡ canon (form_of s) → IsBody v (response_of_summary s) b
-summary_body v s b h e = subst (IsBody v (response_of_summary s)) (sym e) (record {
-  text = text_is v s h;
-  some = canon_some (form_of s);
-  few = omega (arith, form_le s h, room_le s h);
-})
+-- the run of its text is the summary's
+pub summary_run : (v : Version) (s : Summary) (run : List ℕ) → IsShort s → run ≡ written_run (canon (form_of s)) → IsRun v (response_of_summary s) run
+summary_run v s run h e = e ∙ sym (ap run_of_result (text_is v s h))
 
 -- parts that were added one after another are one text
 pub ruleset added = (append_assoc, append-nil)

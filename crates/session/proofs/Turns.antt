@@ -7,7 +7,7 @@ use Rattle.machine.specs.Prelude.{kind_of, is_goodbye, is_reset, interruptible}
 use Rattle.engine.specs.Prelude.{EntryView}
 use Rattle.session.specs.declared.acts.Turn.TheVariants as turn
 use Rattle.session.specs.declared.kinds.Worked.{Worked}
-use Rattle.session.specs.Prelude.{Setting, Bye, serve, passed_over, Kept, Step, replies, after_interrupt, turns, reset_among, version_of, Steps, served_interrupted, turn_in}
+use Rattle.session.specs.Prelude.{Setting, Reply, Bye, serve, passed_over, Kept, Step, replies, after_interrupt, turns, reset_among, version_of, Steps, served_interrupted, turn_in}
 
 pub asked_head : (a b : RequestView) (xs ys : List Arrival) → (Asked a ∷ xs) ≡ (Asked b ∷ ys) → a ≡ b
 asked_head a b xs ys e = cc
@@ -40,3 +40,8 @@ turns_served S c ledger k xs q later e h =
 pub steps_at : (d e : Step) (conn first : ℕ) (r : Result Worked AllocError) (new : Kept) (before after : List EntryView) → d ≡ e
     → IfOk r (λ w. Steps d conn first w new before after) → IfOk r (λ w. Steps e conn first w new before after)
 steps_at d e conn first r new before after same h = subst (λ (x : Step). IfOk r (λ w. Steps x conn first w new before after)) same h
+
+-- of a step from what is kept by another name
+pub steps_from : (k j : Kept) → k ≡ j → (ledger : List EntryView) (q : RequestView) (later : List Arrival) (reply : Reply) (conn : ℕ) (r : Result Worked AllocError) (new : Kept) (before after : List EntryView)
+    → IfOk r (λ w. Steps (replies ledger k q later reply) conn k.first w new before after) → IfOk r (λ w. Steps (replies ledger j q later reply) conn j.first w new before after)
+steps_from k j same ledger q later reply conn r new before after h = subst (λ (x : Kept). IfOk r (λ w. Steps (replies ledger x q later reply) conn x.first w new before after)) same h

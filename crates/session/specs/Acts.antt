@@ -7,7 +7,7 @@ use Rattle.messages.specs.Summaries as messages
 use Rattle.messages.specs.Summaries.{response_of_summary}
 use Rattle.messages.specs.Writing.{response_spelling}
 use Rattle.wire.specs.Texts.{written_run}
-use Rattle.messages.specs.Arrivals.{Arrival, Asked, Unread, TooLong}
+use Rattle.messages.specs.Arrivals.{run_of_result, Arrival, Asked, Unread, TooLong}
 use Rattle.machine.specs.declared.states.State.{State}
 use Rattle.machine.specs.declared.kinds.Kind.{Kind}
 use Rattle.machine.specs.declared.rows.Verdict.{Verdict}
@@ -68,6 +68,10 @@ pub record IsBody (v : Version) (m : ResponseView) (b : List ℕ) : Type 0 where
   pub text : response_spelling v m ≡ Ok b
   pub some : 0 < length b
   pub few : length b ≤ max_message
+
+-- the run of a response
+abbrev pub IsRun : Version → ResponseView → List ℕ → Type 0
+IsRun v m run = run ≡ run_of_result (response_spelling v m)
 
 -- A response was said: what fits is its spelling, whose written run stands behind what was there.
 pub record IsPut (v : Version) (m : ResponseView) (old new : List ℕ) : Type 0 where
@@ -200,9 +204,9 @@ abbrev pub turn_by : Option Waiting → Turn
 turn_by None = turn.Nothing
 turn_by (Some w) = turn_of_one w
 
--- a summary was written, in the room that a request leaves
+-- a summary was written, whose run is this
 abbrev pub after_summary : State → Option Cause → Open → Tx → List ℕ → Kept → Kept
-after_summary state ended left tx body k =
+after_summary state ended left tx run k =
     record {
       version = k.version;
       state = state;
@@ -211,7 +215,7 @@ after_summary state ended left tx body k =
       waiting = drop 1 k.waiting;
       result = left;
       tx = tx;
-      unsent = k.unsent ++ written_run body;
+      unsent = k.unsent ++ run;
     }
 
 -- a row was written

@@ -5,6 +5,7 @@ use Rattle.messages.specs.declared.request.Request.{Request}
 use Rattle.messages.specs.View.{request_view}
 use Rattle.messages.specs.Arrivals.{Arrival, Asked, Unread, TooLong}
 use Rattle.packstream.specs.Tree.{Tree}
+use Rattle.packstream.specs.Writing.{whole}
 use Rattle.cells.specs.Shape.{shapes}
 use Rattle.engine.specs.Views.{EntryView, rows_in, token_view, writes_view}
 use Rattle.session.specs.declared.session.Session.{Session}
@@ -65,8 +66,12 @@ kept_of x =
       waiting = waiting_in x.queue.waiting.items;
       result = open_of x.result;
       tx = tx_of x.tx;
-      unsent = x.out.items;
+      unsent = whole x.out;
     }
+
+-- the same before what was put behind the mark of its output
+abbrev pub kept_before : Session → Kept
+kept_before x = record (kept_of x) { unsent = x.out.before }
 
 -- a session beside an engine, by what it keeps and by the engine's ledger
 abbrev pub snapshot_of : {E : Type 0} → (E → List EntryView) → Session → E → Snapshot

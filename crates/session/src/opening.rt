@@ -9,22 +9,20 @@ ghost use Rattle.engine.specs.Limits.{max_rows};
 ghost use Rattle.engine.specs.Views.{AnswerView, QueryFault, token_view, answer_view};
 ghost use Rattle.session.specs.Session.{no_tx, opens, reply_to_run, result_of_answer, in_transaction, with_write};
 ghost use Rattle.session.specs.Rest.{version_of, cause_of, replies, IsCounted};
-ghost use Rattle.session.specs.Views.{kept_of};
-ghost use Rattle.session.specs.Acts.{IsSized, Steps, after_summary};
+ghost use Rattle.session.specs.Views.{kept_of, kept_before};
+ghost use Rattle.session.specs.Acts.{Steps, after_summary};
 
 use crate::fault::Fault;
 use crate::kinds::Worked;
-use crate::query_answer::{open_result, spell_fields};
+use crate::query_answer::{open_result, put_fields};
 use crate::session::Session;
 use crate::spelling::Unwritten;
 use engine::{Answer, Engine, EngineFault};
 use machine::{Kind, State, Verdict};
 use std::alloc::AllocError;
-use wire::written_len;
 
 impl Session {
     /// Opens the result of an engine's answer to a RUN with this token, or tells its refusal.
-    #[inline(never)]
     pub(crate) fn ran<E: Engine>(
         &mut self,
         answered: Result<Answer, EngineFault>,
@@ -107,14 +105,20 @@ impl Session {
             × (E.entries engine.new ≡ E.entries engine.old)) }
         ensures counted { IfOk result IsCounted }
     {
-        match spell_fields(self.alloc, self.version(), &answer.fields, &mut self.body) {
+        match put_fields(
+            self.alloc,
+            self.version(),
+            &answer.fields,
+            &mut self.body,
+            &mut self.out,
+        ) {
             Ok(()) => self.take(answer, token, kind),
             Err(Unwritten::Memory) => Err(AllocError),
             Err(Unwritten::Because(fault)) => self.fail(fault, conn, kind, engine),
         }
     }
 
-    /// Opens a result, and writes the SUCCESS that is spelled.
+    /// Opens a result, of which the SUCCESS is put; or takes that back.
     fn take(
         &mut self,
         answer: Answer,
@@ -123,21 +127,19 @@ impl Session {
     ) -> Result<Worked, AllocError>
         requires some { 0 < length self.old.queue.waiting.items }
         requires few { answer.rows.count ≤ max_rows }
-        requires fits { IsSized self.old.body.items }
         ensures told { let k = kept_of self.old in
             let next = unwrap_or (row_at (version_of k) k.state kind Verdict.Success) State.Defunct in
             IfOk result (λ w. w ≡ Worked.Wrote k.first kind next None) }
-        ensures kept { let k = kept_of self.old in
+        ensures kept { let k = kept_before self.old in
             let next = unwrap_or (row_at (version_of k) k.state kind Verdict.Success) State.Defunct in
             let a = answer_view answer in
             OnOk result (kept_of self.new ≡ after_summary next (cause_of Verdict.Success next)
             (result_of_answer (version_of k) k.state (token_view token) a)
             (if in_transaction k.state then with_write k.tx a.write else no_tx)
-            self.old.body.items k) }
-        ensures err { OnErr result (kept_of self.new ≡ kept_of self.old) }
+            self.old.out.more k) }
+        ensures err { OnErr result (kept_of self.new ≡ kept_before self.old) }
     {
-        self.out.reserve(written_len(&self.body))?;
-        open_result(
+        match open_result(
             self.alloc,
             self.version(),
             self.state,
@@ -145,7 +147,12 @@ impl Session {
             token,
             &mut self.result,
             &mut self.tx,
-        )?;
-        Ok(self.finish(self.state, Verdict::Success, kind, None))
+        ) {
+            Ok(()) => Ok(self.finish(self.state, Verdict::Success, kind, None)),
+            Err(AllocError) => {
+                self.out.take_back();
+                Err(AllocError)
+            }
+        }
     }
 }

@@ -1,7 +1,8 @@
 //! What a query's answer opens.
-ghost use Rattle.std.specs.Prelude.{◌≡◌, ◌+◌, ◌≤◌, ◌∷◌, [], ◌++◌, true, if◌then◌else◌, length, map, option_map, option_to_list, IfOk, OnOk, OnErr, IfErr, string_bytes};
+ghost use Rattle.std.specs.Prelude.{◌≡◌, ◌+◌, ◌≤◌, ◌∷◌, [], ◌++◌, true, false, if◌then◌else◌, length, map, option_map, option_to_list, IfOk, OnOk, OnErr, IfErr, string_bytes};
 ghost use Rattle.messages.specs.View.{response_view};
 ghost use Rattle.cells.specs.Shape.{shapes};
+ghost use Rattle.packstream.specs.Writing.{whole};
 ghost use Rattle.packstream.specs.Tree.{text, dict};
 ghost use Rattle.packstream.specs.Canon.{canon, canon_all};
 ghost use Rattle.packstream.specs.View.{entries_of, trees_of};
@@ -11,74 +12,94 @@ ghost use Rattle.session.specs.Session.{fields_told, fields_said, rows_fitted, r
 ghost use Rattle.session.specs.Views.{first_of, open_of, tx_of};
 ghost use Rattle.engine.specs.Limits.{max_rows};
 ghost use Rattle.session.specs.Said.{fits};
-ghost use Rattle.session.specs.Acts.{IsBody, Refuses};
+ghost use Rattle.session.specs.Acts.{IsRun, Refuses};
 
 use crate::remaining::Remaining;
 use crate::result::{OpenResult, Transaction};
-use crate::spelling::{Unwritten, spell_response};
+use crate::spelling::{Unwritten, put_response};
 use crate::words::{is_in_transaction, result_mode};
 use bytes::BytesMut;
 use engine::{Answer, Write};
 use machine::State;
-use messages::Response;
-use speller::{Adding, Unspelled, put_text};
+use messages::{Response, close_run};
+use speller::{Output, Unspelled, put_text};
 use std::alloc::{AllocError, Global};
 use structures::Cell;
-use wire::{MAX_MESSAGE, Version};
+use wire::Version;
 
 /// The most fields whose SUCCESS is spelled without a response: as many as a list of one byte before its members has.
 const FEW: usize = 15;
 
-/// Spells the SUCCESS of a RUN in place of what the body held, or tells why it wasn't written.
-pub(crate) fn spell_fields(
+/// Puts the run of the SUCCESS of a RUN; or nothing, and why. One of many fields goes by way of its text, in place of what the body held.
+pub(crate) fn put_fields(
     alloc: Global,
     version: Version,
     fields: &[String],
     body: &mut BytesMut,
+    out: &mut Output,
 ) -> Result<(), Unwritten>
+    ensures before { out.new.before ≡ whole out.old }
     ensures ok { let said = fields_said (map string_bytes fields.now) in
-        OnOk result (IsBody version said body.new.items × (fits version said ≡ true)) }
+        OnOk result (IsRun version said out.new.more × (fits version said ≡ true)) }
     ensures err { IfErr result (Refuses version (fields_said (map string_bytes fields.now))) }
+    ensures kept { OnErr result (whole out.new ≡ whole out.old) }
 {
-    if fields.len() <= FEW && spell_few(fields, body) {
+    if fields.len() <= FEW && put_few(fields, out) {
         return Ok(());
     }
+    put_many(alloc, version, fields, body, out)
+}
+
+/// Puts the same by way of a response.
+#[inline(never)]
+fn put_many(
+    alloc: Global,
+    version: Version,
+    fields: &[String],
+    body: &mut BytesMut,
+    out: &mut Output,
+) -> Result<(), Unwritten>
+    ensures before { out.new.before ≡ whole out.old }
+    ensures ok { let said = fields_said (map string_bytes fields.now) in
+        OnOk result (IsRun version said out.new.more × (fits version said ≡ true)) }
+    ensures err { IfErr result (Refuses version (fields_said (map string_bytes fields.now))) }
+    ensures kept { OnErr result (whole out.new ≡ whole out.old) }
+{
+    out.set_mark();
     match fields_response(alloc, fields) {
-        Ok(response) => spell_response(version, &response, body),
+        Ok(response) => put_response(version, &response, body, out),
         Err(AllocError) => Err(Unwritten::Memory),
     }
 }
 
-/// Spells the SUCCESS of a RUN of few fields in place of what the body held, without a response; or says no, if it is past its limit or
-/// memory ran out.
-fn spell_few(fields: &[String], body: &mut BytesMut) -> bool
+/// Puts the run of the SUCCESS of a RUN of few fields, spelled where it goes out; or says no, and puts nothing: of one past a chunk, or for want
+/// of memory.
+fn put_few(fields: &[String], out: &mut Output) -> bool
     requires { length fields.now ≤ 15 }
-    ensures { result ≡ true → (v : AnyVersion) → let said = fields_said (map string_bytes fields.now) in
-        IsBody v said body.new.items × (fits v said ≡ true) }
+    ensures before { out.new.before ≡ whole out.old }
+    ensures put { result ≡ true → (v : AnyVersion) → let said = fields_said (map string_bytes fields.now) in
+        IsRun v said out.new.more × (fits v said ≡ true) }
+    ensures other { result ≡ false → whole out.new ≡ whole out.old }
 {
-    body.clear();
-    let mut adding = Adding::to(body);
-    match put_fields(fields, &mut adding) {
-        Ok(()) => *body = adding.keep(),
+    out.set_mark();
+    match add_fields(fields, out) {
+        Ok(()) => close_run(out),
         Err(_) => {
-            *body = adding.undo();
-            return false;
+            out.take_back();
+            false
         }
     }
-    if body.len() > MAX_MESSAGE {
-        return false;
-    }
-    true
 }
 
-/// Adds the SUCCESS of a RUN of few fields.
-fn put_fields(fields: &[String], out: &mut Adding) -> Result<(), Unspelled>
+/// Adds a place for a header, and the SUCCESS of a RUN of few fields.
+fn add_fields(fields: &[String], out: &mut Output) -> Result<(), Unspelled>
     requires { length fields.now ≤ 15 }
     ensures before { out.new.before ≡ out.old.before }
     ensures spelled { OnOk result (out.new.more
-        ≡ (out.old.more ++ 0xB1 ∷ 0x70 ∷ []) ++ canon (dict (entries_of (fields_told (map string_bytes fields.now))))) }
+        ≡ (out.old.more ++ 0 ∷ 0 ∷ 0xB1 ∷ 0x70 ∷ [])
+        ++ canon (dict (entries_of (fields_told (map string_bytes fields.now))))) }
 {
-    out.extend_from_slice(b"\xB1\x70\xA2\x86fields")?;
+    out.extend_from_slice(b"\0\0\xB1\x70\xA2\x86fields")?;
     out.push(head_of(fields.len()))?;
     put_names(fields, out)?;
     out.extend_from_slice(b"\x87t_first\x00")?;
@@ -93,7 +114,7 @@ fn head_of(count: usize) -> u8
     0x90 + count as u8
 }
 
-fn put_names(names: &[String], out: &mut Adding) -> Result<(), Unspelled>
+fn put_names(names: &[String], out: &mut Output) -> Result<(), Unspelled>
     ensures before { out.new.before ≡ out.old.before }
     ensures spelled { OnOk result (out.new.more
         ≡ out.old.more ++ canon_all (trees_of (map text (map string_bytes names.now)))) }

@@ -1,6 +1,6 @@
 //! The rows of an open result, spelled one by one where they go out.
 ghost use Rattle.std.specs.Prelude.{◌≡◌, ◌<◌, ◌≤◌, ◌+◌, ◌∷◌, [], ◌++◌, ℕ, List, true, false, length, OnOk, IfOk, IfErr, take, drop};
-ghost use Rattle.std.specs.Int.{w16, to_be_bytes};
+ghost use Rattle.packstream.specs.Writing.{whole};
 ghost use Rattle.packstream.specs.Tree.{Tree, list};
 ghost use Rattle.packstream.specs.Canon.{canon};
 ghost use Rattle.packstream.specs.Good.{IsGood, depth};
@@ -17,14 +17,11 @@ ghost use Rattle.session.specs.Acts.{IsBody, IsPut, Refuses};
 use crate::remaining::Remaining;
 use crate::spelling::{Unwritten, spell_response};
 use bytes::BytesMut;
-use messages::Response;
-use speller::{Adding, Unspelled, put_list};
+use messages::{Response, close_run};
+use speller::{Output, Unspelled, put_list};
 use std::alloc::{AllocError, Global};
 use structures::Cell;
 use wire::{MAX_MESSAGE, Version};
-
-/// How many bytes the header of a chunk has.
-const HEADER: usize = 2;
 
 /// The most bytes of a chunk, whose length is two bytes.
 const MAX_CHUNK: usize = 65535;
@@ -57,82 +54,35 @@ fn most_bytes(cell: &Cell) -> usize {
     }
 }
 
-/// Appends the written run of the RECORD of a row, spelled where it goes out; or says no, and appends nothing: of a row with a cell
-/// that holds others, of one past a chunk, or for want of memory.
+/// Puts the run of the RECORD of a row, spelled where it goes out; or says no, and puts nothing: of a row with a cell that holds others,
+/// of one past a chunk, or for want of memory.
 #[inline(always)]
-pub(crate) fn put_record(version: Version, row: &[Cell], out: &mut BytesMut) -> bool
-    ensures put { result ≡ true → IsPut version (Record (shapes row.now)) out.old.items out.new.items }
-    ensures other { result ≡ false → out.new.items ≡ out.old.items }
+pub(crate) fn put_record(version: Version, row: &[Cell], out: &mut Output) -> bool
+    ensures put { result ≡ true → IsPut version (Record (shapes row.now)) (whole out.old) (whole out.new) }
+    ensures other { result ≡ false → whole out.new ≡ whole out.old }
 {
     if !is_short(row) {
         return false;
     }
-    let start = out.len();
-    let mut adding = Adding::to(out);
-    match put_framed(version, row, &mut adding) {
-        Ok(()) => keep_framed(start, adding, out),
+    out.set_mark();
+    match put_row(version, row, &[0, 0, 0xB1, 0x71], out) {
+        Ok(()) => close_run(out),
         Err(_) => {
-            *out = adding.undo();
+            out.take_back();
             false
         }
     }
 }
 
-/// Appends the same of the first of these rows.
+/// Puts the same of the first of these rows.
 #[inline(always)]
-pub(crate) fn put_first(version: Version, rows: &Remaining, out: &mut BytesMut) -> bool
+pub(crate) fn put_first(version: Version, rows: &Remaining, out: &mut Output) -> bool
     requires { 0 < rows.now.count }
     ensures put { result ≡ true → (row : List Tree) (rest : List (List Tree))
-        → remaining_rows rows.now ≡ row ∷ rest → IsPut version (Record row) out.old.items out.new.items }
-    ensures other { result ≡ false → out.new.items ≡ out.old.items }
+        → remaining_rows rows.now ≡ row ∷ rest → IsPut version (Record row) (whole out.old) (whole out.new) }
+    ensures other { result ≡ false → whole out.new ≡ whole out.old }
 {
     put_record(version, rows.first(), out)
-}
-
-/// Adds a RECORD between a place for a header and the end of its run.
-#[inline(always)]
-fn put_framed(version: Version, row: &[Cell], out: &mut Adding) -> Result<(), Unspelled>
-    ensures before { out.new.before ≡ out.old.before }
-    ensures spelled { OnOk result (out.new.more ≡ (out.old.more ++ 0 ∷ 0 ∷ 0xB1 ∷ 0x71 ∷ [])
-        ++ canon (form version (list (trees_of (shapes row.now)))) ++ 0 ∷ 0 ∷ []) }
-    ensures good { OnOk result (IsGood (form version (list (trees_of (shapes row.now))))) }
-    ensures deep { OnOk result (depth (form version (list (trees_of (shapes row.now)))) ≤ 31) }
-    ensures writable { OnOk result (IsWritable version (list (trees_of (shapes row.now)))) }
-{
-    out.extend_from_slice(&[0, 0, 0xB1, 0x71])?;
-    put_list(out, version, row, ROOM)?;
-    out.extend_from_slice(&[0, 0])?;
-    Ok(())
-}
-
-/// Gives the output back with a text between the place of its header and the end of its run, if that is no longer than a chunk,
-/// and writes the header; else as it was.
-fn keep_framed(start: usize, adding: Adding, out: &mut BytesMut) -> bool
-    requires start { start ≡ length adding.before }
-    requires framed { 4 ≤ length adding.more }
-    ensures kept { result ≡ true → (text : List ℕ) → adding.more ≡ 0 ∷ 0 ∷ (text ++ 0 ∷ 0 ∷ [])
-        → out.new.items ≡ adding.before ++ written_run text }
-    ensures short { result ≡ true → length adding.more ≤ 65539 }
-    ensures undone { result ≡ false → out.new.items ≡ adding.before }
-{
-    let count = adding.len() - 2 * HEADER;
-    if count > MAX_CHUNK {
-        *out = adding.undo();
-        return false;
-    }
-    *out = adding.keep();
-    put_header(start, count as u16, out);
-    true
-}
-
-/// Writes the header of a chunk of so many bytes in its place.
-fn put_header(start: usize, count: u16, out: &mut BytesMut)
-    requires { start + 2 ≤ length out.old.items }
-    ensures { out.new.items ≡ take start out.old.items
-        ++ (to_be_bytes w16 count ++ drop (start + 2) out.old.items) }
-{
-    let header = count.to_be_bytes();
-    out.as_mut_slice()[start..start + HEADER].copy_from_slice(&header);
 }
 
 /// Spells the first of these rows in place of what the body held, or tells why it wasn't written.
@@ -172,8 +122,8 @@ fn spell_short(version: Version, row: &[Cell], body: &mut BytesMut) -> bool
         IsBody version said body.new.items × (fits version said ≡ true) }
 {
     body.clear();
-    let mut adding = Adding::to(body);
-    match put_row(version, row, &mut adding) {
+    let mut adding = Output::taking(body);
+    match put_row(version, row, &[0xB1, 0x71], &mut adding) {
         Ok(()) => *body = adding.keep(),
         Err(_) => {
             *body = adding.undo();
@@ -186,16 +136,17 @@ fn spell_short(version: Version, row: &[Cell], body: &mut BytesMut) -> bool
     true
 }
 
-/// Adds a RECORD.
-fn put_row(version: Version, row: &[Cell], out: &mut Adding) -> Result<(), Unspelled>
+/// Adds the head of a RECORD, and its row.
+#[inline(always)]
+fn put_row(version: Version, row: &[Cell], head: &[u8], out: &mut Output) -> Result<(), Unspelled>
     ensures before { out.new.before ≡ out.old.before }
     ensures spelled { OnOk result (out.new.more
-        ≡ (out.old.more ++ 0xB1 ∷ 0x71 ∷ []) ++ canon (form version (list (trees_of (shapes row.now))))) }
+        ≡ (out.old.more ++ head.now) ++ canon (form version (list (trees_of (shapes row.now))))) }
     ensures good { OnOk result (IsGood (form version (list (trees_of (shapes row.now))))) }
     ensures deep { OnOk result (depth (form version (list (trees_of (shapes row.now)))) ≤ 31) }
     ensures writable { OnOk result (IsWritable version (list (trees_of (shapes row.now)))) }
 {
-    out.extend_from_slice(&[0xB1, 0x71])?;
+    out.extend_from_slice(head)?;
     put_list(out, version, row, ROOM)
 }
 

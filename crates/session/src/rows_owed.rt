@@ -35,7 +35,7 @@ impl Session {
             → nat_le max_unsent (length (kept_of self.old).unsent) ≡ false }
         ensures other { result ≡ false → kept_of self.new ≡ kept_of self.old }
     {
-        if self.out.len() >= MAX_UNSENT {
+        if self.out.whole_len() >= MAX_UNSENT {
             return false;
         }
         self.put_first()

@@ -10,6 +10,7 @@ use crate::words::{answer_of, is_interruptible};
 use bytes::{Bytes, BytesMut};
 use machine::{MAX_ORDINALS, MAX_WAITING, State, is_reset};
 use messages::{MsgFault, Request};
+use speller::Output;
 use std::alloc::{AllocError, Global};
 use wire::{Version, choose};
 
@@ -27,7 +28,7 @@ pub struct Session {
     pub(crate) queue: Queue,
     pub(crate) result: OpenResult,
     pub(crate) tx: Transaction,
-    pub(crate) out: BytesMut,
+    pub(crate) out: Output,
     /// Room for what a step writes, kept from one to the next.
     pub(crate) body: BytesMut,
     pub(crate) alloc: Global,
@@ -53,7 +54,7 @@ impl Session {
             queue: Queue::new(alloc)?,
             result: OpenResult::closed(alloc),
             tx: Transaction::none(alloc),
-            out: BytesMut::new(alloc),
+            out: Output::new(alloc),
             body: BytesMut::new(alloc),
             alloc,
         })
@@ -82,7 +83,7 @@ impl Session {
         ensures err { OnErr result (kept_of self.new ≡ kept_of self.old) }
         ensures memory { OnErr result (0 < length (taken_out max (kept_of self.old))) }
     {
-        let count = max.min(self.out.len());
+        let count = max.min(self.out.whole_len());
         self.out.freeze_to(count)
     }
 
@@ -98,13 +99,13 @@ impl Session {
     pub fn sent(&mut self, count: usize)
         ensures { kept_of self.new ≡ take_kept count (kept_of self.old) }
     {
-        if count < self.out.len() {
+        if count < self.out.whole_len() {
             self.out.advance(count);
             return;
         }
         self.out.clear();
         if self.out.capacity() > MAX_KEPT {
-            self.out = BytesMut::new(self.alloc);
+            self.out = Output::new(self.alloc);
         }
     }
 
@@ -117,9 +118,10 @@ impl Session {
         ensures err { OnErr result (kept_of self.new ≡ kept_of self.old) }
         ensures memory { OnErr result (puts_noop (kept_of self.old) ≡ true) }
     {
-        if self.version.is_none() || self.cause.is_some() || self.out.len() >= MAX_UNSENT {
+        if self.version.is_none() || self.cause.is_some() || self.out.whole_len() >= MAX_UNSENT {
             return Ok(false);
         }
+        self.out.set_mark();
         self.out.extend_from_slice(&[0, 0])?;
         Ok(true)
     }
@@ -136,6 +138,7 @@ impl Session {
             self.end(Cause::BadMagic);
             return Ok(What::BadMagic);
         };
+        self.out.set_mark();
         self.out.extend_from_slice(&answer_of(version))?;
         match version {
             Some(_) => self.version = version,

@@ -1,15 +1,18 @@
 //! The spellings of responses.
-ghost use Rattle.std.specs.Prelude.{◌≡◌, [], true, false, Ok, OnOk, IfErr};
+ghost use Rattle.std.specs.Prelude.{◌≡◌, ◌≤◌, [], ◌∷◌, length, drop, true, false, OnOk, OnErr, IfErr};
+ghost use Rattle.packstream.specs.Writing.{whole};
 ghost use Rattle.messages.specs.View.{response_view};
-ghost use Rattle.messages.specs.Summaries.{response_of_summary};
+ghost use Rattle.packstream.specs.Canon.{canon};
+ghost use Rattle.wire.specs.Texts.{written_run};
+ghost use Rattle.messages.specs.Summaries.{response_of_summary, form_of, IsShort};
 ghost use Rattle.session.specs.Said.{fits};
-ghost use Rattle.session.specs.Acts.{IsBody, Refuses, summary_of, is_ready, unwritten_of};
+ghost use Rattle.session.specs.Acts.{IsBody, IsRun, Refuses, summary_of, is_ready, unwritten_of};
 
 use crate::fault::Fault;
 use crate::summary::Summary;
 use bytes::BytesMut;
-use messages::{MsgFault, Response, write_response};
-use speller::Adding;
+use messages::{MsgFault, Response, close_run, put_run, write_response};
+use speller::Output;
 use std::alloc::AllocError;
 use wire::Version;
 
@@ -49,31 +52,84 @@ fn why_unwritten(fault: MsgFault) -> Unwritten
     }
 }
 
-/// Spells a summary, which always fits, in place of what the body held.
-pub(crate) fn spell_summary(
+/// Puts the run of a summary, which always fits; or nothing, for want of memory.
+pub(crate) fn put_summary(
     version: Version,
     summary: Summary<'_>,
-    body: &mut BytesMut,
+    out: &mut Output,
 ) -> Result<(), AllocError>
-    ensures { OnOk result
-        (IsBody version (response_of_summary (summary_of summary.entry)) body.new.items) }
+    ensures before { out.new.before ≡ whole out.old }
+    ensures ok { OnOk result
+        (IsRun version (response_of_summary (summary_of summary.entry)) out.new.more) }
+    ensures err { OnErr result (whole out.new ≡ whole out.old) }
 {
-    body.clear();
+    out.set_mark();
     match summary.ready() {
-        Some(text) => body.extend_from_slice(text),
-        None => spell_made(version, summary, body),
+        Some(bytes) => out.extend_from_slice(bytes),
+        None => put_made(version, summary, out),
     }
 }
 
-/// Spells a summary that tells a name, a number or a failure, behind nothing.
-fn spell_made(version: Version, summary: Summary<'_>, body: &mut BytesMut) -> Result<(), AllocError>
-    requires empty { body.old.items ≡ [] }
+/// Puts the run of a summary that tells a name, a number or a failure.
+fn put_made(version: Version, summary: Summary<'_>, out: &mut Output) -> Result<(), AllocError>
+    requires empty { out.old.more ≡ [] }
     requires made { is_ready summary ≡ false }
-    ensures { OnOk result
-        (IsBody version (response_of_summary (summary_of summary.entry)) body.new.items) }
+    ensures before { out.new.before ≡ out.old.before }
+    ensures ok { OnOk result
+        (IsRun version (response_of_summary (summary_of summary.entry)) out.new.more) }
+    ensures err { OnErr result (out.new.more ≡ []) }
 {
-    let mut adding = Adding::to(body);
-    summary.put(&mut adding)?;
-    *body = adding.keep();
+    match add_made(summary, out) {
+        Ok(()) => closed(out),
+        Err(AllocError) => {
+            out.take_back();
+            Err(AllocError)
+        }
+    }
+}
+
+/// Makes the run of a text that is no longer than a chunk.
+fn closed(out: &mut Output) -> Result<(), AllocError>
+    requires { 2 ≤ length out.old.more }
+    ensures before { out.new.before ≡ out.old.before }
+    ensures ok { OnOk result (out.new.more ≡ written_run (drop 2 out.old.more)) }
+    ensures err { OnErr result (out.new.more ≡ []) }
+{
+    if !close_run(out) {
+        return Err(AllocError);
+    }
     Ok(())
+}
+
+/// Adds a place for a header, and the text of a summary that tells a name, a number or a failure.
+fn add_made(summary: Summary<'_>, out: &mut Output) -> Result<(), AllocError>
+    requires empty { out.old.more ≡ [] }
+    requires made { is_ready summary ≡ false }
+    ensures before { out.new.before ≡ out.old.before }
+    ensures spelled { OnOk result (out.new.more ≡ 0 ∷ 0 ∷ canon (form_of (summary_of summary.entry))) }
+    ensures short { IsShort (summary_of summary.entry) }
+{
+    out.extend_from_slice(&[0, 0])?;
+    summary.put(out)
+}
+
+/// Puts the run of a response by way of its text, which takes the place of what the body held; or nothing, and why.
+pub(crate) fn put_response(
+    version: Version,
+    response: &Response,
+    body: &mut BytesMut,
+    out: &mut Output,
+) -> Result<(), Unwritten>
+    ensures before { out.new.before ≡ whole out.old }
+    ensures ok { let said = response_view response.now in
+        OnOk result (IsRun version said out.new.more × (fits version said ≡ true)) }
+    ensures err { IfErr result (Refuses version (response_view response.now)) }
+    ensures kept { OnErr result (whole out.new ≡ whole out.old) }
+{
+    out.set_mark();
+    spell_response(version, response, body)?;
+    match put_run(body, out) {
+        Ok(()) => Ok(()),
+        Err(AllocError) => Err(Unwritten::Memory),
+    }
 }

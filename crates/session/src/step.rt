@@ -2,14 +2,13 @@
 ghost use Rattle.std.specs.Prelude.{◌≡◌, ◌<◌, ◌≤◌, ◌++◌, ◌∷◌, ◌&&◌, List, length, true, false, unwrap_or, IfOk, OnOk, OnErr};
 ghost use Rattle.messages.specs.View.{RequestView};
 ghost use Rattle.messages.specs.Arrivals.{Arrival, Asked};
-ghost use Rattle.wire.specs.Texts.{written_run};
 ghost use Rattle.machine.specs.Asks.{kind_of};
 ghost use Rattle.machine.specs.Rows.{row_at};
 ghost use Rattle.machine.specs.Following.{interruptible};
-ghost use Rattle.session.specs.Session.{fails};
+ghost use Rattle.session.specs.Session.{fails, reply_to_run};
 ghost use Rattle.session.specs.Rest.{version_of, cause_of, replies, reset_among, serves, turns, stepped, commit_entries, IsCounted, MayStep};
-ghost use Rattle.session.specs.Views.{kept_of, snapshot_of};
-ghost use Rattle.session.specs.Acts.{IsFree, IsSized, SendsRow, Steps, reply_of, owes_row, row_reply, entry_in, length_after, left_result, left_tx, left_entry, after_bytes, after_summary, turn_in};
+ghost use Rattle.session.specs.Views.{kept_of, kept_before, snapshot_of};
+ghost use Rattle.session.specs.Acts.{IsFree, IsSized, SendsRow, Steps, reply_of, owes_row, runs, asked_by, token_of_run, row_reply, entry_in, length_after, left_result, left_tx, left_entry, after_bytes, after_summary, turn_in};
 
 use crate::MAX_UNSENT;
 use crate::acts::{Act, After, Turn};
@@ -19,14 +18,14 @@ use crate::fault::Fault;
 use crate::kinds::{Cause, Worked};
 use crate::rows::{put_first, spell_first};
 use crate::session::{MAX_KEPT, Session};
-use crate::spelling::{Unwritten, spell_summary};
+use crate::spelling::{Unwritten, put_summary};
 use crate::summary::Summary;
 use crate::words::is_interruptible;
 use bytes::BytesMut;
 use engine::{Engine, EntryId, Gate};
 use machine::{Kind, State, Verdict, kind, row};
+use messages::put_run;
 use std::alloc::AllocError;
-use wire::{put_message, put_reserved, written_len};
 
 impl Session {
     /// One step of the connection with this number: nothing, a row, a summary or an end. An `Err` is want of memory, and changes nothing,
@@ -50,7 +49,7 @@ impl Session {
         if let Some(cause) = self.cause {
             return Ok(Worked::Ended(cause));
         }
-        if self.out.len() >= MAX_UNSENT {
+        if self.out.whole_len() >= MAX_UNSENT {
             return Ok(Worked::Full);
         }
         match self.queue.turn() {
@@ -128,14 +127,36 @@ impl Session {
         ensures counted { IfOk result IsCounted }
     {
         let request = self.queue.request();
-        let asked = kind(request);
         if self.runs(request) {
-            let token = token_of(request)?;
-            let answered = self.ask(request, engine);
-            return self.ran(answered, token, conn, asked, engine);
+            return self.answer_run(conn, engine);
         }
+        let asked = kind(request);
         let act = self.decide(conn, request, engine, gate)?;
         self.perform(self.state, act, conn, asked, engine)
+    }
+
+    /// Answers the first request, a RUN that has a row in the state. It is a call, so that no other step pays for its locals.
+    #[inline(never)]
+    fn answer_run<E: Engine>(&mut self, conn: u64, engine: &mut E) -> Result<Worked, AllocError>
+        requires turn { turn_in (kept_of self.old).waiting ≡ Turn.Serves }
+        requires run { let k = kept_of self.old in (q : RequestView) (later : List Arrival)
+            → k.waiting ≡ Asked q ∷ later → runs (version_of k) k.state q ≡ true }
+        ensures ok { let k = kept_of self.old in
+            (q : RequestView) (later : List Arrival) → k.waiting ≡ Asked q ∷ later
+            → IfOk result (λ w. Steps (replies (E.entries engine.old) k q later
+            (reply_to_run (version_of k) k.state k.tx (token_of_run q)
+            (asked_by E.answer (E.entries engine.old) k.state k.tx q))) conn k.first w (kept_of self.new)
+            (E.entries engine.old) (E.entries engine.new)) }
+        ensures err { OnErr result
+            ((kept_of self.new ≡ kept_of self.old)
+            × (E.entries engine.new ≡ E.entries engine.old)) }
+        ensures counted { IfOk result IsCounted }
+    {
+        let request = self.queue.request();
+        let asked = kind(request);
+        let token = token_of(request)?;
+        let answered = self.ask(request, engine);
+        self.ran(answered, token, conn, asked, engine)
     }
 
     /// Whether a RESET waits that interrupts the state.
@@ -251,9 +272,7 @@ impl Session {
             × (kept_of self.new ≡ after_bytes self.old.body.items (kept_of self.old))) }
         ensures err { OnErr result (kept_of self.new ≡ kept_of self.old) }
     {
-        if put_message(&self.body, &mut self.out).is_err() {
-            return Err(AllocError);
-        }
+        put_run(&self.body, &mut self.out)?;
         self.result.pass();
         Ok(Worked::Row)
     }
@@ -288,7 +307,7 @@ impl Session {
                 summary,
                 after,
             } => {
-                spell_summary(self.version(), summary, &mut self.body)?;
+                put_summary(self.version(), summary, &mut self.out)?;
                 self.summarize(worked_in, verdict, after, conn, kind, engine)
             }
             Act::Goodbye => {
@@ -298,7 +317,8 @@ impl Session {
         }
     }
 
-    /// Writes the summary that is spelled, of the first request, worked in this state. Room for it is made before anything is committed.
+    /// What the summary that is put says of the first request, worked in this state, is done; or it is taken back. It is put before
+    /// anything is committed.
     fn summarize<E: Engine>(
         &mut self,
         worked_in: State,
@@ -309,42 +329,45 @@ impl Session {
         engine: &mut E,
     ) -> Result<Worked, AllocError>
         requires some { 0 < length self.old.queue.waiting.items }
-        requires fits { IsSized self.old.body.items }
         requires free { let k = kept_of self.old in
             IsFree (E.entries engine.old) (left_entry after k.result k.tx) }
         ensures told { let k = kept_of self.old in
             let next = unwrap_or (row_at (version_of k) worked_in kind verdict) State.Defunct in
             IfOk result (λ w. w ≡ Worked.Wrote k.first kind next
             (length_after (E.entries engine.old) (left_entry after k.result k.tx))) }
-        ensures kept { let k = kept_of self.old in
+        ensures kept { let k = kept_before self.old in
             let next = unwrap_or (row_at (version_of k) worked_in kind verdict) State.Defunct in
             OnOk result (kept_of self.new ≡ after_summary next (cause_of verdict next)
-            (left_result after k.result) (left_tx after k.tx) self.old.body.items k) }
+            (left_result after k.result) (left_tx after k.tx) self.old.out.more k) }
         ensures ledger { let k = kept_of self.old in OnOk result
             (E.entries engine.new ≡ E.entries engine.old
             ++ commit_entries conn k.first (left_entry after k.result k.tx)) }
         ensures err { OnErr result
-            ((kept_of self.new ≡ kept_of self.old)
+            ((kept_of self.new ≡ kept_before self.old)
             × (E.entries engine.new ≡ E.entries engine.old)) }
         ensures counted { IfOk result IsCounted }
     {
-        self.out.reserve(written_len(&self.body))?;
         let id = EntryId {
             conn,
             ordinal: self.first,
         };
-        let entry = leave(
+        match leave(
             self.alloc,
             &mut self.result,
             &mut self.tx,
             after,
             id,
             engine,
-        )?;
-        Ok(self.finish(worked_in, verdict, kind, entry))
+        ) {
+            Ok(entry) => Ok(self.finish(worked_in, verdict, kind, entry)),
+            Err(AllocError) => {
+                self.out.take_back();
+                Err(AllocError)
+            }
+        }
     }
 
-    /// Puts the summary that is spelled, for which there is room: the first request has its answer.
+    /// With the summary that is put, the first request has its answer.
     pub(crate) fn finish(
         &mut self,
         worked_in: State,
@@ -353,19 +376,16 @@ impl Session {
         entry: Option<u64>,
     ) -> Worked
         requires some { 0 < length self.old.queue.waiting.items }
-        requires fits { IsSized self.old.body.items }
-        requires room { length (written_run self.old.body.items) ≤ self.old.out.spare }
         ensures told { let k = kept_of self.old in
             let next = unwrap_or (row_at (version_of k) worked_in kind verdict) State.Defunct in
             result ≡ Worked.Wrote k.first kind next entry }
-        ensures kept { let k = kept_of self.old in
+        ensures kept { let k = kept_before self.old in
             let next = unwrap_or (row_at (version_of k) worked_in kind verdict) State.Defunct in
             kept_of self.new ≡ after_summary next (cause_of verdict next) k.result k.tx
-            self.old.body.items k }
+            self.old.out.more k }
     {
         let next = row(self.version(), worked_in, kind, verdict).unwrap_or(State::Defunct);
         let ordinal = self.first;
-        put_reserved(&self.body, &mut self.out);
         self.queue.pop();
         self.first = ordinal + 1;
         self.state = next;

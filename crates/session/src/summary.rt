@@ -1,5 +1,5 @@
 //! The responses of a session but its rows and the SUCCESS of a RUN.
-ghost use Rattle.std.specs.Prelude.{◌≡◌, ◌≤◌, ◌+◌, ◌∷◌, [], ◌++◌, length, OnOk, Some, IfSome, IsNone, false};
+ghost use Rattle.std.specs.Prelude.{◌≡◌, ◌≤◌, ◌+◌, ◌∷◌, [], ◌++◌, length, codes, OnOk, Some, IfSome, IsNone, false};
 ghost use Rattle.std.specs.Fmt.{decimal};
 ghost use Rattle.packstream.specs.Canon.{head, text_bytes, canon, canon_entries};
 ghost use Rattle.packstream.specs.Limits.{max_size};
@@ -8,6 +8,7 @@ ghost use Rattle.packstream.specs.View.{entries_of};
 ghost use Rattle.messages.specs.Reading.{mode_tree};
 ghost use Rattle.messages.specs.Summaries.{Greeting, Closing, Committed, ending, form_of, IsShort};
 ghost use Rattle.engine.specs.Limits.{max_agent};
+ghost use Rattle.wire.specs.Texts.{written_run};
 ghost use Rattle.session.specs.Acts.{summary_of, is_ready};
 ghost use Rattle.session.specs.Faults.{failure};
 
@@ -15,7 +16,7 @@ use crate::agent::Agent;
 use crate::fault::Fault;
 use itoa::Buffer;
 use messages::Mode;
-use speller::{Adding, put_int, put_short_text};
+use speller::{Output, put_short_text};
 use std::alloc::AllocError;
 
 #[derive(Clone, Copy)]
@@ -37,25 +38,29 @@ pub(crate) enum Summary<'a> {
 }
 
 impl<'a> Summary<'a> {
-    /// The text of the response, if it is always the same.
-    #[tactic(auto, unfolding(packstream::specs::Canon::head, packstream::specs::Canon::int_bytes))]
+    /// The run of the response, if it is always the same.
+    #[tactic(auto, unfolding(packstream::specs::Canon::head, packstream::specs::Canon::int_bytes, wire::specs::Texts::written_run, wire::specs::Texts::written_run_by))]
     pub(crate) fn ready(self) -> Option<&'static [u8]>
-        ensures text { IfSome result (λ b. b.now ≡ canon (form_of (summary_of self.entry))) }
+        ensures run { IfSome result (λ b. b.now ≡ written_run (canon (form_of (summary_of self.entry)))) }
         ensures short { IfSome result (λ _. IsShort (summary_of self.entry)) }
         ensures made { IsNone result → is_ready self.entry ≡ false }
     {
         match self {
-            Summary::Plain => Some(b"\xB1\x70\xA0"),
-            Summary::Passed => Some(b"\xB0\x7E"),
-            Summary::RowsLeft => Some(b"\xB1\x70\xA1\x88has_more\xC3"),
-            Summary::Closing(None, Mode::Read) => Some(b"\xB1\x70\xA2\x84type\x81r\x86t_last\x00"),
-            Summary::Closing(None, Mode::Write) => Some(b"\xB1\x70\xA2\x84type\x81w\x86t_last\x00"),
+            Summary::Plain => Some(b"\0\x03\xB1\x70\xA0\0\0"),
+            Summary::Passed => Some(b"\0\x02\xB0\x7E\0\0"),
+            Summary::RowsLeft => Some(b"\0\x0D\xB1\x70\xA1\x88has_more\xC3\0\0"),
+            Summary::Closing(None, Mode::Read) => {
+                Some(b"\0\x12\xB1\x70\xA2\x84type\x81r\x86t_last\x00\0\0")
+            }
+            Summary::Closing(None, Mode::Write) => {
+                Some(b"\0\x12\xB1\x70\xA2\x84type\x81w\x86t_last\x00\0\0")
+            }
             _ => None,
         }
     }
 
     /// Adds the text of the response, if it tells a name, a number or a failure.
-    pub(crate) fn put(self, out: &mut Adding) -> Result<(), AllocError>
+    pub(crate) fn put(self, out: &mut Output) -> Result<(), AllocError>
         requires { is_ready self ≡ false }
         ensures before { out.new.before ≡ out.old.before }
         ensures spelled { OnOk result (out.new.more
@@ -75,7 +80,7 @@ impl<'a> Summary<'a> {
 }
 
 /// The head of a SUCCESS with so many entries.
-fn put_success(out: &mut Adding, count: u8) -> Result<(), AllocError>
+fn put_success(out: &mut Output, count: u8) -> Result<(), AllocError>
     requires { count ≤ 15 }
     ensures before { out.new.before ≡ out.old.before }
     ensures ok { OnOk result (out.new.more
@@ -86,7 +91,7 @@ fn put_success(out: &mut Adding, count: u8) -> Result<(), AllocError>
 
 /// An entry that holds a text.
 #[tactic(auto, using(packstream::proofs::Putting::three_parts))]
-fn put_entry(out: &mut Adding, key: &str, text: &str) -> Result<(), AllocError>
+fn put_entry(out: &mut Output, key: &str, text: &str) -> Result<(), AllocError>
     requires key { length key.now ≤ max_size }
     requires text { length text.now ≤ max_size }
     ensures before { out.new.before ≡ out.old.before }
@@ -99,7 +104,7 @@ fn put_entry(out: &mut Adding, key: &str, text: &str) -> Result<(), AllocError>
 
 /// The head of a text of so many bytes.
 #[tactic(auto, unfolding(packstream::specs::Canon::head, packstream::specs::Canon::long_head))]
-fn put_text_head(out: &mut Adding, count: usize) -> Result<(), AllocError>
+fn put_text_head(out: &mut Output, count: usize) -> Result<(), AllocError>
     requires { count ≤ 255 }
     ensures before { out.new.before ≡ out.old.before }
     ensures ok { OnOk result (out.new.more ≡ out.old.more ++ head 0x80 0xD0 count) }
@@ -113,7 +118,7 @@ fn put_text_head(out: &mut Adding, count: usize) -> Result<(), AllocError>
 
 /// A text in two parts.
 #[tactic(auto, using(packstream::proofs::Putting::three_parts))]
-fn put_parts(out: &mut Adding, front: &str, back: &str) -> Result<(), AllocError>
+fn put_parts(out: &mut Output, front: &str, back: &str) -> Result<(), AllocError>
     requires { length front.now + length back.now ≤ 255 }
     ensures before { out.new.before ≡ out.old.before }
     ensures ok { OnOk result (out.new.more
@@ -125,7 +130,7 @@ fn put_parts(out: &mut Adding, front: &str, back: &str) -> Result<(), AllocError
 }
 
 /// An entry that holds a word with a number.
-fn put_numbered(out: &mut Adding, key: &str, word: &str, number: u64) -> Result<(), AllocError>
+fn put_numbered(out: &mut Output, key: &str, word: &str, number: u64) -> Result<(), AllocError>
     requires key { length key.now ≤ 16 }
     requires word { length word.now ≤ 16 }
     ensures before { out.new.before ≡ out.old.before }
@@ -137,7 +142,7 @@ fn put_numbered(out: &mut Adding, key: &str, word: &str, number: u64) -> Result<
     put_parts(out, word, buffer.format(number))
 }
 
-fn put_greeting(out: &mut Adding, agent: &str, conn: u64) -> Result<(), AllocError>
+fn put_greeting(out: &mut Output, agent: &str, conn: u64) -> Result<(), AllocError>
     requires { length agent.now ≤ max_agent }
     ensures before { out.new.before ≡ out.old.before }
     ensures spelled { OnOk result (out.new.more
@@ -150,56 +155,67 @@ fn put_greeting(out: &mut Adding, agent: &str, conn: u64) -> Result<(), AllocErr
     Ok(())
 }
 
-/// The word of a mode.
-fn word_of(mode: Mode) -> &'static str
-    ensures word { text result.now ≡ mode_tree mode }
-    ensures short { length result.now ≤ 16 }
+/// The entry of a bookmark.
+fn put_bookmark(out: &mut Output, place: u64) -> Result<(), AllocError>
+    ensures before { out.new.before ≡ out.old.before }
+    ensures ok { OnOk result (out.new.more
+        ≡ out.old.more ++ (text_bytes (codes "bookmark") ++ text_bytes (codes "bk:" ++ decimal place))) }
 {
-    match mode {
-        Mode::Read => "r",
-        Mode::Write => "w",
+    let mut buffer = Buffer::new();
+    put_bookmark_of(out, buffer.format(place))
+}
+
+/// The entry of the bookmark with these digits.
+fn put_bookmark_of(out: &mut Output, digits: &str) -> Result<(), AllocError>
+    requires { length digits.now ≤ 40 }
+    ensures before { out.new.before ≡ out.old.before }
+    ensures ok { OnOk result (out.new.more
+        ≡ out.old.more ++ (text_bytes (codes "bookmark") ++ text_bytes (codes "bk:" ++ digits.now))) }
+{
+    out.extend_from_slice(b"\x88bookmark")?;
+    if digits.len() > 12 {
+        return put_parts(out, "bk:", digits);
     }
+    out.extend_from_slice(&[0x80 + (3 + digits.len() as u8), b'b', b'k', b':'])?;
+    out.extend_from_slice(digits.as_bytes())
 }
 
 /// The entries of the last SUCCESS of a result.
-#[tactic(auto, using(crate::proofs::Summed::added), unfolding(packstream::specs::Canon::head))]
-fn put_ending(out: &mut Adding, mode: Mode) -> Result<(), AllocError>
-    ensures before { out.new.before ≡ out.old.before }
-    ensures ok { OnOk result (out.new.more
-        ≡ out.old.more ++ canon_entries (entries_of (ending mode))) }
+#[tactic(auto, unfolding(packstream::specs::Canon::head, packstream::specs::Canon::int_bytes))]
+fn ending_of(mode: Mode) -> &'static [u8]
+    ensures { result.now ≡ canon_entries (entries_of (ending mode)) }
 {
-    let word = word_of(mode);
-    put_entry(out, "type", word)?;
-    put_short_text(out, "t_last")?;
-    put_int(out, 0)?;
-    Ok(())
+    match mode {
+        Mode::Read => b"\x84type\x81r\x86t_last\x00",
+        Mode::Write => b"\x84type\x81w\x86t_last\x00",
+    }
 }
 
-fn put_last_at(out: &mut Adding, place: u64, mode: Mode) -> Result<(), AllocError>
+fn put_last_at(out: &mut Output, place: u64, mode: Mode) -> Result<(), AllocError>
     ensures before { out.new.before ≡ out.old.before }
     ensures spelled { OnOk result (out.new.more
         ≡ out.old.more ++ canon (form_of (Closing (Some place) mode))) }
     ensures short { IsShort (Closing (Some place) mode) }
 {
     put_success(out, 3)?;
-    put_numbered(out, "bookmark", "bk:", place)?;
-    put_ending(out, mode)?;
+    put_bookmark(out, place)?;
+    out.extend_from_slice(ending_of(mode))?;
     Ok(())
 }
 
-fn put_committed(out: &mut Adding, place: u64) -> Result<(), AllocError>
+fn put_committed(out: &mut Output, place: u64) -> Result<(), AllocError>
     ensures before { out.new.before ≡ out.old.before }
     ensures spelled { OnOk result (out.new.more
         ≡ out.old.more ++ canon (form_of (Committed place))) }
     ensures short { IsShort (Committed place) }
 {
     put_success(out, 1)?;
-    put_numbered(out, "bookmark", "bk:", place)?;
+    put_bookmark(out, place)?;
     Ok(())
 }
 
 #[tactic(auto, using(crate::proofs::Summed::added), unfolding(packstream::specs::Canon::head))]
-fn put_failure(out: &mut Adding, fault: Fault) -> Result<(), AllocError>
+fn put_failure(out: &mut Output, fault: Fault) -> Result<(), AllocError>
     ensures before { out.new.before ≡ out.old.before }
     ensures spelled { OnOk result (out.new.more ≡ out.old.more ++ canon (form_of (failure fault))) }
     ensures short { IsShort (failure fault) }

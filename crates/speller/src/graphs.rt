@@ -17,11 +17,11 @@ use crate::moments::put_ints;
 use crate::spelling::put_entries;
 use crate::texts::{put_list_head, put_opening, put_text};
 use cells::{ElementIds, Node, Path, Relationship, UnboundRelationship, tags};
-use packstream::writing::{Adding, put_int};
+use packstream::writing::{Output, put_int};
 use wire::Version;
 
 /// Spells texts, one after the other.
-fn put_each_text(out: &mut Adding, texts: &[String]) -> Result<(), Unspelled>
+fn put_each_text(out: &mut Output, texts: &[String]) -> Result<(), Unspelled>
     ensures before { out.new.before ≡ out.old.before }
     ensures spelled { OnOk result (out.new.more
         ≡ out.old.more ++ canon_all (trees_of (map text_of texts.now))) }
@@ -34,7 +34,7 @@ fn put_each_text(out: &mut Adding, texts: &[String]) -> Result<(), Unspelled>
 
 /// Spells a list of texts.
 #[tactic(auto, using(packstream::proofs::Putting::parts, crate::proofs::Pieces::len_texts))]
-fn put_texts(out: &mut Adding, texts: &[String]) -> Result<(), Unspelled>
+fn put_texts(out: &mut Output, texts: &[String]) -> Result<(), Unspelled>
     ensures before { out.new.before ≡ out.old.before }
     ensures spelled { OnOk result (out.new.more ≡ out.old.more ++ canon (texts_of texts.now)) }
 {
@@ -44,7 +44,7 @@ fn put_texts(out: &mut Adding, texts: &[String]) -> Result<(), Unspelled>
 
 /// Spells a list of integers.
 #[tactic(auto, using(packstream::proofs::Putting::parts, crate::proofs::Pieces::len_ints))]
-fn put_number_list(out: &mut Adding, numbers: &[i64]) -> Result<(), Unspelled>
+fn put_number_list(out: &mut Output, numbers: &[i64]) -> Result<(), Unspelled>
     ensures before { out.new.before ≡ out.old.before }
     ensures spelled { OnOk result (out.new.more ≡ out.old.more ++ canon (numbers_of numbers.now)) }
     ensures ready { OnOk result ((room : ℕ) → AreReady room (trees_of (map int numbers.now))) }
@@ -65,7 +65,7 @@ fn element_count(id: &Option<String>) -> u8
 }
 
 /// Spells the element id if it is there.
-fn put_element(out: &mut Adding, id: &Option<String>) -> Result<(), Unspelled>
+fn put_element(out: &mut Output, id: &Option<String>) -> Result<(), Unspelled>
     ensures before { out.new.before ≡ out.old.before }
     ensures spelled { OnOk result (out.new.more ≡ out.old.more ++ canon_all (element_of id.now)) }
 {
@@ -87,7 +87,7 @@ fn elements_count(ids: &Option<ElementIds>) -> u8
 
 /// Spells the element ids of a relationship and its ends if they are there.
 #[tactic(auto, using(packstream::proofs::Putting::parts))]
-fn put_elements(out: &mut Adding, ids: &Option<ElementIds>) -> Result<(), Unspelled>
+fn put_elements(out: &mut Output, ids: &Option<ElementIds>) -> Result<(), Unspelled>
     ensures before { out.new.before ≡ out.old.before }
     ensures spelled { OnOk result (out.new.more ≡ out.old.more ++ canon_all (elements_of ids.now)) }
 {
@@ -104,7 +104,7 @@ fn put_elements(out: &mut Adding, ids: &Option<ElementIds>) -> Result<(), Unspel
 /// Spells a node.
 #[cycle(speller)]
 pub(crate) fn put_node(
-    out: &mut Adding,
+    out: &mut Output,
     version: Version,
     node: &Node,
     room: u8,
@@ -128,7 +128,7 @@ pub(crate) fn put_node(
 /// Spells a relationship as a path has it.
 #[cycle(speller)]
 pub(crate) fn put_unbound(
-    out: &mut Adding,
+    out: &mut Output,
     version: Version,
     unbound: &UnboundRelationship,
     room: u8,
@@ -156,7 +156,7 @@ pub(crate) fn put_unbound(
 /// Spells a relationship.
 #[cycle(speller)]
 pub(crate) fn put_relationship(
-    out: &mut Adding,
+    out: &mut Output,
     version: Version,
     relationship: &Relationship,
     room: u8,
@@ -192,7 +192,7 @@ pub(crate) fn put_relationship(
 /// Spells a path.
 #[cycle(speller)]
 pub(crate) fn put_path(
-    out: &mut Adding,
+    out: &mut Output,
     version: Version,
     path: &Path,
     room: u8,
@@ -214,7 +214,7 @@ pub(crate) fn put_path(
 
 /// Spells a list of nodes, each within the room.
 #[cycle(speller)]
-fn put_nodes(out: &mut Adding, version: Version, nodes: &[Node], room: u8) -> Result<(), Unspelled>
+fn put_nodes(out: &mut Output, version: Version, nodes: &[Node], room: u8) -> Result<(), Unspelled>
     requires { all_fine (fault_of_structure version)
         (structures_in (trees_of (map node_shape nodes.now))) ≡ true }
     ensures before { out.new.before ≡ out.old.before }
@@ -233,7 +233,7 @@ fn put_nodes(out: &mut Adding, version: Version, nodes: &[Node], room: u8) -> Re
 /// Spells a list of relationships as a path has them, each within the room.
 #[cycle(speller)]
 fn put_unbounds(
-    out: &mut Adding,
+    out: &mut Output,
     version: Version,
     unbounds: &[UnboundRelationship],
     room: u8,

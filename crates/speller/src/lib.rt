@@ -1,7 +1,7 @@
 //! Cells, spelled straight into an output in the form of a version, in one pass and without memory but the output's.
 //!
 //! What is promised is promised one way: where a function says yes, what it added is the shortest spelling of a good value. Where it
-//! says no, a part may have been added, which [`Adding::undo`] takes off again, and nothing is said of why: the way over a value tells that.
+//! says no, a part may have been added, which [`Output::undo`] takes off again, and nothing is said of why: the way over a value tells that.
 #![tactic(auto)]
 
 mod fault;
@@ -13,6 +13,6 @@ mod texts;
 mod whole;
 
 pub use fault::Unspelled;
-pub use packstream::writing::{Adding, put_int, put_short_text};
+pub use packstream::writing::{Output, put_int, put_short_text};
 pub use texts::put_text;
 pub use whole::{put_dict, put_list};

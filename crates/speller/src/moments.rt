@@ -14,12 +14,12 @@ ghost use Rattle.speller.specs.Ready.{IsReady, AreReady};
 use crate::fault::Unspelled;
 use crate::texts::{put_opening, put_text};
 use cells::{Cell, tags};
-use packstream::writing::{Adding, put_float, put_int};
+use packstream::writing::{Output, put_float, put_int};
 use std::alloc::AllocError;
 use wire::Version;
 
 /// Spells integers, one after the other.
-pub(crate) fn put_ints(out: &mut Adding, numbers: &[i64]) -> Result<(), AllocError>
+pub(crate) fn put_ints(out: &mut Output, numbers: &[i64]) -> Result<(), AllocError>
     ensures before { out.new.before ≡ out.old.before }
     ensures spelled { OnOk result (out.new.more
         ≡ out.old.more ++ canon_all (trees_of (map int numbers.now))) }
@@ -32,7 +32,7 @@ pub(crate) fn put_ints(out: &mut Adding, numbers: &[i64]) -> Result<(), AllocErr
 }
 
 /// Spells floats, one after the other.
-fn put_floats(out: &mut Adding, floats: &[u64]) -> Result<(), AllocError>
+fn put_floats(out: &mut Output, floats: &[u64]) -> Result<(), AllocError>
     ensures before { out.new.before ≡ out.old.before }
     ensures spelled { OnOk result (out.new.more
         ≡ out.old.more ++ canon_all (trees_of (map float floats.now))) }
@@ -46,7 +46,7 @@ fn put_floats(out: &mut Adding, floats: &[u64]) -> Result<(), AllocError>
 
 /// Spells a structure of integers.
 #[tactic(auto, using(packstream::proofs::Putting::parts, crate::proofs::Pieces::len_ints))]
-fn put_numbers(out: &mut Adding, tag: u8, numbers: &[i64], room: u8) -> Result<(), Unspelled>
+fn put_numbers(out: &mut Output, tag: u8, numbers: &[i64], room: u8) -> Result<(), Unspelled>
     requires { length numbers.now ≤ 15 }
     ensures before { out.new.before ≡ out.old.before }
     ensures spelled { OnOk result (out.new.more
@@ -64,7 +64,7 @@ fn put_numbers(out: &mut Adding, tag: u8, numbers: &[i64], room: u8) -> Result<(
 /// Spells a structure of an integer and floats.
 #[tactic(auto, using(packstream::proofs::Putting::parts, crate::proofs::Pieces::len_floats))]
 fn put_point(
-    out: &mut Adding,
+    out: &mut Output,
     tag: u8,
     srid: i64,
     floats: &[u64],
@@ -88,7 +88,7 @@ fn put_point(
 
 /// Spells a structure of two integers and the name of a zone.
 fn put_zoned(
-    out: &mut Adding,
+    out: &mut Output,
     tag: u8,
     seconds: i64,
     nanos: i64,
@@ -113,7 +113,7 @@ fn put_zoned(
 
 /// Spells a DateTime, with local seconds if the version has no UTC times.
 fn put_date_time(
-    out: &mut Adding,
+    out: &mut Output,
     version: Version,
     utc: i64,
     nanos: i64,
@@ -139,7 +139,7 @@ fn put_date_time(
 
 /// Spells a time, a duration or a point whose structure has no fault.
 pub(crate) fn put_moment(
-    out: &mut Adding,
+    out: &mut Output,
     version: Version,
     cell: &Cell,
     room: u8,

@@ -21,7 +21,7 @@ use crate::texts::{put_bytes, put_list_head, put_text};
 use cells::{Cell, check_cell};
 use packstream::MAX_SIZE;
 use packstream::twins::{Lookup, first_twin};
-use packstream::writing::{Adding, put_float, put_head, put_int};
+use packstream::writing::{Output, put_float, put_head, put_int};
 use std::alloc::Global;
 use wire::Version;
 
@@ -29,7 +29,7 @@ use wire::Version;
 #[cycle(speller)]
 #[tactic(auto, using(crate::proofs::Flat::facts))]
 fn put_cell(
-    out: &mut Adding,
+    out: &mut Output,
     version: Version,
     cell: &Cell,
     room: u8,
@@ -57,6 +57,32 @@ fn put_cell(
     }
 }
 
+/// Spells a member of a list. It stands in the loop over members, so that an integer is no call.
+#[cycle(speller)]
+#[tactic(auto, using(crate::proofs::Flat::facts))]
+#[inline(always)]
+fn put_member(
+    out: &mut Output,
+    version: Version,
+    member: &Cell,
+    room: u8,
+    inside: Inside,
+) -> Result<(), Unspelled>
+    requires { inside ≡ Fine → all_fine (fault_of_structure version)
+        (structures (shape member.now)) ≡ true }
+    ensures before { out.new.before ≡ out.old.before }
+    ensures spelled { OnOk result (out.new.more
+        ≡ out.old.more ++ canon (form version (shape member.now))) }
+    ensures ready { OnOk result (IsReady room (form version (shape member.now))) }
+    ensures fine { OnOk result (all_fine (fault_of_structure version)
+        (structures (shape member.now)) ≡ true) }
+{
+    match member {
+        Cell::Int(n) => Ok(put_int(out, *n)?),
+        _ => put_cell(out, version, member, room, inside),
+    }
+}
+
 /// Whether the structures of a cell have no fault at the version, looked at unless that is known.
 fn is_fine(version: Version, cell: &Cell, inside: Inside) -> bool
     requires { inside ≡ Fine → all_fine (fault_of_structure version)
@@ -74,7 +100,7 @@ fn is_fine(version: Version, cell: &Cell, inside: Inside) -> bool
 #[cycle(speller)]
 #[inline(never)]
 fn put_structure(
-    out: &mut Adding,
+    out: &mut Output,
     version: Version,
     cell: &Cell,
     room: u8,
@@ -105,7 +131,7 @@ fn put_structure(
 #[cycle(speller)]
 #[tactic(auto, using(packstream::proofs::Putting::parts, crate::proofs::Flat::len_cells))]
 pub(crate) fn put_cells(
-    out: &mut Adding,
+    out: &mut Output,
     version: Version,
     members: &[Cell],
     room: u8,
@@ -129,7 +155,7 @@ pub(crate) fn put_cells(
 
 #[cycle(speller)]
 fn put_members(
-    out: &mut Adding,
+    out: &mut Output,
     version: Version,
     members: &[Cell],
     room: u8,
@@ -145,7 +171,7 @@ fn put_members(
         (structures_in (trees_of (shapes members.now))) ≡ true) }
 {
     for member in members {
-        put_cell(out, version, member, room, inside)?;
+        put_member(out, version, member, room, inside)?;
     }
     Ok(())
 }
@@ -154,7 +180,7 @@ fn put_members(
 #[cycle(speller)]
 #[tactic(auto, using(packstream::proofs::Putting::parts, crate::proofs::Flat::len_pairs))]
 pub(crate) fn put_entries(
-    out: &mut Adding,
+    out: &mut Output,
     version: Version,
     pairs: &[(String, Cell)],
     room: u8,
@@ -178,7 +204,7 @@ pub(crate) fn put_entries(
 
 #[cycle(speller)]
 fn put_pairs(
-    out: &mut Adding,
+    out: &mut Output,
     version: Version,
     pairs: &[(String, Cell)],
     room: u8,
@@ -202,7 +228,7 @@ fn put_pairs(
 #[cycle(speller)]
 #[tactic(auto, using(packstream::proofs::Putting::parts, crate::proofs::Flat::facts))]
 fn put_pair(
-    out: &mut Adding,
+    out: &mut Output,
     version: Version,
     pair: &(String, Cell),
     room: u8,

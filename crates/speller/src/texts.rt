@@ -5,12 +5,12 @@ ghost use Rattle.packstream.specs.Plain.{AreBytes};
 
 use crate::fault::Unspelled;
 use packstream::MAX_SIZE;
-use packstream::writing::{Adding, put_head, put_short_bytes, put_short_text};
+use packstream::writing::{Output, put_head, put_short_bytes, put_short_text};
 use std::alloc::AllocError;
 
 /// Adds the marker and the tag that a structure of so many fields begins with.
 #[inline]
-pub(crate) fn put_opening(out: &mut Adding, fields: u8, tag: u8) -> Result<(), AllocError>
+pub(crate) fn put_opening(out: &mut Output, fields: u8, tag: u8) -> Result<(), AllocError>
     requires { fields ≤ 15 }
     ensures before { out.new.before ≡ out.old.before }
     ensures ok { OnOk result (out.new.more ≡ out.old.more ++ (0xB0 + fields) ∷ tag ∷ []) }
@@ -20,7 +20,7 @@ pub(crate) fn put_opening(out: &mut Adding, fields: u8, tag: u8) -> Result<(), A
 
 /// Adds the head of a list of so many members; or says no, to more than 65,536, or for want of memory.
 #[inline]
-pub(crate) fn put_list_head(out: &mut Adding, members: usize) -> Result<(), Unspelled>
+pub(crate) fn put_list_head(out: &mut Output, members: usize) -> Result<(), Unspelled>
     ensures before { out.new.before ≡ out.old.before }
     ensures ok { OnOk result (out.new.more ≡ out.old.more ++ head 0x90 0xD4 members) }
 {
@@ -33,7 +33,7 @@ pub(crate) fn put_list_head(out: &mut Adding, members: usize) -> Result<(), Unsp
 
 /// Adds the shortest spelling of a text; or says no, to one of more than 65,536 bytes, or for want of memory.
 #[inline]
-pub fn put_text(out: &mut Adding, text: &str) -> Result<(), Unspelled>
+pub fn put_text(out: &mut Output, text: &str) -> Result<(), Unspelled>
     ensures before { out.new.before ≡ out.old.before }
     ensures ok { OnOk result (out.new.more ≡ out.old.more ++ text_bytes text.now) }
 {
@@ -44,7 +44,7 @@ pub fn put_text(out: &mut Adding, text: &str) -> Result<(), Unspelled>
     Ok(())
 }
 
-pub(crate) fn put_bytes(out: &mut Adding, bytes: &[u8]) -> Result<(), Unspelled>
+pub(crate) fn put_bytes(out: &mut Output, bytes: &[u8]) -> Result<(), Unspelled>
     ensures before { out.new.before ≡ out.old.before }
     ensures ok { OnOk result (out.new.more ≡ out.old.more
         ++ (long_head 0xCC (length bytes.now) ++ bytes.now)) }

@@ -12,13 +12,13 @@ use crate::fault::Unspelled;
 use crate::inside::Inside;
 use crate::spelling::{put_cells, put_entries};
 use cells::Cell;
-use packstream::writing::Adding;
+use packstream::writing::Output;
 use wire::Version;
 
 /// Adds the shortest spelling of a list of these cells in the form of the version, which can be written there, is good and nests at most
 /// `room` deep.
 pub fn put_list(
-    out: &mut Adding,
+    out: &mut Output,
     version: Version,
     members: &[Cell],
     room: u8,
@@ -37,7 +37,7 @@ pub fn put_list(
 
 /// Adds the shortest spelling of a dictionary of these entries, as `put_list` that of a list.
 pub fn put_dict(
-    out: &mut Adding,
+    out: &mut Output,
     version: Version,
     pairs: &[(String, Cell)],
     room: u8,

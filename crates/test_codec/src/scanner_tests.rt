@@ -4,7 +4,7 @@ use crate::reader_tests::{DEEPEST, MANY_KEYS, TOO_DEEP};
 use bytes::BytesMut;
 use packstream::decode;
 use scanner::{scan_cell, scan_dict, scan_int, scan_list, scan_text};
-use speller::{Adding, put_list};
+use speller::{Output, put_list};
 use std::alloc::Global;
 use std::test::*;
 use structures::{read, same};
@@ -179,7 +179,7 @@ fn spelled_as(
 ) -> Result<Option<BytesMut>, Fail> {
     let cell = read(alloc, read_at, &decode(alloc, bytes)?)?;
     let mut out = BytesMut::new(alloc);
-    let mut adding = Adding::to(&mut out);
+    let mut adding = Output::taking(&mut out);
     match put_list(&mut adding, version, &[cell], 32) {
         Ok(()) => Ok(Some(adding.keep())),
         Err(_) => Ok(None),

@@ -21,10 +21,10 @@ spelling::put_members-loop-member-preserved t c =
     let v = c.args.version in
     let its : List ℕ = canon (form v (shape c.member-item.result)) in
     let done : List ℕ = flat v shape (take c.loop-member.member-index c.args.members.now) in (
-      c.put_cell.ensures.before ∙ c.loop-member.invariant.0,
-      c.in_ok-put_cell.ensures.spelled ∙ ap (λ (x : List ℕ). x ++ its) c.loop-member.invariant.1 ∙ append_assoc c.args.out.now.more done its ∙ ap (λ (x : List ℕ). c.args.out.now.more ++ x) (sym (flat_more v shape c.args.members.now c.loop-member.member-index c.member-item.result c.loop-member-test.true c.member-item.is)),
-      ready_more v c.args.room shape c.args.members.now c.loop-member.member-index c.member-item.result c.loop-member-test.true c.member-item.is c.loop-member.invariant.2 c.in_ok-put_cell.ensures.ready,
-      fine_more v shape c.args.members.now c.loop-member.member-index c.member-item.result c.loop-member-test.true c.member-item.is c.loop-member.invariant.3 c.in_ok-put_cell.ensures.fine,
+      c.put_member.ensures.before ∙ c.loop-member.invariant.0,
+      c.in_ok-put_member.ensures.spelled ∙ ap (λ (x : List ℕ). x ++ its) c.loop-member.invariant.1 ∙ append_assoc c.args.out.now.more done its ∙ ap (λ (x : List ℕ). c.args.out.now.more ++ x) (sym (flat_more v shape c.args.members.now c.loop-member.member-index c.member-item.result c.loop-member-test.true c.member-item.is)),
+      ready_more v c.args.room shape c.args.members.now c.loop-member.member-index c.member-item.result c.loop-member-test.true c.member-item.is c.loop-member.invariant.2 c.in_ok-put_member.ensures.ready,
+      fine_more v shape c.args.members.now c.loop-member.member-index c.member-item.result c.loop-member-test.true c.member-item.is c.loop-member.invariant.3 c.in_ok-put_member.ensures.fine,
     )
 
 pub spelling::put_pairs-loop-pair-preserved : goal.spelling::put_pairs-loop-pair-preserved
@@ -66,8 +66,8 @@ graphs::put_unbounds-loop-unbound-preserved t c =
 pub graphs::put_unbounds-put_unbound-requires : goal.graphs::put_unbounds-put_unbound-requires
 graphs::put_unbounds-put_unbound-requires t c = (omega (arith, c.decreases), fine_member unbound_shape (fault_of_structure c.args.version) c.args.unbounds.now c.loop-unbound.unbound-index c.unbound-item.result c.loop-unbound-test.true c.unbound-item.is c.requires)
 
-pub spelling::put_members-put_cell-requires : goal.spelling::put_members-put_cell-requires
-spelling::put_members-put_cell-requires t c = (omega (arith, c.decreases), λ e. fine_member shape (fault_of_structure c.args.version) c.args.members.now c.loop-member.member-index c.member-item.result c.loop-member-test.true c.member-item.is (c.requires e))
+pub spelling::put_members-put_member-requires : goal.spelling::put_members-put_member-requires
+spelling::put_members-put_member-requires t c = (omega (arith, c.decreases), λ e. fine_member shape (fault_of_structure c.args.version) c.args.members.now c.loop-member.member-index c.member-item.result c.loop-member-test.true c.member-item.is (c.requires e))
 
 pub spelling::put_pairs-put_pair-requires : goal.spelling::put_pairs-put_pair-requires
 spelling::put_pairs-put_pair-requires t c = (omega (arith, c.decreases), λ e. fine_pair entry (fault_of_structure c.args.version) c.args.pairs.now c.loop-pair.pair-index c.pair-item.result c.loop-pair-test.true c.pair-item.is (c.requires e))

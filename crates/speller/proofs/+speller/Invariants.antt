@@ -28,6 +28,9 @@ decreases-spelling::put_structure l = 8 * l.room + 3
 abbrev pub decreases-spelling::put_cell : goal.decreases-spelling::put_cell
 decreases-spelling::put_cell l = 8 * l.room + 4
 
+abbrev pub decreases-spelling::put_member : goal.decreases-spelling::put_member
+decreases-spelling::put_member l = 8 * l.room + 5
+
 abbrev pub decreases-spelling::put_pair : goal.decreases-spelling::put_pair
 decreases-spelling::put_pair l = 8 * l.room + 5
 

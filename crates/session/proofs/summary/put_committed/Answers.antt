@@ -8,4 +8,4 @@ pub returns-clause-spelled : goal.returns-clause-spelled
 unfolding head
 returns-clause-spelled c =
     headed 0x70 0xA1 (entries_of (bookmark c.args.place)) _ _ _ refl c.in_ok-put_success.ensures.ok
-    (entry_last (codes "bookmark") (text (codes "bk:" ++ decimal c.args.place)) _ _ c.in_ok-put_numbered.ensures.ok)
+    (entry_last (codes "bookmark") (text (codes "bk:" ++ decimal c.args.place)) _ _ c.in_ok-put_bookmark.ensures.ok)

@@ -8,4 +8,4 @@ pub returns-clause-spelled : goal.returns-clause-spelled
 unfolding head
 returns-clause-spelled c =
     headed 0x70 0xA3 (entries_of (bookmark_of (Some c.args.place) ++ ending c.args.mode)) _ _ _ refl c.in_ok-put_success.ensures.ok
-    (entry_first (codes "bookmark") (codes "bk:" ++ decimal c.args.place) (entries_of (ending c.args.mode)) _ _ _ c.in_ok-put_numbered.ensures.ok c.in_ok-put_ending.ensures.ok)
+    (entry_first (codes "bookmark") (codes "bk:" ++ decimal c.args.place) (entries_of (ending c.args.mode)) _ _ _ c.in_ok-put_bookmark.ensures.ok (rw c.ending_of.ensures at c.in_ok-extend_from_slice.ensures.ok))

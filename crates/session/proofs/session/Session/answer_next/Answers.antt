@@ -1,8 +1,7 @@
 use Rattle.std.proofs.Common.{◌≡◌, ◌∙◌, ap, sym, subst, drop}
 use Rattle.messages.specs.Prelude.{request_view}
 use Rattle.machine.specs.Prelude.{kind_of}
-use Rattle.engine.specs.Prelude.{Token, token_view}
-use Rattle.session.specs.Prelude.{Setting, Reply, replies, serve, serves, version_of, reply_of, reply_to_run, asked_by, entry_in, IsFree, kept_of}
+use Rattle.session.specs.Prelude.{Setting, Reply, replies, serve, serves, version_of, reply_of, reply_to_run, runs, asked_by, token_of_run, entry_in, IsFree, kept_of}
 use Rattle.session.proofs.Free.{serve_free}
 use Rattle.session.proofs.Replies.{run_served}
 use Rattle.session.proofs.Turns.{asked_head, steps_at}
@@ -16,15 +15,15 @@ returns-then-runs-clause-ok g c = λ q later e.
     let ledger = g.E.Engine.entries c.args.engine.now in
     let r = request_view c.request-request.result.now in
     let same : r ≡ q = asked_head r q (drop 1 k.waiting) later (sym c.request-request.ensures ∙ e) in
-    let asked = asked_by S.run ledger k.state k.tx r in
-    let reply = reply_to_run v k.state k.tx (token_view c.in_ok-token.token) asked in
-    let is : reply ≡ serve S v c.args.conn ledger k.state k.result k.tx q =
-    ap (λ (t : Token). reply_to_run v k.state k.tx t asked) c.in_ok-token.ensures
-    ∙ run_served S v c.args.conn ledger k.state k.result k.tx r (sym c.runs.ensures ∙ c.if-runs.true)
-    ∙ ap (serve S v c.args.conn ledger k.state k.result k.tx) same in
-    steps_at (replies ledger k q later reply) (serves S c.args.conn ledger k q later) c.args.conn k.first c.ran.result (kept_of c.ran.new.self) ledger (g.E.Engine.entries c.ran.new.engine)
-    (ap (λ (x : Reply). replies ledger k q later x) is)
-    (c.ran.ensures.ok asked c.ask-answered.ensures.runs q later e (c.kind-asked.ensures ∙ ap kind_of same))
+    let reply = reply_to_run v k.state k.tx (token_of_run q) (asked_by S.run ledger k.state k.tx q) in
+    let is : reply ≡ serve S v c.args.conn ledger k.state k.result k.tx q = run_served S v c.args.conn ledger k.state k.result k.tx q (ap (runs v k.state) (sym same) ∙ sym c.runs.ensures ∙ c.if-runs.true) in
+    steps_at (replies ledger k q later reply) (serves S c.args.conn ledger k q later) c.args.conn k.first c.answer_run.result (kept_of c.answer_run.new.self) ledger (g.E.Engine.entries c.answer_run.new.engine)
+    (ap (λ (x : Reply). replies ledger k q later x) is) (c.answer_run.ensures.ok q later e)
+
+pub answer_run-requires-clause-run : goal.answer_run-requires-clause-run
+answer_run-requires-clause-run g c = λ q later e.
+    let k = kept_of c.args.self.now in
+    ap (runs (version_of k) k.state) (sym (asked_head (request_view c.request-request.result.now) q (drop 1 k.waiting) later (sym c.request-request.ensures ∙ e))) ∙ sym c.runs.ensures ∙ c.if-runs.true
 
 pub decide-requires-clause-unowed : goal.decide-requires-clause-unowed
 decide-requires-clause-unowed g c = c.requires.unowed (request_view c.request-request.result.now) (drop 1 (kept_of c.args.self.now).waiting) c.request-request.ensures

@@ -1,8 +1,8 @@
-use Rattle.std.proofs.Common.{ap, map, rules, string_bytes}
+use Rattle.std.proofs.Common.{ap, List, ℕ, map, rules, string_bytes}
 use Rattle.engine.specs.Prelude.{token_view, answer_view}
 use Rattle.session.specs.Prelude.{Reply, replies, opens, fields_said, fails, version_of, kept_of}
 use Rattle.session.proofs.Replies.{unfit}
-use Rattle.session.proofs.Turns.{steps_at}
+use Rattle.session.proofs.Turns.{steps_at, steps_from}
 use Rattle.session.proofs.session.Session.open.Goals as goal
 
 pub returns-clause-ok : goal.returns-clause-ok
@@ -14,4 +14,4 @@ returns-clause-ok g c = λ q later waits same.
     let fault = c.in-Err-Because.fault in
     steps_at (replies ledger k q later (fails fault)) (replies ledger k q later (opens v k.state k.tx (token_view c.args.token) a)) c.args.conn k.first c.fail.result (kept_of c.fail.new.self) ledger (g.E.Engine.entries c.fail.new.engine)
     (ap (λ (x : Reply). replies ledger k q later x) (unfit c.version.result v (fields_said (map string_bytes c.deref.result.now)) (fields_said a.fields) _ fault _ c.version.ensures (ap (λ fs. fields_said (map string_bytes fs)) c.deref.ensures.value) c.in-Err-Because.ensures.err (search rules)))
-    (c.fail.ensures.ok q later waits same)
+    (steps_from _ k (ap (λ (x : List ℕ). record k { unsent = x }) c.in-Err-Because.ensures.kept) ledger q later (fails fault) c.args.conn c.fail.result (kept_of c.fail.new.self) ledger (g.E.Engine.entries c.fail.new.engine) (c.fail.ensures.ok q later waits same))
