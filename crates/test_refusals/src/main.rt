@@ -28,7 +28,7 @@ use script::Hellos;
 use spelling::values;
 use std::alloc::Global;
 use std::io;
-use without::{chunks, clients, sessions, spellings, tokens, worlds};
+use without::{chunks, clients, puts, sessions, spellings, tokens, worlds};
 
 /// Something couldn't be had to begin with.
 const NOT_PLAYED: u64 = 8;
@@ -55,6 +55,7 @@ fn told_by(alloc: Global, name: &str) -> u64 {
         "chunks without" => as_digest(chunks(alloc)),
         "tokens without" => as_digest(tokens(alloc)),
         "values without" => as_digest(spellings(alloc)),
+        "puts without" => as_digest(puts(alloc)),
         "worlds without" => as_digest(worlds(alloc)),
         _ => 0,
     }

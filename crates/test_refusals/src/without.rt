@@ -1,14 +1,16 @@
 //! Calls and paths that take no memory, given if there is none. Those that have no answer for want of it need no look.
 
-use crate::asked::{Table, Unplayed, asking, server};
+use crate::asked::{Table, Unplayed, asking, requests, server};
 use crate::brought::{brought, writes_of};
 use crate::hunger::Hunger;
 use crate::play::Play;
 use crate::spelling::{SPELLED, decoded};
+use bytes::BytesMut;
 use client::{Client, SubmitFault};
 use engine::{Commit, Engine, EntryId, FixedTable, Write};
 use machine::State;
-use messages::{Mode, Request};
+use messages::{Count, Mode, Request, write_request_run};
+use packstream::writing::Output;
 use packstream::{Packed, size};
 use server::{Cause, Took, What, Worked};
 use std::alloc::Global;
@@ -149,6 +151,72 @@ pub fn spellings(alloc: Global) -> Result<bool, Unplayed> {
     };
     hunger.feast();
     Ok(length == SPELLED.len())
+}
+
+/// A request of each kind.
+fn each_kind(alloc: Global) -> Result<Vec<Request>, Unplayed> {
+    let mut kinds = requests(alloc)?;
+    kinds.push(Request::Logoff)?;
+    kinds.push(Request::Discard(Count::All))?;
+    kinds.push(Request::Rollback)?;
+    kinds.push(Request::Reset)?;
+    kinds.push(Request::Goodbye)?;
+    Ok(kinds)
+}
+
+/// Puts the runs of these requests.
+fn put_all(requests: &[Request], out: &mut Output) -> bool {
+    for request in requests {
+        if write_request_run(Version::V51, request, out).is_err() {
+            return false;
+        }
+    }
+    true
+}
+
+/// A server at which a client's requests wait: a login, a transaction and a result.
+fn asked_server(alloc: Global) -> Result<Table, Unplayed> {
+    let mut server = server(alloc)?;
+    let conn = server.open()?;
+    server.feed(conn, OFFER)?;
+    let mut out = Output::new(alloc);
+    let asked = requests(alloc)?;
+    if !put_all(&asked, &mut out) {
+        return Err(Unplayed);
+    }
+    let mut rest = out.as_slice();
+    for _request in 0..asked.len() {
+        let took = server.feed(conn, rest)?;
+        rest = rest.get(took.used..).unwrap_or(&[]);
+    }
+    Ok(server)
+}
+
+/// Whether so many steps write a summary each.
+fn writes(server: &mut Table, steps: usize) -> bool {
+    for _step in 0..steps {
+        if !matches!(server.work(0), Ok(Worked::Wrote { .. })) {
+            return false;
+        }
+    }
+    true
+}
+
+/// Requests of each kind, summaries and rows are put where there is room for them, by way of nothing beside it.
+pub fn puts(alloc: Global) -> Result<bool, Unplayed> {
+    let kinds = each_kind(alloc)?;
+    let mut out = Output::marked(BytesMut::with_capacity(alloc, 4096)?, 0);
+    let mut server = asked_server(alloc)?;
+    let mut hunger = Hunger::new(alloc)?;
+    hunger.starve();
+    let said = put_all(&kinds, &mut out) && writes(&mut server, 3);
+    hunger.feast();
+    let opened = writes(&mut server, 4);
+    server.sent(0, usize::MAX);
+    hunger.starve();
+    let rows = server.work(0) == Ok(Worked::Row) && server.write_rows(0) == 2;
+    hunger.feast();
+    Ok(said && opened && rows)
 }
 
 /// A transaction under the token of the table's entry, and what is answered to it.
