@@ -29,7 +29,7 @@ holds-either : (a b : Inside) (p : Phase) → holds (either a b) p ≡ (holds a 
 holds-either a b Phase.Fresh = refl
 holds-either a b _ = refl
 
-has-members : (a : Inside) (ps : List Phase) → members a ≡ ps → (p : Phase) → holds a p ≡ has p ps
+pub has-members : (a : Inside) (ps : List Phase) → members a ≡ ps → (p : Phase) → holds a p ≡ has p ps
 has-members a ps e p = sym (has-set_of (holds a) p) ∙ ap (λ l. has p l) e
 
 pub members-either : (a b : Inside) (ps qs : List Phase) → members a ≡ ps → members b ≡ qs → members (either a b) ≡ union ps qs

@@ -1,6 +1,7 @@
 //! Sets of phases.
-ghost use Rattle.std.specs.Prelude.{◌≡◌, List, [], ◌∷◌};
-ghost use Rattle.machine.specs.Following.{has, union};
+ghost use Rattle.std.specs.Prelude.{◌≡◌, List, [], ◌∷◌, not};
+ghost use Rattle.std.specs.List.{list_any};
+ghost use Rattle.machine.specs.Following.{has, union, is_defunct};
 
 use crate::states::Phase;
 use std::marker::Model;
@@ -82,6 +83,16 @@ impl PhaseSet {
             Phase::Halted => self.halted,
             Phase::Defunct => self.defunct,
         }
+    }
+
+    /// Whether a phase other than Defunct is in the set.
+    #[tactic(auto, using(crate::proofs::Gathered::some_live))]
+    pub(crate) fn is_live(self) -> bool
+        ensures { result ≡ list_any (λ p. not (is_defunct p)) self }
+    {
+        let opening = self.fresh | self.unauth;
+        let serving = self.ready | self.streaming | self.tx_ready | self.tx_streaming;
+        opening | serving | self.halted
     }
 
     /// The phases of either set.

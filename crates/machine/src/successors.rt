@@ -1,8 +1,8 @@
 //! Which phases may follow a request, and which requests may be sent in them.
-ghost use Rattle.std.specs.Prelude.{◌≡◌, [], ◌∷◌, Option, Some, None};
+ghost use Rattle.std.specs.Prelude.{◌≡◌, [], ◌∷◌, Option, Some, None, not, ◌&&◌, ◌||◌};
 ghost use Rattle.messages.specs.View.{request_view};
 ghost use Rattle.machine.specs.Asks.{kind_of, in_part};
-ghost use Rattle.machine.specs.Following.{after_greeting, after_halted, after_row, after_serving, allowed_in, allows, as_set, set_after, phases_of, possible, table};
+ghost use Rattle.machine.specs.Following.{after_greeting, after_halted, after_row, after_serving, allowed_in, allows, as_set, set_after, phases_of, possible, has, set_of, table};
 
 use crate::kinds::Kind;
 use crate::phase_set::PhaseSet;
@@ -13,45 +13,28 @@ use crate::states::{Phase, State};
 use messages::Request;
 use wire::Version;
 
-/// Each phase once.
-const PHASES: [Phase; 8] = [
-    Phase::Fresh,
-    Phase::Unauth,
-    Phase::Ready,
-    Phase::Streaming,
-    Phase::TxReady,
-    Phase::TxStreaming,
-    Phase::Halted,
-    Phase::Defunct,
-];
-
-/// The phases of a session that isn't over.
-const LIVE: [Phase; 7] = [
-    Phase::Fresh,
-    Phase::Unauth,
-    Phase::Ready,
-    Phase::Streaming,
-    Phase::TxReady,
-    Phase::TxStreaming,
-    Phase::Halted,
-];
-
 /// Whether a request of this kind may be sent where one of these phases may be the server's: some phase other than
 /// Defunct is among them, and each such phase allows the kind. Halted allows every kind of the version, another phase
 /// GOODBYE and what can succeed there.
 pub fn allowed(version: Version, set: PhaseSet, kind: Kind) -> bool
     ensures { result ≡ allowed_in version set kind }
 {
-    let mut some = false;
-    for phase in LIVE {
-        if set.has(phase) {
-            if !is_allowed(version, phase, kind) {
-                return false;
-            }
-            some = true;
-        }
-    }
-    some
+    set.is_live()
+        & admits(version, set, Phase::Fresh, kind)
+        & admits(version, set, Phase::Unauth, kind)
+        & admits(version, set, Phase::Ready, kind)
+        & admits(version, set, Phase::Streaming, kind)
+        & admits(version, set, Phase::TxReady, kind)
+        & admits(version, set, Phase::TxStreaming, kind)
+        & admits(version, set, Phase::Halted, kind)
+}
+
+/// Whether a phase allows a kind, or isn't in the set. It stands in no loop, so that a phase is known where it is tested.
+#[inline(always)]
+fn admits(version: Version, set: PhaseSet, phase: Phase, kind: Kind) -> bool
+    ensures { result ≡ (not (has phase set) || allows version phase kind) }
+{
+    !set.has(phase) || is_allowed(version, phase, kind)
 }
 
 /// The phases that may follow a request, of a server in one of these phases.
@@ -59,13 +42,27 @@ pub fn after(version: Version, set: PhaseSet, request: &Request) -> PhaseSet
     ensures table { result ≡ set_after version set (request_view request.now) }
     ensures rows { result ≡ possible version set (request_view request.now ∷ []) }
 {
-    let mut following = PhaseSet::empty();
-    for phase in PHASES {
-        if set.has(phase) {
-            following = following.union(after_one(version, phase, request));
-        }
+    after_member(version, set, Phase::Fresh, request)
+        .union(after_member(version, set, Phase::Unauth, request))
+        .union(after_member(version, set, Phase::Ready, request))
+        .union(after_member(version, set, Phase::Streaming, request))
+        .union(after_member(version, set, Phase::TxReady, request))
+        .union(after_member(version, set, Phase::TxStreaming, request))
+        .union(after_member(version, set, Phase::Halted, request))
+        .union(after_member(version, set, Phase::Defunct, request))
+}
+
+/// The phases that may follow a request in this phase, if that is in the set; else none.
+#[inline(always)]
+fn after_member(version: Version, set: PhaseSet, phase: Phase, request: &Request) -> PhaseSet
+    ensures { let a = request_view request.now in
+        result ≡ set_of (λ x. has phase set && has x (table version phase (kind_of a) (in_part a))) }
+{
+    if set.has(phase) {
+        after_one(version, phase, request)
+    } else {
+        PhaseSet::empty()
     }
-    following
 }
 
 /// The table of what may follow, by the phase.
