@@ -29,6 +29,5 @@ pub(crate) fn take_next(
         return Err(AllocError);
     }
     ledger.reserve(1)?;
-    let copies = writes.to_vec(alloc)?;
-    take_writes(alloc, pairs, copies)
+    take_writes(alloc, pairs, writes)
 }

@@ -5,7 +5,9 @@ ghost use Rattle.engine.specs.Tokens.{found_in, known_by};
 ghost use Rattle.engine.specs.Views.{parameters_view, token_view, writes_view};
 ghost use Rattle.examples.specs.Notes.{note_of, notes_answer, notes_are_of_cells, notes_fit};
 
-use engine::{Answer, Commit, Engine, EngineFault, Entry, EntryId, Mode, NoMemory, Rows, Write};
+use engine::{
+    Answer, Commit, Engine, EngineFault, Entry, EntryId, Mode, Names, NoMemory, Rows, Write,
+};
 use std::alloc::Global;
 use std::marker::Model;
 use structures::Cell;
@@ -117,7 +119,7 @@ fn note(alloc: Global, params: &[(String, Cell)]) -> Result<Answer, EngineFault>
     let key = name.clone()?;
     let value = value.clone()?;
     Ok(Answer {
-        fields: Vec::new(alloc),
+        fields: Names::none(),
         rows: Rows::none(alloc),
         write: Some(Write { key, value }),
         mode: Mode::Write,

@@ -1,5 +1,5 @@
 //! What a query's answer opens.
-ghost use Rattle.std.specs.Prelude.{◌≡◌, ◌+◌, ◌≤◌, ◌∷◌, [], ◌++◌, true, false, if◌then◌else◌, length, map, option_map, option_to_list, IfOk, OnOk, OnErr, IfErr, string_bytes};
+ghost use Rattle.std.specs.Prelude.{◌≡◌, ◌+◌, ◌≤◌, ◌∷◌, [], ◌++◌, true, false, if◌then◌else◌, length, map, option_map, option_to_list, IfOk, OnOk, OnErr, IfErr, All, IsUtf8};
 ghost use Rattle.messages.specs.View.{response_view};
 ghost use Rattle.cells.specs.Shape.{shapes};
 ghost use Rattle.packstream.specs.Writing.{whole};
@@ -7,7 +7,7 @@ ghost use Rattle.packstream.specs.Tree.{text, dict};
 ghost use Rattle.packstream.specs.Canon.{canon, canon_all};
 ghost use Rattle.packstream.specs.View.{entries_of, trees_of};
 ghost use Rattle.wire.specs.declared.Version.{Version as AnyVersion};
-ghost use Rattle.engine.specs.Views.{rows_view, token_view, write_view, writes_view, answer_view};
+ghost use Rattle.engine.specs.Views.{names_view, rows_view, token_view, write_view, writes_view, answer_view};
 ghost use Rattle.session.specs.Session.{fields_told, fields_said, rows_fitted, result_of_answer, in_transaction, with_write, no_tx};
 ghost use Rattle.session.specs.Views.{first_of, open_of, tx_of};
 ghost use Rattle.engine.specs.Limits.{max_rows};
@@ -19,7 +19,7 @@ use crate::result::{OpenResult, Transaction};
 use crate::spelling::{Unwritten, put_response};
 use crate::words::{is_in_transaction, result_mode};
 use bytes::BytesMut;
-use engine::{Answer, Write};
+use engine::{Answer, Names, Write};
 use machine::State;
 use messages::{Response, close_run};
 use speller::{Output, Unspelled, put_text};
@@ -34,17 +34,17 @@ const FEW: usize = 15;
 pub(crate) fn put_fields(
     alloc: Global,
     version: Version,
-    fields: &[String],
+    fields: &Names,
     body: &mut BytesMut,
     out: &mut Output,
 ) -> Result<(), Unwritten>
     ensures before { out.new.before ≡ whole out.old }
-    ensures ok { let said = fields_said (map string_bytes fields.now) in
+    ensures ok { let said = fields_said (names_view fields.now) in
         OnOk result (IsRun version said out.new.more × (fits version said ≡ true)) }
-    ensures err { IfErr result (Refuses version (fields_said (map string_bytes fields.now))) }
+    ensures err { IfErr result (Refuses version (fields_said (names_view fields.now))) }
     ensures kept { OnErr result (whole out.new ≡ whole out.old) }
 {
-    if fields.len() <= FEW && put_few(fields, out) {
+    if fields.count() <= FEW && put_few(fields, out) {
         return Ok(());
     }
     put_many(alloc, version, fields, body, out)
@@ -55,14 +55,14 @@ pub(crate) fn put_fields(
 fn put_many(
     alloc: Global,
     version: Version,
-    fields: &[String],
+    fields: &Names,
     body: &mut BytesMut,
     out: &mut Output,
 ) -> Result<(), Unwritten>
     ensures before { out.new.before ≡ whole out.old }
-    ensures ok { let said = fields_said (map string_bytes fields.now) in
+    ensures ok { let said = fields_said (names_view fields.now) in
         OnOk result (IsRun version said out.new.more × (fits version said ≡ true)) }
-    ensures err { IfErr result (Refuses version (fields_said (map string_bytes fields.now))) }
+    ensures err { IfErr result (Refuses version (fields_said (names_view fields.now))) }
     ensures kept { OnErr result (whole out.new ≡ whole out.old) }
 {
     out.set_mark();
@@ -74,10 +74,10 @@ fn put_many(
 
 /// Puts the run of the SUCCESS of a RUN of few fields, spelled where it goes out; or says no, and puts nothing: of one past a chunk, or for want
 /// of memory.
-fn put_few(fields: &[String], out: &mut Output) -> bool
-    requires { length fields.now ≤ 15 }
+fn put_few(fields: &Names, out: &mut Output) -> bool
+    requires { length (names_view fields.now) ≤ 15 }
     ensures before { out.new.before ≡ whole out.old }
-    ensures put { result ≡ true → (v : AnyVersion) → let said = fields_said (map string_bytes fields.now) in
+    ensures put { result ≡ true → (v : AnyVersion) → let said = fields_said (names_view fields.now) in
         IsRun v said out.new.more × (fits v said ≡ true) }
     ensures other { result ≡ false → whole out.new ≡ whole out.old }
 {
@@ -92,15 +92,16 @@ fn put_few(fields: &[String], out: &mut Output) -> bool
 }
 
 /// Adds a place for a header, and the SUCCESS of a RUN of few fields.
-fn add_fields(fields: &[String], out: &mut Output) -> Result<(), Unspelled>
-    requires { length fields.now ≤ 15 }
+fn add_fields(fields: &Names, out: &mut Output) -> Result<(), Unspelled>
+    requires { length (names_view fields.now) ≤ 15 }
     ensures before { out.new.before ≡ out.old.before }
     ensures spelled { OnOk result (out.new.more
         ≡ (out.old.more ++ 0 ∷ 0 ∷ 0xB1 ∷ 0x70 ∷ [])
-        ++ canon (dict (entries_of (fields_told (map string_bytes fields.now))))) }
+        ++ canon (dict (entries_of (fields_told (names_view fields.now))))) }
+    ensures texts { OnOk result (All IsUtf8 (names_view fields.now)) }
 {
     out.extend_from_slice(b"\0\0\xB1\x70\xA2\x86fields")?;
-    out.push(head_of(fields.len()))?;
+    out.push(head_of(fields.count()))?;
     put_names(fields, out)?;
     out.extend_from_slice(b"\x87t_first\x00")?;
     Ok(())
@@ -114,20 +115,21 @@ fn head_of(count: usize) -> u8
     0x90 + count as u8
 }
 
-fn put_names(names: &[String], out: &mut Output) -> Result<(), Unspelled>
+fn put_names(names: &Names, out: &mut Output) -> Result<(), Unspelled>
     ensures before { out.new.before ≡ out.old.before }
     ensures spelled { OnOk result (out.new.more
-        ≡ out.old.more ++ canon_all (trees_of (map text (map string_bytes names.now)))) }
+        ≡ out.old.more ++ canon_all (trees_of (map text (names_view names.now)))) }
+    ensures texts { OnOk result (All IsUtf8 (names_view names.now)) }
 {
-    for name in names {
-        put_text(out, name.as_str())?;
+    for place in 0..names.count() {
+        put_text(out, names.get(place))?;
     }
     Ok(())
 }
 
 /// The SUCCESS of a RUN.
-fn fields_response(alloc: Global, fields: &[String]) -> Result<Response, AllocError>
-    ensures { IfOk result (λ r. response_view r ≡ fields_said (map string_bytes fields.now)) }
+fn fields_response(alloc: Global, fields: &Names) -> Result<Response, AllocError>
+    ensures { IfOk result (λ r. response_view r ≡ fields_said (names_view fields.now)) }
 {
     let names = Cell::List(texts(alloc, fields)?);
     let mut metadata = Vec::with_capacity(alloc, 2)?;
@@ -138,12 +140,13 @@ fn fields_response(alloc: Global, fields: &[String]) -> Result<Response, AllocEr
     Ok(Response::Success(metadata))
 }
 
-fn texts(alloc: Global, names: &[String]) -> Result<Vec<Cell>, AllocError>
-    ensures { IfOk result (λ cells. shapes cells.items ≡ map text (map string_bytes names.now)) }
+fn texts(alloc: Global, names: &Names) -> Result<Vec<Cell>, AllocError>
+    ensures { IfOk result (λ cells. shapes cells.items ≡ map text (names_view names.now)) }
 {
-    let mut cells = Vec::with_capacity(alloc, names.len())?;
-    for name in names {
-        cells.push(Cell::Text(name.clone()?))?;
+    let mut cells = Vec::with_capacity(alloc, names.count())?;
+    for place in 0..names.count() {
+        let name = String::from_str(alloc, names.get(place))?;
+        cells.push(Cell::Text(name))?;
     }
     Ok(cells)
 }

@@ -66,12 +66,22 @@ fn is_cell(cell: &Cell, wanted: &Plain) -> bool {
     }
 }
 
+/// Whether these are the names, in order.
+fn lends(names: &Names, wanted: &[&str]) -> bool {
+    for place in 0..names.count() {
+        if wanted.get(place) != Some(&names.get(place)) {
+            return false;
+        }
+    }
+    names.count() == wanted.len()
+}
+
 /// Whether the answer reads one column of this name and these values.
 fn reads(answer: &Answer, name: &str, values: &[Plain]) -> bool {
-    let [field] = answer.fields.as_slice() else {
+    if !lends(&answer.fields, &[name]) {
         return false;
-    };
-    if field.as_str() != name || answer.rows.width != 1 || answer.rows.count != values.len() {
+    }
+    if answer.rows.width != 1 || answer.rows.count != values.len() {
         return false;
     }
     for (cell, value) in answer.rows.cells.iter().zip(values) {
@@ -91,7 +101,7 @@ fn puts_one(answer: &Answer) -> bool {
         return false;
     };
     let is_one = copy.key.as_str() == "a" && is_cell(&copy.value, &Int(1));
-    is_one && answer.fields.is_empty() && answer.rows.count == 0 && answer.mode == Mode::Write
+    is_one && answer.fields.count() == 0 && answer.rows.count == 0 && answer.mode == Mode::Write
 }
 
 fn is_told(answer: &Result<Answer, EngineFault>, told: &Told) -> bool {
@@ -240,6 +250,19 @@ fn too_many_keys(rt: HostRuntime) -> Result<(), Fail> {
     }
     let answer = FixedTable::new(alloc).run(&own, "KEYS", &[], Mode::Read);
     assert!(rt; is_told(&answer, &Refused(EngineFault::TooManyRows)));
+    Ok(())
+}
+
+#[test]
+fn names_of_columns(rt: HostRuntime) -> Result<(), Fail> {
+    let alloc = rt.alloc();
+    let mut own = Vec::new(alloc);
+    for name in ["a", "b"] {
+        own.push(String::from_str(alloc, name)?)?;
+    }
+    assert!(rt; lends(&Names::Own(own), &["a", "b"]));
+    assert!(rt; lends(&Names::Lent(&["a", "b"]), &["a", "b"]));
+    assert!(rt; lends(&Names::none(), &[]));
     Ok(())
 }
 
