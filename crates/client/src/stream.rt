@@ -3,7 +3,7 @@
 ghost use Rattle.std.specs.Prelude.{◌≡◌, ◌<◌, ◌≤◌};
 ghost use Rattle.wire.specs.Unfinished.{fresh};
 
-use crate::data::{Came, Taken, answer_of, came_of};
+use crate::data::{Came, Taken, answer_of, came_of, came_whole};
 use crate::faults::ClientFault;
 use crate::version_answer::{LENGTH, Opening};
 use inbox::Inbox;
@@ -93,8 +93,36 @@ impl Stream {
         }
     }
 
-    /// Then come chunks. Before a version is known a message says nothing, at whatever version it is read.
+    /// Then come chunks.
     fn take_chunks(
+        &mut self,
+        alloc: Global,
+        version: Option<Version>,
+        piece: &[u8],
+    ) -> Result<Taken, ClientFault>
+        requires { 4 ≤ self.old.opening.len }
+        ensures ok { IfOk result (λ t. Comes version (takes at_client (item_of self.old) piece.now) t
+            (item_of self.new)) }
+        ensures within { IfOk result (λ t. t.used ≤ length piece.now) }
+        ensures some { 0 < length piece.now → IfOk result (λ t. 0 < t.used) }
+        ensures fault { IfErr result (λ e. e ≡ ClientFault.Memory) }
+        ensures err { OnErr result ((item_of self.new ≡ item_of self.old)
+            × WantsRoom (item_of self.old) piece.now) }
+    {
+        if let Some(message) = self.inbox.message_in(piece) {
+            let Ok(came) = came_whole(alloc, version, message) else {
+                return Err(ClientFault::Memory);
+            };
+            return Ok(Taken {
+                used: message.len() + 4,
+                came,
+            });
+        }
+        self.take_parts(alloc, version, piece)
+    }
+
+    /// Takes a piece of chunks that doesn't begin with a whole message.
+    fn take_parts(
         &mut self,
         alloc: Global,
         version: Option<Version>,

@@ -1,11 +1,11 @@
 -- A piece that is data alone, and one that begins with a whole message.
-use Rattle.std.proofs.Common.{◌≡◌, ◌↔◌, refl, sym, ◌∙◌, ap, subst, ℕ, ◌+◌, ◌-◌, ◌<◌, ◌≤◌, true, false, inr, List, [], ◌++◌, length, drop, take, Option, Some, None, Ok, arith, IfSome}
+use Rattle.std.proofs.Common.{◌≡◌, ◌↔◌, refl, sym, ◌∙◌, ap, subst, ℕ, ◌+◌, ◌-◌, ◌<◌, ◌≤◌, true, false, inr, List, [], ◌++◌, length, drop, take, Option, option_map, Some, None, Ok, arith, IfSome}
 use Rattle.std.proofs.lemmas.List.{take_all}
 use Rattle.wire.specs.declared.items.Piece.TheVariants as ended
 use Rattle.wire.specs.declared.parts.Cut.{Cut}
 use Rattle.wire.specs.declared.parts.Part.{Part}
 use Rattle.wire.specs.declared.parts.Part.TheVariants as part
-use Rattle.wire.specs.Prelude.{Place, start, cut_at, IsData, BeginsWith, Unfinished, fresh, unfinished_at, answer_from, wants_room, Took, takes, Item, Message, chunks, Holds, with_data}
+use Rattle.wire.specs.Prelude.{Place, start, cut_at, IsData, BeginsWith, Unfinished, fresh, unfinished_at, answer_from, wants_room, Took, takes, Item, chunks, Holds, with_data}
 use Rattle.wire.proofs.First.{takes_first}
 use Rattle.wire.proofs.Readers.{reads_pieces}
 use Rattle.wire.proofs.Room.{part_wants}
@@ -13,7 +13,7 @@ use Rattle.reader.specs.Prelude.{Point, Reads, MayGoOn}
 use Rattle.reader.proofs.Pieces.{nothing_goes_on}
 use Rattle.inbox.specs.declared.stream.Stream.{Stream}
 use Rattle.inbox.specs.Standing.{IsAt}
-use Rattle.inbox.specs.Taking.{WantsRoom}
+use Rattle.inbox.specs.Taking.{whole_message, WantsRoom}
 use Rattle.inbox.specs.Scanning.{Comes, Scans}
 use Rattle.inbox.proofs.Coming.{comes_none, comes_on, comes_all, left_of, taken_as, from_here}
 use Rattle.inbox.proofs.Parts.{keeps_going}
@@ -73,8 +73,13 @@ alone_going p q piece small alone = keeps_going p q piece (cut_at p piece).cut a
 
 -- ---- a message whole
 
+-- what is lent, by what holds of it
+pub whole_is : {A : Type 0} (bytes : A → List ℕ) (r : Option A) (Q P : List ℕ → Type 0) → ((m : List ℕ) → (option_map bytes r ≡ Some m) ↔ Q m) → ((m : List ℕ) → Q m → P m) → IfSome r (λ d. P (bytes d))
+whole_is bytes None Q P found p = tt
+whole_is bytes (Some d) Q P found p = p (bytes d) ((found (bytes d)).0 refl)
+
 module _ (m piece : List ℕ) (begins : BeginsWith m piece) where
-  takes_message : takes chunks fresh piece ≡ record { used = length m + 4; item = Some (Message m); rest = fresh }
+  takes_message : takes chunks fresh piece ≡ whole_message m fresh
   takes_message = taken_as fresh fresh piece (Ok (record { used = length m + 4; what = ended.Message m })) refl (takes_first m piece begins)
 
   -- with the lengths around it
@@ -90,11 +95,8 @@ module _ (m piece : List ℕ) (begins : BeginsWith m piece) where
         let none : u.body ≡ [] = empty_is u.body (omega (arith, p.1.0, sum)) in
         p.0 ∙ ap (λ (q : Place). unfinished_at q u.body) at ∙ ap (λ (b : List ℕ). unfinished_at start b) none
 
-    pub first_takes : takes chunks u piece ≡ record { used = length m + 4; item = Some (Message m); rest = fresh }
-    first_takes = ap (λ (v : Unfinished). takes chunks v piece) none_come ∙ takes_message
-
-    pub first_stays : IsAt s fresh
-    first_stays = subst (λ (v : Unfinished). IsAt s v) none_come is
+    pub first_takes : takes chunks u piece ≡ whole_message m u
+    first_takes = subst (λ (v : Unfinished). takes chunks v piece ≡ whole_message m v) (sym none_come) takes_message
 
     pub first_wants : (v : Unfinished) → u ≡ v → WantsRoom v piece
     first_wants v same = subst (λ (w : Unfinished). WantsRoom w piece) (sym none_come ∙ same) (record { good = nothing_goes_on; some = ap (wants_room 0) (takes_first m piece begins) })

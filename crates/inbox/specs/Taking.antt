@@ -1,5 +1,5 @@
 -- What an inbox takes of a piece, by what the reader of chunks takes of it.
-use Rattle.std.specs.Prelude.{◌≡◌, ℕ, true, List, length, Option, Some, None, Result, Ok, Err}
+use Rattle.std.specs.Prelude.{◌≡◌, ℕ, ◌+◌, true, List, length, Option, Some, None, Result, Ok, Err}
 use Rattle.wire.specs.Unfinished.{Unfinished}
 use Rattle.wire.specs.Items.{answer_to, wants_room}
 use Rattle.wire.specs.Reader.{Took}
@@ -39,6 +39,10 @@ pub record Takes {M : Type 0} (reads : List ℕ → Result M MsgFault → Type 0
 -- all of a piece was used, and nothing ended
 abbrev pub used_up : List ℕ → Unfinished → Took Unfinished Item
 used_up piece rest = record { used = length piece; item = None; rest = rest }
+
+-- a message that a piece begins with was used, and this is unfinished then
+abbrev pub whole_message : List ℕ → Unfinished → Took Unfinished Item
+whole_message m rest = record { used = length m + 4; item = Some (Message m); rest = rest }
 
 -- A piece wants room: something of it is kept or read, and it isn't of a message that is bad already.
 pub record WantsRoom (u : Unfinished) (piece : List ℕ) : Type 0 where

@@ -5,7 +5,6 @@ use crate::begun::Begun;
 use crate::brought::Brought;
 use crate::readable::Readable;
 use crate::stream::Stream;
-use crate::whole_message::read_bytes;
 use reader::Reader;
 use reader::laws::{good_may_go_on, reads_more, reads_nothing};
 use std::alloc::{AllocError, Global};
@@ -31,12 +30,12 @@ impl Model for Inbox {
 }
 
 impl Inbox {
-    ghost use Rattle.std.specs.Prelude.{ℕ, List, ◌<◌, ◌≤◌, length, true, Ok, IfOk, OnErr};
+    ghost use Rattle.std.specs.Prelude.{ℕ, List, ◌<◌, ◌≤◌, ◌+◌, length, true, Ok, IfOk, IfSome, OnErr};
     ghost use Rattle.wire.specs.Unfinished.{Unfinished, fresh};
     ghost use Rattle.wire.specs.Framing.{chunks};
     ghost use Rattle.wire.specs.Reader.{takes};
     ghost use Rattle.reader.specs.Piecewise.{Reads};
-    ghost use Rattle.inbox.specs.Taking.{Takes, used_up, WantsRoom};
+    ghost use Rattle.inbox.specs.Taking.{Takes, used_up, whole_message, WantsRoom};
 
     /// Before the first byte of the chunks. Takes no memory.
     pub fn new(alloc: Global) -> Inbox
@@ -55,7 +54,7 @@ impl Inbox {
 
     /// Takes a piece that is data of one chunk alone, and answers whether it is; else nothing changes. `Err` is want of memory, and changes
     /// nothing; a message that is known to be bad takes none.
-    #[inline]
+    #[inline(always)]
     pub fn take_data(&mut self, piece: &[u8]) -> Result<bool, AllocError>
         ensures data { result ≡ Ok true
             → takes chunks self.old piece.now ≡ used_up piece.now self.new }
@@ -71,6 +70,20 @@ impl Inbox {
         self.stream.chunks = behind;
         self.begun.take(piece);
         Ok(true)
+    }
+
+    /// Lends the message that the piece begins with, if no item is begun and it is there whole, in one chunk. Nothing is taken: behind
+    /// the message, which takes four bytes more than it has, the inbox stands as before it. Takes no memory.
+    #[inline]
+    pub fn message_in<'a>(&self, piece: &'a [u8]) -> Option<&'a [u8]>
+        ensures takes { IfSome result (λ m. takes chunks self.now piece.now ≡ whole_message m.now self.now) }
+        ensures room { IfSome result (λ _. WantsRoom self.now piece.now) }
+        ensures within { IfSome result (λ m. length m.now + 4 ≤ length piece.now) }
+    {
+        if self.stream.is_over {
+            return None;
+        }
+        self.stream.chunks.message_in(piece)
     }
 
     /// Takes a piece to the end of the item begun, a no-op or a message, else all of it; and answers how many bytes were used and what ended
@@ -93,12 +106,6 @@ impl Inbox {
         if self.stream.is_over {
             self.begun.take(piece);
             return Ok((piece.len(), Brought::Nothing));
-        }
-        if let Some(message) = self.stream.chunks.message_in(piece) {
-            let brought = read_bytes(alloc, version, message)?;
-            let used = message.len() + 4;
-            self.begun.take(piece);
-            return Ok((used, brought));
         }
         self.take_parts(alloc, version, piece)
     }

@@ -1,18 +1,18 @@
 -- What a session's bytes make of a piece: of the handshake, and of chunks.
-use Rattle.std.proofs.Common.{◌≡◌, sym, ◌∙◌, ap, subst, ℕ, ◌+◌, ◌-◌, ◌≤◌, ◌<◌, ◌++◌, List, length, take, arith, length-take, min, Some}
+use Rattle.std.proofs.Common.{◌≡◌, sym, ◌∙◌, ap, subst, ℕ, ◌+◌, ◌-◌, ◌≤◌, ◌<◌, ◌++◌, List, length, take, arith, length-take, min, Option, Some}
 use Rattle.std.proofs.lemmas.Bool.Decides.{nat_tests}
 use Rattle.std.proofs.lemmas.List.{take_all}
-use Rattle.wire.specs.Prelude.{Unfinished, fresh, takes, Opened, reading, at_server}
+use Rattle.wire.specs.Prelude.{Unfinished, fresh, takes, Item, Opened, chunks, reading, at_server}
 use Rattle.reader.proofs.Pieces.{nothing_goes_on}
 use Rattle.messages.specs.Prelude.{arrival_of_offer}
 use Rattle.inbox.specs.Taking.{WantsRoom as ChunksWant}
 use Rattle.inbox.specs.Opening.{come}
-use Rattle.inbox.proofs.Opening.{takes_part, takes_whole, come_part, come_open}
+use Rattle.inbox.proofs.Opening.{takes_part, takes_whole, takes_open, come_part, come_open, opened}
 use Rattle.server.specs.declared.input.Offer.{Offer}
 use Rattle.server.specs.declared.kinds.Took.{Took}
 use Rattle.session.specs.declared.kinds.What.{What}
-use Rattle.session.specs.Prelude.{Kept, Receives, after_item}
-use Rattle.server.specs.Prelude.{takes_item, WantsRoom, offered, fed}
+use Rattle.session.specs.Prelude.{Kept, Receives, after_item, what_of}
+use Rattle.server.specs.Prelude.{arrival, takes_item, WantsRoom, offered, fed}
 
 -- what is told, by how many bytes were used and what ended with them
 abbrev pub took_of : ℕ → What → Took
@@ -53,6 +53,14 @@ module _ (old new : Offer) (u : Unfinished) (k : Kept) (piece : List ℕ) (used 
       subst (λ (o : Opened). WantsRoom o piece) (sym (come_part 20 (offered old) u piece (offered new) used few used_by more)) (record { good = nothing_goes_on; some = grind (arith, nat_tests) })
 
 -- ---- chunks
+
+-- these were used to this item, and what was received of it was told
+pub chunks_taken : (o : Offer) (u v : Unfinished) (k after : Kept) (piece : List ℕ) (used : ℕ) (what : What) (x : Option Item) → o.len ≡ 20 → takes chunks u piece ≡ record { used = used; item = x; rest = v }
+    → (what ≡ what_of (arrival k x)) × (after ≡ after_item k (arrival k x)) → takes_item k (takes at_server (come 20 (offered o) u) piece) ≡ fed (took_of used what) after (come 20 (offered o) v)
+chunks_taken o u v k after piece used what x whole e r =
+    let all : 20 ≤ length (offered o) = omega (arith, offered-length o, whole) in
+    ap (takes_item k) (takes_open 20 (offered o) u piece all ∙ ap opened e) ∙ ap (λ w. fed (took_of used w) (after_item k (arrival k x)) (reading v)) (sym r.0)
+    ∙ ap (λ a. fed (took_of used what) a (reading v)) (sym r.1) ∙ ap (fed (took_of used what) after) (sym (come_open 20 (offered o) v piece all))
 
 -- they want room
 pub chunks_want : (o : Offer) (u : Unfinished) (piece : List ℕ) → o.len ≡ 20 → ChunksWant u piece → WantsRoom (come 20 (offered o) u) piece

@@ -7,8 +7,5 @@ done call a old new e r f = (new, ap call (sym f) ∙ e, refl)
 pub gone : {A R : Type 0} (call : R → A × R) (a : A) (old new : R) → call old ≡ (a, new) → (r : R) → old ≡ r → (a ≡ (call r).0) × (new ≡ (call r).1)
 gone {A} {R} call a old new e r f = let h = ap call (sym f) ∙ e in (sym (ap (λ (p : A × R). p.0) h), sym (ap (λ (p : A × R). p.1) h))
 
-pub same : {R : Type 0} (old new : R) → new ≡ old → (r : R) → old ≡ r → new ≡ r
-same old new e r f = e ∙ f
-
 pub holds : {R : Type 0} (P : R → Type 0) (old : R) → P old → (r : R) → old ≡ r → P r
 holds P old p r f = subst P f p

@@ -2,7 +2,6 @@ pub mod Feeds
 pub mod Known
 pub mod Placed
 pub mod Calls
-pub mod Answered
 pub mod Bounds
 pub mod Runs
 pub mod Ledgers

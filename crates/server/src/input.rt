@@ -3,7 +3,7 @@ ghost use Rattle.std.specs.Prelude.{◌≡◌, ◌<◌, ◌≤◌, length};
 ghost use Rattle.wire.specs.Unfinished.{fresh};
 
 use crate::kinds::Took;
-use crate::receipt::receive;
+use crate::receipt::{receive, receive_message};
 use inbox::Inbox;
 use session::{Session, What};
 use std::alloc::{AllocError, Global};
@@ -98,6 +98,27 @@ impl Incoming {
 
     /// Takes bytes of chunks.
     fn take_chunks(&mut self, session: &mut Session, piece: &[u8]) -> Result<Took, AllocError>
+        requires room { full (kept_of session.old) ≡ false }
+        requires whole { self.old.offer.len ≡ 20 }
+        ensures ok { IfOk result (λ took. takes_item (kept_of session.old)
+            (takes at_server (opened_of self.old) piece.now)
+            ≡ fed took (kept_of session.new) (opened_of self.new)) }
+        ensures err { OnErr result ((opened_of self.new ≡ opened_of self.old)
+            × (kept_of session.new ≡ kept_of session.old)
+            × WantsRoom (opened_of self.old) piece.now) }
+    {
+        if let Some(message) = self.inbox.message_in(piece) {
+            let what = receive_message(session, message)?;
+            return Ok(Took {
+                used: message.len() + 4,
+                what,
+            });
+        }
+        self.take_parts(session, piece)
+    }
+
+    /// Takes bytes of chunks that don't begin with a whole message.
+    fn take_parts(&mut self, session: &mut Session, piece: &[u8]) -> Result<Took, AllocError>
         requires room { full (kept_of session.old) ≡ false }
         requires whole { self.old.offer.len ≡ 20 }
         ensures ok { IfOk result (λ took. takes_item (kept_of session.old)

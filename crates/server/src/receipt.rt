@@ -1,19 +1,30 @@
 //! What is received of a piece of chunks.
-ghost use Rattle.std.specs.Prelude.{◌≡◌, Option, false};
-ghost use Rattle.wire.specs.Framing.{Item};
+ghost use Rattle.std.specs.Prelude.{◌≡◌, Option, false, IfOk, OnErr};
+ghost use Rattle.wire.specs.Framing.{Item, Message};
 ghost use Rattle.messages.specs.View.{request_view};
 ghost use Rattle.messages.specs.Reading.{Answers};
 ghost use Rattle.messages.specs.Messages.{request_of};
 ghost use Rattle.inbox.specs.Taking.{Brings};
-ghost use Rattle.session.specs.Rest.{full, version_of};
+ghost use Rattle.session.specs.Rest.{full, version_of, Receives};
 ghost use Rattle.session.specs.Views.{kept_of};
-ghost use Rattle.server.specs.Feeding.{arrival};
+ghost use Rattle.server.specs.Feeding.{arrival, arrives};
 ghost use Rattle.server.specs.Incoming.{IsReceived};
 
 use inbox::Brought;
-use messages::Request;
+use messages::{Request, read_request};
 use session::{Session, What};
 use std::alloc::AllocError;
+
+/// Hands the session a message that is whole. An `Err` is want of memory, and changes nothing.
+pub(crate) fn receive_message(session: &mut Session, message: &[u8]) -> Result<What, AllocError>
+    requires { full (kept_of session.old) ≡ false }
+    ensures ok { IfOk result (λ what. Receives what (kept_of session.old) (kept_of session.new)
+        (arrives (version_of (kept_of session.old)) (Message message.now))) }
+    ensures err { OnErr result (kept_of session.new ≡ kept_of session.old) }
+{
+    let (alloc, version) = (session.alloc(), session.version());
+    session.receive(read_request(alloc, version, message))
+}
 
 /// Hands the session what the inbox read. Takes no memory.
 pub(crate) fn receive(session: &mut Session, brought: Brought<Request>) -> Result<What, AllocError>

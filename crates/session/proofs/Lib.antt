@@ -12,3 +12,4 @@ pub mod Listed
 pub mod Fielded
 pub mod Sent
 pub mod Owed
+pub mod Arrived

@@ -3,7 +3,7 @@ use Rattle.std.proofs.Common.{◌≡◌, sym, ◌∙◌, ap, ℕ, Option, Some, 
 use Rattle.std.specs.declared.alloc.AllocError.{AllocError}
 use Rattle.session.specs.declared.Cause.{Cause}
 use Rattle.server.specs.Serving as serving
-use Rattle.server.proofs.Answered as answered
+use Rattle.world.proofs.Answered as answered
 use Rattle.world.specs.Prelude.{Takes, Draws, Peer, Ours, Foreign, Connection, heard_by_bytes, output, bytes_delivered, wish_of, World, Effect, ToClient, Seen, Gave, SawNothing, Refusal, quiet, at_peer, ledger, after_effect, effect_at_peer, taken_for, give, to_client, drain, taken_out, Submit, ClientLost, Submitted, effect_of_submit, read_after, by_peer, client_rest, live_of, server_rest, Link, Rest, FitsClient, FitsLink, Answers, FitsEnd, link_of, end_peer, event_of, Definition, Before, Holds, Submits, LosesClient, after_loss, Turns, IsWrong}
 use Rattle.std.proofs.Math.Seq.{take-nil, drop-length}
 use Rattle.std.proofs.lemmas.Bool.{or_left, or_right, cond-true, cond-false}

@@ -15,5 +15,6 @@ pub mod Sound
 pub mod Fitting
 pub mod Given
 pub mod Turned
+pub mod Answered
 pub mod Holding
 pub mod Told

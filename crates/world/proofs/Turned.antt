@@ -11,7 +11,7 @@ use Rattle.session.specs.Prelude.{work_kept, IsCounted}
 use Rattle.server.specs.declared.Server.{Server}
 use Rattle.server.specs.declared.Took.{Took}
 use Rattle.server.specs.Serving as serving
-use Rattle.server.proofs.Answered as answered
+use Rattle.world.proofs.Answered as answered
 use Rattle.server.specs.Views as server
 use Rattle.client.specs.Rest as asking
 use Rattle.world.specs.declared.kinds.Refused.TheVariants.{Memory}

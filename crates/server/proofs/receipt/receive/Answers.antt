@@ -15,13 +15,11 @@ received_as (Err f) old new item x e took never = absurd never
 
 pub returns-in-Nothing : goal.returns-in-Nothing
 returns-in-Nothing c = λ item is.
-    let none : item ≡ None = rw c.in-Nothing.is at is in
-    rw none (refl, refl)
+    let none : item ≡ None = rw c.in-Nothing.is at is in rw none (refl, refl)
 
 pub returns-in-Noop : goal.returns-in-Noop
 returns-in-Noop c = λ item is.
-    let noop : item ≡ Some Noop = rw c.in-Noop.is at is in
-    rw noop (refl, refl)
+    let noop : item ≡ Some Noop = rw c.in-Noop.is at is in rw noop (refl, refl)
 
 pub returns-in-Message : goal.returns-in-Message
 returns-in-Message c = λ item is.
@@ -34,11 +32,9 @@ pub returns-in-Bad : goal.returns-in-Bad
 returns-in-Bad c = λ item is.
     let k = kept_of c.args.session.now in
     let h = rw c.in-Bad.is at is in
-    let r = c.receive-in-Bad in
-    received_as r.result k (kept_of r.new.self) item (Unread c.in-Bad.fault) (ap (arrival k) h.1 ∙ ap (λ y. Some (arrival_by y)) (h.2 h.3))
+    let r = c.receive-in-Bad in received_as r.result k (kept_of r.new.self) item (Unread c.in-Bad.fault) (ap (arrival k) h.1 ∙ ap (λ y. Some (arrival_by y)) (h.2 h.3))
     r.ensures.taken (on_err_weaker r.result (λ e. h.3 cc) r.ensures.memory)
 
 pub returns-in-TooBig : goal.returns-in-TooBig
 returns-in-TooBig c = λ item is.
-    let big : item ≡ Some TooBig = rw c.in-TooBig.is at is in
-    rw big c.refuse.ensures
+    let big : item ≡ Some TooBig = rw c.in-TooBig.is at is in rw big c.refuse.ensures

@@ -1,6 +1,6 @@
 use Rattle.std.proofs.Common.{subst, ℕ, ◌∙◌, ap, length, Ok, ◌-◌, ◌++◌}
 use Rattle.server.specs.Serving as serving
-use Rattle.server.proofs.Answered as answered
+use Rattle.world.proofs.Answered as answered
 use Rattle.server.specs.Views as server
 use Rattle.server.proofs.Known.{done}
 use Rattle.world.specs.Prelude.{Link, flow_of}

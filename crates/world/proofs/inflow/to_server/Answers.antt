@@ -1,7 +1,7 @@
 use Rattle.std.proofs.Common.{refl, sym, ◌∙◌, ap, subst, drop, Ok, Some, length, ◌-◌, take, List, ℕ}
 use Rattle.session.specs.declared.What.{What}
 use Rattle.server.specs.Serving as serving
-use Rattle.server.proofs.Answered as answered
+use Rattle.world.proofs.Answered as answered
 use Rattle.server.specs.Views as server
 use Rattle.server.proofs.Known.{done}
 use Rattle.client.specs.Rest as asking

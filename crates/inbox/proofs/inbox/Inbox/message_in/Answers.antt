@@ -1,0 +1,22 @@
+use Rattle.std.proofs.Common.{◌≡◌, ◌≤◌, ◌+◌, length, subst}
+use Rattle.wire.specs.Prelude.{Unfinished, takes, chunks}
+use Rattle.inbox.specs.Taking.{whole_message, WantsRoom}
+use Rattle.inbox.proofs.Fronts.{first_takes, first_wants, first_within, whole_is}
+use Rattle.inbox.proofs.inbox.Inbox.message_in.Goals as goal
+
+pub returns-clause-takes : goal.returns-clause-takes
+returns-clause-takes c =
+    let i = c.self.inside in
+    let piece = c.args.piece.now in
+    whole_is (λ d. d.now) c.message_in.result _ (λ m. takes chunks c.args.self.now piece ≡ whole_message m c.args.self.now) c.message_in.ensures
+    (λ m f. subst (λ (u : Unfinished). takes chunks u piece ≡ whole_message m u) c.self.view_is (first_takes m piece f.1 i.stream i.begun.item c.self.invariant.at c.if-self.false f.0))
+
+pub returns-clause-room : goal.returns-clause-room
+returns-clause-room c =
+    let i = c.self.inside in
+    whole_is (λ d. d.now) c.message_in.result _ (λ m. WantsRoom c.args.self.now c.args.piece.now) c.message_in.ensures
+    (λ m f. first_wants m c.args.piece.now f.1 i.stream i.begun.item c.self.invariant.at c.if-self.false f.0 c.args.self.now c.self.view_is)
+
+pub returns-clause-within : goal.returns-clause-within
+returns-clause-within c =
+    whole_is (λ d. d.now) c.message_in.result _ (λ m. length m + 4 ≤ length c.args.piece.now) c.message_in.ensures (λ m f. first_within m c.args.piece.now f.1)
