@@ -9,7 +9,7 @@ ghost use Rattle.session.specs.Acts.{turn_in, turn_by};
 
 use crate::acts::Turn;
 use crate::waiting::{Queue, Waiting};
-use machine::MAX_WAITING;
+use machine::{MAX_WAITING, is_reset};
 use messages::Request;
 use std::alloc::{AllocError, Global};
 use std::collections::VecDeque;
@@ -50,9 +50,14 @@ impl Queue {
         ensures waiting { waiting_in self.new.waiting.items
             ≡ drop 1 (waiting_in self.old.waiting.items) }
     {
-        if let Some(first) = self.waiting.pop_front() {
-            self.resets -= first.resets();
-            self.unread -= first.unread();
+        match self.waiting.pop_front() {
+            Some(Waiting::Asked(request)) => {
+                if is_reset(&request) {
+                    self.resets -= 1;
+                }
+            }
+            Some(Waiting::Unread(_) | Waiting::TooLong) => self.unread -= 1,
+            None => {}
         }
     }
 

@@ -86,6 +86,7 @@ fn closed(commit: Commit, mode: Mode) -> Act<'static>
 
 impl Session {
     /// The summary of a PULL or DISCARD that drops so many rows.
+    #[inline(always)]
     pub(crate) fn ends_rows<E: Engine>(
         &self,
         dropped: usize,

@@ -150,6 +150,7 @@ impl Session {
     /// Takes what was asked, by a message at its version, if the session isn't full: a request takes a slot, and a RESET interrupts; what
     /// stands for no request takes a slot too. Want of memory in `asked`, and no other, is handed on as an `Err`, and changes nothing.
     /// Takes no memory.
+    #[inline(always)]
     pub fn receive(&mut self, asked: Result<Request, MsgFault>) -> Result<What, AllocError>
         requires { full (kept_of self.old) ≡ false }
         ensures taken { IfOk result

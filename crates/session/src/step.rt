@@ -368,6 +368,7 @@ impl Session {
     }
 
     /// With the summary that is put, the first request has its answer.
+    #[inline(always)]
     pub(crate) fn finish(
         &mut self,
         worked_in: State,
