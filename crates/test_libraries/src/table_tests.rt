@@ -261,7 +261,13 @@ fn names_of_columns(rt: HostRuntime) -> Result<(), Fail> {
         own.push(String::from_str(alloc, name)?)?;
     }
     assert!(rt; lends(&Names::Own(own), &["a", "b"]));
-    assert!(rt; lends(&Names::Lent(&["a", "b"]), &["a", "b"]));
+    let answer = Answer {
+        fields: Names::Lent(&["name", "age"]),
+        rows: engine::Rows::none(alloc),
+        write: None,
+        mode: Mode::Read,
+    };
+    assert!(rt; lends(&answer.fields, &["name", "age"]));
     assert!(rt; lends(&Names::none(), &[]));
     Ok(())
 }
