@@ -1,5 +1,5 @@
 -- A piece that is data alone, and one that begins with a whole message.
-use Rattle.std.proofs.Common.{◌≡◌, ◌↔◌, refl, sym, ◌∙◌, ap, subst, ℕ, ◌+◌, ◌-◌, ◌<◌, ◌≤◌, true, false, inr, List, [], ◌++◌, length, drop, take, Option, option_map, Some, None, Ok, arith, IfSome}
+use Rattle.std.proofs.Common.{◌≡◌, ◌↔◌, refl, sym, ◌∙◌, ap, subst, ℕ, ◌+◌, ◌-◌, ◌<◌, ◌≤◌, Bool, true, false, inr, List, [], ◌++◌, length, drop, take, Option, option_map, Some, None, Ok, arith, IfSome}
 use Rattle.std.proofs.lemmas.List.{take_all}
 use Rattle.wire.specs.declared.items.Piece.TheVariants as ended
 use Rattle.wire.specs.declared.parts.Cut.{Cut}
@@ -88,7 +88,7 @@ module _ (m piece : List ℕ) (begins : BeginsWith m piece) where
 
   module _ (s : Stream) (u : Unfinished) (is : IsAt s u) (going : s.is_over ≡ false) (at : s.chunks ≡ start) where
     -- before it nothing has come
-    none_come : u ≡ fresh
+    pub none_come : u ≡ fresh
     none_come =
         let p : (u ≡ unfinished_at s.chunks u.body) × Holds u.body s.chunks = is.place (is.over ∙ going) in
         let sum : s.chunks.sum ≡ 0 = ap (λ (q : Place). q.sum) at in
@@ -100,3 +100,24 @@ module _ (m piece : List ℕ) (begins : BeginsWith m piece) where
 
     pub first_wants : (v : Unfinished) → u ≡ v → WantsRoom v piece
     first_wants v same = subst (λ (w : Unfinished). WantsRoom w piece) (sym none_come ∙ same) (record { good = nothing_goes_on; some = ap (wants_room 0) (takes_first m piece begins) })
+
+-- where nothing has come the stream stands at its start
+pub at_start : (s : Stream) (u : Unfinished) → IsAt s u → u ≡ fresh → s.chunks ≡ start
+at_start s u is none =
+    let big : u.too_big ≡ false = ap (λ (x : Unfinished). x.too_big) none in
+    let p : (u ≡ unfinished_at s.chunks u.body) × Holds u.body s.chunks = is.place big in
+    let same : unfinished_at s.chunks u.body ≡ fresh = sym p.0 ∙ none in
+    let header : s.chunks.header ≡ None = ap (λ (x : Unfinished). x.header) same in
+    let lacks : s.chunks.lacks ≡ 0 = ap (λ (x : Unfinished). x.lacks) same in
+    let going : s.chunks.too_big ≡ false = ap (λ (x : Unfinished). x.too_big) same in
+    let body : length u.body ≡ 0 = ap (λ (x : Unfinished). length x.body) none in
+    let sum : s.chunks.sum ≡ 0 = omega (arith, p.1.0, lacks, body) in
+    place_is s.chunks header lacks sum going
+  where
+    place_is : (p : Place) → p.header ≡ None → p.lacks ≡ 0 → p.sum ≡ 0 → p.too_big ≡ false → p ≡ start
+    place_is p a b c d =
+        ap (λ (h : Option ℕ). at h p.lacks p.sum p.too_big) a ∙ ap (λ (n : ℕ). at None n p.sum p.too_big) b
+        ∙ ap (λ (n : ℕ). at None 0 n p.too_big) c ∙ ap (λ (t : Bool). at None 0 0 t) d
+      where
+        at : Option ℕ → ℕ → ℕ → Bool → Place
+        at header lacks sum too_big = record { header = header; lacks = lacks; sum = sum; too_big = too_big }

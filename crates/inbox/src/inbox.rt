@@ -30,8 +30,9 @@ impl Model for Inbox {
 }
 
 impl Inbox {
-    ghost use Rattle.std.specs.Prelude.{ℕ, List, ◌<◌, ◌≤◌, ◌+◌, length, true, Ok, IfOk, IfSome, OnErr};
+    ghost use Rattle.std.specs.Prelude.{ℕ, List, ◌<◌, ◌≤◌, ◌+◌, ◌↔◌, length, true, Ok, Some, option_map, IfOk, IfSome, OnErr};
     ghost use Rattle.wire.specs.Unfinished.{Unfinished, fresh};
+    ghost use Rattle.wire.specs.Texts.{BeginsWith};
     ghost use Rattle.wire.specs.Framing.{chunks};
     ghost use Rattle.wire.specs.Reader.{takes};
     ghost use Rattle.reader.specs.Piecewise.{Reads};
@@ -72,10 +73,12 @@ impl Inbox {
         Ok(true)
     }
 
-    /// Lends the message that the piece begins with, if no item is begun and it is there whole, in one chunk. Nothing is taken: behind
-    /// the message, which takes four bytes more than it has, the inbox stands as before it. Takes no memory.
+    /// Lends the message that the piece begins with, exactly if no item is begun and it is there whole, in one chunk. Nothing is taken:
+    /// behind the message, which takes four bytes more than it has, the inbox stands as before it. Takes no memory.
     #[inline]
     pub fn message_in<'a>(&self, piece: &'a [u8]) -> Option<&'a [u8]>
+        ensures lends { (m : List ℕ) → (option_map (λ d. d.now) result ≡ Some m)
+            ↔ ((self.now ≡ fresh) × BeginsWith m piece.now) }
         ensures takes { IfSome result (λ m. takes chunks self.now piece.now ≡ whole_message m.now self.now) }
         ensures room { IfSome result (λ _. WantsRoom self.now piece.now) }
         ensures within { IfSome result (λ m. length m.now + 4 ≤ length piece.now) }

@@ -13,7 +13,8 @@ use Rattle.std.specs.declared.alloc.AllocError.{AllocError}
 use Rattle.engine.specs.declared.answer.Answer.{Answer}
 use Rattle.engine.specs.declared.answer.Mode.{Mode as QueryMode}
 use Rattle.engine.specs.declared.fault.EngineFault.{EngineFault}
-use Rattle.engine.specs.Prelude.{rows_in, answer_view, IsAnswer}
+use Rattle.engine.specs.declared.row_cells.Cells.{Cells}
+use Rattle.engine.specs.Prelude.{cells_in, rows_in, answer_view, IsAnswer}
 use Rattle.engine.proofs.Columns.{length-rows_in}
 use Rattle.session.specs.declared.remaining.Remaining.{Remaining}
 use Rattle.session.specs.Prelude.{rows_fitted, remaining_rows}
@@ -64,13 +65,13 @@ rows_in_fitted v width (suc n) cells =
 as_many : (v : Version) (xs ys : List Cell) → shapes xs ≡ map (fitted v) (shapes ys) → length xs ≡ length ys
 as_many v xs ys h = sym (length-map xs shape) ∙ ap length h ∙ length-map (shapes ys) (fitted v) ∙ length-map ys shape
 
-pub as_many_of : (v : Version) (r : Result (Vec Cell Global) AllocError) (cells : List Cell) → IfOk r (λ x. shapes x.items ≡ map (fitted v) (shapes cells)) → IfOk r (λ x. length x.items ≡ length cells)
-as_many_of v (Ok x) cells h = as_many v x.items cells h
+pub as_many_of : (v : Version) (r : Result Cells AllocError) (cells : List Cell) → IfOk r (λ x. shapes (cells_in x) ≡ map (fitted v) (shapes cells)) → IfOk r (λ x. length (cells_in x) ≡ length cells)
+as_many_of v (Ok x) cells h = as_many v (cells_in x) cells h
 as_many_of v (Err e) cells h = tt
 
 -- the rows of an answer are few
 pub few_answered : (mode : QueryMode) (r : Result Answer EngineFault) → IfOk r (λ a. IsAnswer mode (answer_view a)) → IfOk r (λ a. a.rows.count ≤ 1024)
-few_answered mode (Ok a) h = subst (λ (n : ℕ). n ≤ 1024) (length-rows_in a.rows.width a.rows.count (shapes a.rows.cells.items)) h.few_rows
+few_answered mode (Ok a) h = subst (λ (n : ℕ). n ≤ 1024) (length-rows_in a.rows.width a.rows.count (shapes (cells_in a.rows.cells))) h.few_rows
 few_answered mode (Err e) h = tt
 
 -- the first row, where one is left

@@ -7,6 +7,7 @@ use Rattle.messages.specs.Arrivals.{Arrival, Asked, Unread, TooLong}
 use Rattle.packstream.specs.Tree.{Tree}
 use Rattle.packstream.specs.Writing.{whole}
 use Rattle.cells.specs.Shape.{shapes}
+use Rattle.engine.specs.RowCells.{cells_in}
 use Rattle.engine.specs.Views.{EntryView, rows_in, token_view, writes_view}
 use Rattle.session.specs.declared.session.Session.{Session}
 use Rattle.session.specs.declared.waiting.Waiting.{Waiting}
@@ -39,7 +40,7 @@ first_of (x ∷ xs) = Some x
 
 -- the rows that are left, by what is held of them
 abbrev pub remaining_rows : Remaining → List (List Tree)
-remaining_rows r = rows_in r.width r.count (drop r.start (shapes r.cells.items))
+remaining_rows r = rows_in r.width r.count (drop r.start (shapes (cells_in r.cells)))
 
 -- the open result, by what is held of it
 abbrev pub open_of : OpenResult → Open

@@ -1,13 +1,13 @@
 //! A RUN, answered by its engine: the result that it opens, or the FAILURE.
-ghost use Rattle.std.specs.Prelude.{◌≡◌, ◌<◌, ◌≤◌, ◌∷◌, if◌then◌else◌, List, length, None, Result, Ok, unwrap_or, IfOk, OnOk, OnErr};
+ghost use Rattle.std.specs.Prelude.{◌≡◌, ◌<◌, ◌≤◌, ◌∷◌, if◌then◌else◌, List, length, None, Result, Err, unwrap_or, IfOk, OnOk, OnErr};
 ghost use Rattle.messages.specs.View.{RequestView};
 ghost use Rattle.messages.specs.Arrivals.{Arrival, Asked};
 ghost use Rattle.machine.specs.Asks.{kind_of};
 ghost use Rattle.machine.specs.Rows.{row_at};
 ghost use Rattle.engine.specs.Laws.{Runs};
 ghost use Rattle.engine.specs.Limits.{max_rows};
-ghost use Rattle.engine.specs.Views.{AnswerView, QueryFault, token_view, answer_view};
-ghost use Rattle.session.specs.Session.{no_tx, opens, reply_to_run, result_of_answer, in_transaction, with_write};
+ghost use Rattle.engine.specs.Views.{AnswerView, QueryFault, Token, token_view, answer_view};
+ghost use Rattle.session.specs.Session.{no_tx, reply_to_run, result_of_answer, in_transaction, with_write};
 ghost use Rattle.session.specs.Rest.{version_of, cause_of, replies, IsCounted};
 ghost use Rattle.session.specs.Views.{kept_of, kept_before};
 ghost use Rattle.session.specs.Acts.{Steps, after_summary};
@@ -45,76 +45,56 @@ impl Session {
             × (E.entries engine.new ≡ E.entries engine.old)) }
         ensures counted { IfOk result IsCounted }
     {
-        match answered {
-            Ok(answer) => self.opening(answer, token, conn, kind, engine),
-            Err(EngineFault::UnknownText) => self.fail(Fault::UnknownText, conn, kind, engine),
-            Err(EngineFault::Parameter) => self.fail(Fault::Parameter, conn, kind, engine),
-            Err(EngineFault::ReadOnly) => self.fail(Fault::ReadOnly, conn, kind, engine),
-            Err(EngineFault::TooManyRows) => self.fail(Fault::TooManyRows, conn, kind, engine),
-            Err(EngineFault::Memory) => Err(AllocError),
+        match &answered {
+            Ok(answer) => {
+                if self.has_too_many(&answer.write) {
+                    return self.fail(Fault::TooManyWrites, conn, kind, engine);
+                }
+                match put_fields(
+                    self.alloc,
+                    self.version(),
+                    &answer.fields,
+                    &mut self.body,
+                    &mut self.out,
+                ) {
+                    Ok(()) => {}
+                    Err(Unwritten::Memory) => return Err(AllocError),
+                    Err(Unwritten::Because(fault)) => return self.fail(fault, conn, kind, engine),
+                }
+            }
+            Err(fault) => return self.refuse_run(*fault, conn, kind, engine),
         }
+        let Ok(answer) = answered else { unreachable!() };
+        self.take(answer, token, kind)
     }
 
-    /// Opens the result of an answer, unless the transaction would have too many writes then.
-    fn opening<E: Engine>(
+    /// Answers a RUN that the engine refuses.
+    fn refuse_run<E: Engine>(
         &mut self,
-        answer: Answer,
-        token: Option<String>,
+        fault: EngineFault,
         conn: u64,
         kind: Kind,
         engine: &mut E,
     ) -> Result<Worked, AllocError>
         requires some { 0 < length self.old.queue.waiting.items }
-        requires few { answer.rows.count ≤ max_rows }
-        ensures ok { let k = kept_of self.old in
-            (q : RequestView) (later : List Arrival) → k.waiting ≡ Asked q ∷ later
+        ensures ok { (defined : Result AnswerView QueryFault) → Runs (Err fault) defined
+            → let k = kept_of self.old in
+            (q : RequestView) (later : List Arrival) (token : Token) → k.waiting ≡ Asked q ∷ later
             → kind ≡ kind_of q
             → IfOk result (λ w. Steps (replies (E.entries engine.old) k q later
-            (reply_to_run (version_of k) k.state k.tx (token_view token) (Ok (answer_view answer)))) conn k.first w (kept_of self.new)
+            (reply_to_run (version_of k) k.state k.tx token defined)) conn k.first w (kept_of self.new)
             (E.entries engine.old) (E.entries engine.new)) }
         ensures err { OnErr result
             ((kept_of self.new ≡ kept_of self.old)
             × (E.entries engine.new ≡ E.entries engine.old)) }
         ensures counted { IfOk result IsCounted }
     {
-        if self.has_too_many(&answer.write) {
-            return self.fail(Fault::TooManyWrites, conn, kind, engine);
-        }
-        self.open(answer, token, conn, kind, engine)
-    }
-
-    /// Opens a result and writes the SUCCESS with its fields, or the FAILURE if that can't be written.
-    fn open<E: Engine>(
-        &mut self,
-        answer: Answer,
-        token: Option<String>,
-        conn: u64,
-        kind: Kind,
-        engine: &mut E,
-    ) -> Result<Worked, AllocError>
-        requires some { 0 < length self.old.queue.waiting.items }
-        requires few { answer.rows.count ≤ max_rows }
-        ensures ok { let k = kept_of self.old in
-            (q : RequestView) (later : List Arrival) → k.waiting ≡ Asked q ∷ later
-            → kind ≡ kind_of q
-            → IfOk result (λ w. Steps (replies (E.entries engine.old) k q later
-            (opens (version_of k) k.state k.tx (token_view token) (answer_view answer))) conn k.first w (kept_of self.new)
-            (E.entries engine.old) (E.entries engine.new)) }
-        ensures err { OnErr result
-            ((kept_of self.new ≡ kept_of self.old)
-            × (E.entries engine.new ≡ E.entries engine.old)) }
-        ensures counted { IfOk result IsCounted }
-    {
-        match put_fields(
-            self.alloc,
-            self.version(),
-            &answer.fields,
-            &mut self.body,
-            &mut self.out,
-        ) {
-            Ok(()) => self.take(answer, token, kind),
-            Err(Unwritten::Memory) => Err(AllocError),
-            Err(Unwritten::Because(fault)) => self.fail(fault, conn, kind, engine),
+        match fault {
+            EngineFault::UnknownText => self.fail(Fault::UnknownText, conn, kind, engine),
+            EngineFault::Parameter => self.fail(Fault::Parameter, conn, kind, engine),
+            EngineFault::ReadOnly => self.fail(Fault::ReadOnly, conn, kind, engine),
+            EngineFault::TooManyRows => self.fail(Fault::TooManyRows, conn, kind, engine),
+            EngineFault::Memory => Err(AllocError),
         }
     }
 

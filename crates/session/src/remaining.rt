@@ -4,9 +4,10 @@ ghost use Rattle.packstream.specs.Tree.{list};
 ghost use Rattle.packstream.specs.View.{trees_of};
 ghost use Rattle.cells.specs.Shape.{shape, shapes};
 ghost use Rattle.structures.specs.Fitting.{fitted};
+ghost use Rattle.engine.specs.RowCells.{cells_in};
 ghost use Rattle.wire.specs.declared.Version.{Version as AnyVersion};
 
-use engine::Rows;
+use engine::{Cells, Rows};
 use std::alloc::{AllocError, Global};
 use structures::{Cell, fit};
 use wire::Version;
@@ -14,11 +15,11 @@ use wire::Version;
 /// Rows of as many cells each, one behind the other. The cells before the first row are of rows that are gone, and go with the last.
 #[derive(Drop)]
 pub(crate) struct Remaining {
-    pub cells: Vec<Cell>,
+    pub cells: Cells,
     pub width: usize,
     pub start: usize,
     pub count: usize,
-    ghost whole: { start + count * width ≡ length cells.items },
+    ghost whole: { start + count * width ≡ length (cells_in cells) },
 }
 
 impl Remaining {
@@ -35,7 +36,7 @@ impl Remaining {
         ensures count { result.count ≡ 0 }
     {
         Remaining {
-            cells: Vec::new(alloc),
+            cells: Cells::none(alloc),
             width: 0,
             start: 0,
             count: 0,
@@ -100,10 +101,10 @@ impl Remaining {
 }
 
 /// Cells in the form of a version.
-fn fitted_cells(alloc: Global, version: Version, cells: Vec<Cell>) -> Result<Vec<Cell>, AllocError>
+fn fitted_cells(alloc: Global, version: Version, cells: Cells) -> Result<Cells, AllocError>
     ensures shapes { IfOk result
-        (λ r. shapes r.items ≡ map (fitted version) (shapes cells.items)) }
-    ensures len { IfOk result (λ r. length r.items ≡ length cells.items) }
+        (λ r. shapes (cells_in r) ≡ map (fitted version) (shapes (cells_in cells))) }
+    ensures len { IfOk result (λ r. length (cells_in r) ≡ length (cells_in cells)) }
 {
     if are_plain(cells.as_slice()) {
         return Ok(cells);
@@ -112,8 +113,16 @@ fn fitted_cells(alloc: Global, version: Version, cells: Vec<Cell>) -> Result<Vec
 }
 
 #[inline(never)]
+fn fit_cells(alloc: Global, version: Version, cells: Cells) -> Result<Cells, AllocError>
+    ensures { IfOk result
+        (λ r. shapes (cells_in r) ≡ map (fitted version) (shapes (cells_in cells))) }
+{
+    let list = cells.into_vec(alloc)?;
+    Ok(Cells::Many(fit_list(alloc, version, list)?))
+}
+
 #[tactic(auto, using(crate::proofs::Listed::row_is))]
-fn fit_cells(alloc: Global, version: Version, cells: Vec<Cell>) -> Result<Vec<Cell>, AllocError>
+fn fit_list(alloc: Global, version: Version, cells: Vec<Cell>) -> Result<Vec<Cell>, AllocError>
     ensures { IfOk result (λ r. shapes r.items ≡ map (fitted version) (shapes cells.items)) }
 {
     match fit(alloc, Cell::List(cells), version) {

@@ -84,7 +84,7 @@ fn reads(answer: &Answer, name: &str, values: &[Plain]) -> bool {
     if answer.rows.width != 1 || answer.rows.count != values.len() {
         return false;
     }
-    for (cell, value) in answer.rows.cells.iter().zip(values) {
+    for (cell, value) in answer.rows.cells.as_slice().iter().zip(values) {
         if !is_cell(cell, value) {
             return false;
         }

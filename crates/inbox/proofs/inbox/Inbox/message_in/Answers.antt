@@ -1,8 +1,21 @@
-use Rattle.std.proofs.Common.{◌≡◌, ◌≤◌, ◌+◌, length, subst}
+use Rattle.std.proofs.Common.{◌≡◌, ◌∙◌, ◌≤◌, ◌+◌, ap, length, subst, sym}
 use Rattle.wire.specs.Prelude.{Unfinished, takes, chunks}
 use Rattle.inbox.specs.Taking.{whole_message, WantsRoom}
-use Rattle.inbox.proofs.Fronts.{first_takes, first_wants, first_within, whole_is}
+use Rattle.inbox.proofs.Fronts.{at_start, first_takes, first_wants, first_within, none_come, whole_is}
 use Rattle.inbox.proofs.inbox.Inbox.message_in.Goals as goal
+
+pub returns-clause-lends : goal.returns-clause-lends
+returns-clause-lends c = λ m.
+    let i = c.self.inside in
+    let found = c.message_in.ensures m in (
+      λ e. let f = found.0 e in (sym c.self.view_is ∙ none_come m c.args.piece.now f.1 i.stream i.begun.item c.self.invariant.at c.if-self.false f.0, f.1),
+      λ k. found.1 (at_start i.stream i.begun.item c.self.invariant.at (c.self.view_is ∙ k.0), k.1),
+    )
+
+pub returns-then-self-clause-lends : goal.returns-then-self-clause-lends
+returns-then-self-clause-lends c = λ m.
+    let over = c.self.invariant.at.over ∙ c.if-self.true in
+    (λ e. absurd cc, λ k. let big = sym over ∙ ap (λ (x : Unfinished). x.too_big) (c.self.view_is ∙ k.0) in absurd cc)
 
 pub returns-clause-takes : goal.returns-clause-takes
 returns-clause-takes c =

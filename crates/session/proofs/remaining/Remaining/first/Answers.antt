@@ -1,4 +1,5 @@
 use Rattle.std.proofs.Common.{◌≡◌, ◌+◌, ◌-◌, arith}
+use Rattle.engine.specs.Prelude.{cells_in}
 use Rattle.session.proofs.Listed.{row_first}
 use Rattle.session.proofs.remaining.Remaining.first.Goals as goal
 
@@ -6,4 +7,4 @@ pub returns : goal.returns
 returns c = λ row rest e.
     let s = c.args.self.now in
     let n : s.start + s.width - s.start ≡ s.width = omega arith in
-    rw (n, c.as_slice.ensures.value) (row_first s.cells.items s.start s.width s.count row rest c.requires e)
+    rw (n, c.as_slice.ensures) (row_first (cells_in s.cells) s.start s.width s.count row rest c.requires e)

@@ -1,9 +1,10 @@
 use Rattle.std.proofs.Common.{◌-◌, arith}
 use Rattle.cells.specs.Prelude.{shapes}
+use Rattle.engine.specs.Prelude.{cells_in}
 use Rattle.session.proofs.Listed.{rows_behind}
 use Rattle.session.proofs.remaining.Remaining.pass.Goals as goal
 
 pub returns-then-self-gt0-clause-rows : goal.returns-then-self-gt0-clause-rows
 returns-then-self-gt0-clause-rows c =
     let s = c.args.self.now in
-    rows_behind (shapes s.cells.items) s.start s.width s.count (s.count - 1) (omega (arith, c.if-self-gt0.true))
+    rows_behind (shapes (cells_in s.cells)) s.start s.width s.count (s.count - 1) (omega (arith, c.if-self-gt0.true))
