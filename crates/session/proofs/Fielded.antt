@@ -64,17 +64,17 @@ a_cell : (v : Version) (ss : List (List ℕ)) → All IsUtf8 ss → IsCell v (me
 a_cell v ss u = (metadata_of ss, (good ss u).plain, ((0, ap (scan (structure_fault v) 0) (bare ss)), rw (themselves ss) refl))
 
 -- the parts, one after another, are the metadata
-pub joined : (ss : List (List ℕ)) (old a b c new : List ℕ) → length ss ≤ 15 → a ≡ old ++ 0 ∷ 0 ∷ 0xB1 ∷ 0x70 ∷ 0xA2 ∷ 0x86 ∷ codes "fields" → b ≡ a ++ (0x90 + length ss) ∷ [] → c ≡ b ++ canon_all (names_in ss) → new ≡ c ++ 0x87 ∷ (codes "t_first" ++ 0 ∷ [])
+pub joined : (ss : List (List ℕ)) (old a c new : List ℕ) → length ss ≤ 15 → a ≡ old ++ 0 ∷ 0 ∷ 0xB1 ∷ 0x70 ∷ 0xA2 ∷ 0x86 ∷ (codes "fields" ++ (0x90 + length ss) ∷ []) → c ≡ a ++ canon_all (names_in ss) → new ≡ c ++ 0x87 ∷ (codes "t_first" ++ 0 ∷ [])
     → new ≡ (old ++ 0 ∷ 0 ∷ 0xB1 ∷ 0x70 ∷ []) ++ canon (metadata_of ss)
 unfolding head int_bytes
-joined ss old a b c new few p q r s =
+joined ss old a c new few p r s =
     let m = canon_all (names_in ss) in
     let t : List ℕ = 0x87 ∷ (codes "t_first" ++ 0 ∷ []) in
     let f : List ℕ = 0 ∷ 0 ∷ 0xB1 ∷ 0x70 ∷ 0xA2 ∷ 0x86 ∷ codes "fields" in
     let h : List ℕ = (0x90 + length ss) ∷ [] in
     let e : head 0x90 0xD4 (count (names_in ss)) ≡ h = ap (head 0x90 0xD4) (counted ss) ∙ small_head 0x90 0xD4 (length ss) few in
-    s ∙ ap (λ x. x ++ t) (r ∙ ap (λ x. x ++ m) (q ∙ ap (λ x. x ++ h) p))
-    ∙ append_assoc ((old ++ f) ++ h) m t ∙ append_assoc (old ++ f) h (m ++ t) ∙ append_assoc old f (h ++ (m ++ t))
+    s ∙ ap (λ x. x ++ t) (r ∙ ap (λ x. x ++ m) p)
+    ∙ append_assoc (old ++ (f ++ h)) m t ∙ append_assoc old (f ++ h) (m ++ t)
     ∙ ap (λ x. old ++ (f ++ x)) (sym (append_assoc h m t)) ∙ ap (λ x. old ++ (f ++ ((x ++ m) ++ t))) (sym e)
     ∙ sym (append_assoc old (0 ∷ 0 ∷ 0xB1 ∷ 0x70 ∷ []) (canon (metadata_of ss)))
 

@@ -32,18 +32,23 @@ unfolding head
 small_head tiny m n h = let e : nat_lt n 16 ≡ true = grind (arith, nat_tests) in rw e refl
 
 -- a bookmark of few digits
-pub bookmarked : (digits old a b new : List ℕ) → length digits ≤ 12 → a ≡ old ++ 0x88 ∷ codes "bookmark" → b ≡ a ++ (0x80 + (3 + length digits)) ∷ codes "bk:" → new ≡ b ++ digits
-    → new ≡ old ++ (text_bytes (codes "bookmark") ++ text_bytes (codes "bk:" ++ digits))
+pub bookmarked : (digits old a new : List ℕ) → length digits ≤ 12 → a ≡ old ++ (0x80 + (3 + length digits)) ∷ codes "bk:" → new ≡ a ++ digits
+    → new ≡ old ++ text_bytes (codes "bk:" ++ digits)
 unfolding head
-bookmarked digits old a b new few p q r =
-    let k : List ℕ = 0x88 ∷ codes "bookmark" in
+bookmarked digits old a new few p q =
     let n : ℕ = 3 + length digits in
     let h : List ℕ = (0x80 + n) ∷ codes "bk:" in
     let m : ℕ = length (codes "bk:" ++ digits) in
     let same : m ≡ n = omega arith in
     let e : head 0x80 0xD0 m ≡ (0x80 + n) ∷ [] = small_head 0x80 0xD0 m (omega (arith, few, same)) ∙ ap (λ x. (0x80 + x) ∷ []) same in
-    r ∙ ap (λ x. x ++ digits) (q ∙ ap (λ x. x ++ h) p) ∙ append_assoc (old ++ k) h digits ∙ append_assoc old k (h ++ digits)
-    ∙ ap (λ x. old ++ (k ++ (x ++ (codes "bk:" ++ digits)))) (sym e)
+    q ∙ ap (λ x. x ++ digits) p ∙ append_assoc old h digits ∙ ap (λ x. old ++ (x ++ (codes "bk:" ++ digits))) (sym e)
+
+-- the head of a SUCCESS of so many entries, and the first of them, a bookmark
+pub marked : (n : ℕ) (old a b mark : List ℕ) → a ≡ old ++ 0xB1 ∷ 0x70 ∷ n ∷ 0x88 ∷ codes "bookmark" → b ≡ a ++ mark → b ≡ (old ++ 0xB1 ∷ 0x70 ∷ n ∷ []) ++ (text_bytes (codes "bookmark") ++ mark)
+unfolding head
+marked n old a b mark p q =
+    q ∙ ap (λ x. x ++ mark) p ∙ append_assoc old (0xB1 ∷ 0x70 ∷ n ∷ 0x88 ∷ codes "bookmark") mark
+    ∙ sym (append_assoc old (0xB1 ∷ 0x70 ∷ n ∷ []) (0x88 ∷ (codes "bookmark" ++ mark)))
 
 -- the run of its text is the summary's
 pub summary_run : (v : Version) (s : Summary) (run : List ℕ) → IsShort s → run ≡ written_run (canon (form_of s)) → IsRun v (response_of_summary s) run

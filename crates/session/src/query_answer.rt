@@ -1,5 +1,5 @@
 //! What a query's answer opens.
-ghost use Rattle.std.specs.Prelude.{◌≡◌, ◌+◌, ◌≤◌, ◌∷◌, [], ◌++◌, true, false, if◌then◌else◌, length, map, option_map, option_to_list, IfOk, OnOk, OnErr, IfErr, All, IsUtf8};
+ghost use Rattle.std.specs.Prelude.{◌≡◌, ◌+◌, ◌≤◌, ◌∷◌, [], ◌++◌, true, false, if◌then◌else◌, length, codes, map, option_map, option_to_list, IfOk, OnOk, OnErr, IfErr, All, IsUtf8};
 ghost use Rattle.messages.specs.View.{response_view};
 ghost use Rattle.cells.specs.Shape.{shapes};
 ghost use Rattle.packstream.specs.Writing.{whole};
@@ -100,11 +100,19 @@ fn add_fields(fields: &Names, out: &mut Output) -> Result<(), Unspelled>
         ++ canon (dict (entries_of (fields_told (names_view fields.now))))) }
     ensures texts { OnOk result (All IsUtf8 (names_view fields.now)) }
 {
-    out.extend_from_slice(b"\0\0\xB1\x70\xA2\x86fields")?;
-    out.push(head_of(fields.count()))?;
+    out.extend_from_slice(&success_of(head_of(fields.count())))?;
     put_names(fields, out)?;
     out.extend_from_slice(b"\x87t_first\x00")?;
     Ok(())
+}
+
+/// A place for a header, and a SUCCESS up to the list of its fields, which begins with this byte.
+fn success_of(head: u8) -> [u8; 13]
+    ensures { result ≡ 0 ∷ 0 ∷ 0xB1 ∷ 0x70 ∷ 0xA2 ∷ 0x86 ∷ (codes "fields" ++ head ∷ []) }
+{
+    let mut front = *b"\0\0\xB1\x70\xA2\x86fields\0";
+    front[12] = head;
+    front
 }
 
 /// The byte before a list of few members.

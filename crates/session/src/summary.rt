@@ -79,16 +79,6 @@ impl<'a> Summary<'a> {
     }
 }
 
-/// The head of a SUCCESS with so many entries.
-fn put_success(out: &mut Output, count: u8) -> Result<(), AllocError>
-    requires { count ≤ 15 }
-    ensures before { out.new.before ≡ out.old.before }
-    ensures ok { OnOk result (out.new.more
-        ≡ out.old.more ++ 0xB1 ∷ 0x70 ∷ (0xA0 + count) ∷ []) }
-{
-    out.extend_from_slice(&[0xB1, 0x70, 0xA0 + count])
-}
-
 /// An entry that holds a text.
 #[tactic(auto, using(packstream::proofs::Putting::three_parts))]
 fn put_entry(out: &mut Output, key: &str, text: &str) -> Result<(), AllocError>
@@ -149,30 +139,29 @@ fn put_greeting(out: &mut Output, agent: &str, conn: u64) -> Result<(), AllocErr
         ≡ out.old.more ++ canon (form_of (Greeting agent.now conn))) }
     ensures short { IsShort (Greeting agent.now conn) }
 {
-    put_success(out, 2)?;
+    out.extend_from_slice(&[0xB1, 0x70, 0xA2])?;
     put_entry(out, "server", agent)?;
     put_numbered(out, "connection_id", "bolt-", conn)?;
     Ok(())
 }
 
-/// The entry of a bookmark.
+/// The text of a bookmark.
 fn put_bookmark(out: &mut Output, place: u64) -> Result<(), AllocError>
     ensures before { out.new.before ≡ out.old.before }
     ensures ok { OnOk result (out.new.more
-        ≡ out.old.more ++ (text_bytes (codes "bookmark") ++ text_bytes (codes "bk:" ++ decimal place))) }
+        ≡ out.old.more ++ text_bytes (codes "bk:" ++ decimal place)) }
 {
     let mut buffer = Buffer::new();
     put_bookmark_of(out, buffer.format(place))
 }
 
-/// The entry of the bookmark with these digits.
+/// The text of the bookmark with these digits.
 fn put_bookmark_of(out: &mut Output, digits: &str) -> Result<(), AllocError>
     requires { length digits.now ≤ 40 }
     ensures before { out.new.before ≡ out.old.before }
     ensures ok { OnOk result (out.new.more
-        ≡ out.old.more ++ (text_bytes (codes "bookmark") ++ text_bytes (codes "bk:" ++ digits.now))) }
+        ≡ out.old.more ++ text_bytes (codes "bk:" ++ digits.now)) }
 {
-    out.extend_from_slice(b"\x88bookmark")?;
     if digits.len() > 12 {
         return put_parts(out, "bk:", digits);
     }
@@ -197,7 +186,7 @@ fn put_last_at(out: &mut Output, place: u64, mode: Mode) -> Result<(), AllocErro
         ≡ out.old.more ++ canon (form_of (Closing (Some place) mode))) }
     ensures short { IsShort (Closing (Some place) mode) }
 {
-    put_success(out, 3)?;
+    out.extend_from_slice(b"\xB1\x70\xA3\x88bookmark")?;
     put_bookmark(out, place)?;
     out.extend_from_slice(ending_of(mode))?;
     Ok(())
@@ -209,7 +198,7 @@ fn put_committed(out: &mut Output, place: u64) -> Result<(), AllocError>
         ≡ out.old.more ++ canon (form_of (Committed place))) }
     ensures short { IsShort (Committed place) }
 {
-    put_success(out, 1)?;
+    out.extend_from_slice(b"\xB1\x70\xA1\x88bookmark")?;
     put_bookmark(out, place)?;
     Ok(())
 }
