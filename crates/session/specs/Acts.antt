@@ -96,6 +96,11 @@ abbrev pub Refuses : Version → ResponseView → Unwritten → Type 0
 Refuses v m unwritten.Memory = Unit {0}
 Refuses v m (unwritten.Because f) = IsRefused v m f
 
+-- this is the reply that fails so, if it isn't for want of memory
+abbrev pub FailsBy : Unwritten → Reply → Type 0
+FailsBy unwritten.Memory reply = Unit {0}
+FailsBy (unwritten.Because f) reply = fails f ≡ reply
+
 -- the result that is open after a summary, by the one that was open before
 abbrev pub left_result : After → Open → Open
 left_result (after.Rest n) left = record left { rows = drop n left.rows; written = 0 }

@@ -202,11 +202,15 @@ result_of_answer v s token a =
       token = if in_transaction s then None else token;
     }
 
+-- the SUCCESS of a RUN whose answer is opened
+abbrev pub opened : Version → State → Tx → Token → AnswerView → Reply
+opened v s tx token a =
+    Summary Verdict.Success (fields_said a.fields) (result_of_answer v s token a)
+    (if in_transaction s then with_write tx a.write else no_tx) None
+
 -- the reply to a RUN whose answer is opened, if the SUCCESS with its fields can be written
 abbrev pub opens : Version → State → Tx → Token → AnswerView → Reply
-opens v s tx token a = if_fits v (fields_said a.fields)
-    (Summary Verdict.Success (fields_said a.fields) (result_of_answer v s token a)
-    (if in_transaction s then with_write tx a.write else no_tx) None)
+opens v s tx token a = if_fits v (fields_said a.fields) (opened v s tx token a)
 
 -- the reply to a RUN, by what the engine answers
 abbrev pub reply_to_run : Version → State → Tx → Token → Result AnswerView QueryFault → Reply

@@ -1,5 +1,5 @@
 //! What the first request is answered, decided before anything is changed.
-ghost use Rattle.std.specs.Prelude.{◌≡◌, ℕ, ◌≤◌, if◌then◌else◌, ◌&&◌, not, true, false, is_some, option_map, nat_le, ◌==◌, List, length, Ok, Result, IfOk, []};
+ghost use Rattle.std.specs.Prelude.{◌≡◌, ℕ, ◌≤◌, if◌then◌else◌, ◌&&◌, not, true, false, is_some, ◌==◌, List, length, Ok, Result, IfOk, []};
 ghost use Rattle.messages.specs.View.{request_view, auth_view, auth_in};
 ghost use Rattle.messages.specs.Summaries.{response_of_summary};
 ghost use Rattle.machine.specs.Asks.{kind_of};
@@ -8,15 +8,13 @@ ghost use Rattle.wire.specs.declared.Version.{Version as AnyVersion};
 ghost use Rattle.machine.specs.declared.states.State.{State as AnyState};
 ghost use Rattle.engine.specs.declared.answer.Mode.{Mode as QueryMode};
 ghost use Rattle.engine.specs.Laws.{Runs};
-ghost use Rattle.engine.specs.Views.{WriteView, ParameterView, EntryView, AnswerView, QueryFault, token_view, write_view, parameters_view, answer_view};
-ghost use Rattle.session.specs.Session.{Open, Tx, serve, perform, greets, reply_to_login, passed_over, reply_to_run, query_mode, in_transaction, used_up};
+ghost use Rattle.engine.specs.Views.{WriteView, ParameterView, EntryView, AnswerView, QueryFault, token_view};
+ghost use Rattle.session.specs.Session.{Open, Tx, serve, perform, greets, reply_to_login, passed_over, query_mode, used_up};
 ghost use Rattle.session.specs.Rest.{version_of};
 ghost use Rattle.session.specs.Views.{kept_of};
 ghost use Rattle.session.specs.Acts.{reply_of, streams, owes_row, runs, asked_by, token_of_run, served_interrupted, summary_of};
-ghost use Rattle.session.specs.Limits.{max_writes};
 ghost use Rattle.engine.specs.Limits.{max_rows};
 
-use crate::MAX_WRITES;
 use crate::acts::{Act, After};
 use crate::agent::Agent;
 use crate::fault::Fault;
@@ -25,7 +23,7 @@ use crate::result_end::{commit_of, committed};
 use crate::session::Session;
 use crate::summary::Summary;
 use crate::words::{count_of, is_halted, is_in_transaction, is_streaming, is_used_up, query_mode};
-use engine::{Answer, Engine, EngineFault, Gate, Write};
+use engine::{Answer, Engine, EngineFault, Gate};
 use machine::{Kind, Verdict, is_goodbye, is_reset, kind, row};
 use messages::{Auth, Count, Request};
 use std::alloc::AllocError;
@@ -192,17 +190,6 @@ impl Session {
             );
         }
         engine.run(&[], text.as_str(), params.as_slice(), query_mode(*mode))
-    }
-
-    /// Whether the transaction would have too many writes with this one.
-    #[tactic(auto, using(crate::proofs::Writes::length_view))]
-    pub(crate) fn has_too_many(&self, write: &Option<Write>) -> bool
-        ensures { let k = kept_of self.now in result
-            ≡ (in_transaction k.state
-            && (is_some (option_map write_view write.now)
-            && nat_le max_writes (length k.tx.writes))) }
-    {
-        is_in_transaction(self.state) && write.is_some() && self.tx.writes.len() >= MAX_WRITES
     }
 }
 

@@ -1,5 +1,5 @@
 //! What a query's answer opens.
-ghost use Rattle.std.specs.Prelude.{◌≡◌, ◌+◌, ◌≤◌, ◌∷◌, [], ◌++◌, true, false, if◌then◌else◌, length, codes, map, option_map, option_to_list, IfOk, OnOk, OnErr, IfErr, All, IsUtf8};
+ghost use Rattle.std.specs.Prelude.{◌≡◌, ◌+◌, ◌≤◌, ◌∷◌, [], ◌++◌, true, false, if◌then◌else◌, length, codes, map, option_map, option_to_list, Some, IfOk, OnOk, OnErr, IfErr, All, IsUtf8};
 ghost use Rattle.messages.specs.View.{response_view};
 ghost use Rattle.cells.specs.Shape.{shapes};
 ghost use Rattle.packstream.specs.Writing.{whole};
@@ -178,10 +178,22 @@ pub(crate) fn open_result(
     ensures open_kept { OnErr result (open_of left.new ≡ open_of left.old) }
     ensures tx_kept { OnErr result (tx_of tx.new ≡ tx_of tx.old) }
 {
-    let rows = Remaining::fitted(alloc, version, answer.rows)?;
-    let mode = result_mode(answer.mode);
+    let Answer {
+        fields: _,
+        rows,
+        write,
+        mode,
+    } = answer;
+    let rows = match Remaining::fitted(alloc, version, rows) {
+        Ok(rows) => rows,
+        Err(AllocError) => {
+            drop_write(write, token);
+            return Err(AllocError);
+        }
+    };
+    let mode = result_mode(mode);
     if is_in_transaction(state) {
-        join_write(&mut tx.writes, answer.write)?;
+        join_write(&mut tx.writes, write)?;
         *left = OpenResult {
             rows,
             mode,
@@ -191,7 +203,7 @@ pub(crate) fn open_result(
         };
         return Ok(());
     }
-    let writes = writes_of(alloc, answer.write)?;
+    let writes = writes_of(alloc, write)?;
     *left = OpenResult {
         rows,
         mode,
@@ -202,6 +214,10 @@ pub(crate) fn open_result(
     *tx = Transaction::none(alloc);
     Ok(())
 }
+
+/// Drops the write of a result, with the token of its RUN. It is a call, so that a result that is opened doesn't pay for the locals of a drop.
+#[inline(never)]
+fn drop_write(_write: Option<Write>, _token: Option<String>) {}
 
 /// The transaction takes over the write of a result, if it has one.
 fn join_write(writes: &mut Vec<Write>, write: Option<Write>) -> Result<(), AllocError>
@@ -225,8 +241,16 @@ pub(crate) fn copy_token(token: &Option<String>) -> Result<Option<String>, Alloc
 {
     match token {
         None => Ok(None),
-        Some(token) => Ok(Some(token.clone()?)),
+        Some(token) => copy_text(token),
     }
+}
+
+/// A copy of a token that is there. It is a call, so that a request without one doesn't pay for its locals.
+#[inline(never)]
+fn copy_text(token: &String) -> Result<Option<String>, AllocError>
+    ensures { IfOk result (λ t. token_view t ≡ token_view (Some token.now)) }
+{
+    Ok(Some(token.clone()?))
 }
 
 fn writes_of(alloc: Global, write: Option<Write>) -> Result<Vec<Write>, AllocError>

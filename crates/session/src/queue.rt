@@ -34,6 +34,7 @@ impl Queue {
 
     /// Takes a slot, of which one is left. Takes no memory.
     #[tactic(auto, using(crate::proofs::Queues::count_pushed, crate::proofs::Queues::count_few))]
+    #[inline(always)]
     pub(crate) fn push(&mut self, waiting: Waiting)
         requires { length self.old.waiting.items < max_waiting }
         ensures { self.new.waiting.items ≡ self.old.waiting.items ++ waiting ∷ [] }

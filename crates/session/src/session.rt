@@ -163,6 +163,7 @@ impl Session {
     }
 
     /// What was asked goes into the queue.
+    #[inline(always)]
     fn take_asked(&mut self, asked: Result<Request, MsgFault>) -> Result<What, AllocError>
         requires place { length self.old.queue.waiting.items < max_waiting }
         requires ordinal { self.old.first + length self.old.queue.waiting.items < max_ordinals }

@@ -1,11 +1,10 @@
 //! The responses of a session but its rows and the SUCCESS of a RUN.
-ghost use Rattle.std.specs.Prelude.{◌≡◌, ◌≤◌, ◌+◌, ◌∷◌, [], ◌++◌, length, codes, OnOk, Some, IfSome, IsNone, false};
+ghost use Rattle.std.specs.Prelude.{◌≡◌, ◌≤◌, ◌+◌, [], ◌++◌, length, codes, OnOk, Some, IfSome, IsNone, false};
 ghost use Rattle.std.specs.Fmt.{decimal};
 ghost use Rattle.packstream.specs.Canon.{head, text_bytes, canon, canon_entries};
 ghost use Rattle.packstream.specs.Limits.{max_size};
 ghost use Rattle.packstream.specs.Tree.{text};
 ghost use Rattle.packstream.specs.View.{entries_of};
-ghost use Rattle.messages.specs.Reading.{mode_tree};
 ghost use Rattle.messages.specs.Summaries.{Greeting, Closing, Committed, ending, form_of, IsShort};
 ghost use Rattle.engine.specs.Limits.{max_agent};
 ghost use Rattle.wire.specs.Texts.{written_run};
