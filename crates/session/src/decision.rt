@@ -159,7 +159,9 @@ impl Session {
         }
     }
 
-    /// What the engine answers to a RUN: over the transaction's own writes and in its mode, or over none in the mode of the RUN.
+    /// What the engine answers to a RUN: over the transaction's own writes and in its mode, or over none in the mode of the RUN. It is a call, so
+    /// that the answer is put where the caller has it.
+    #[inline(never)]
     pub(crate) fn ask<E: Engine>(
         &self,
         request: &Request,

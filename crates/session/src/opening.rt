@@ -1,5 +1,5 @@
 //! A RUN, answered by its engine: the result that it opens, or the FAILURE.
-ghost use Rattle.std.specs.Prelude.{◌≡◌, ◌<◌, ◌≤◌, ◌∷◌, ◌&&◌, if◌then◌else◌, List, length, nat_le, None, is_some, option_map, Result, Ok, Err, unwrap_or, IsOk, IfOk, IfErr, OnOk, OnErr};
+ghost use Rattle.std.specs.Prelude.{◌≡◌, ◌<◌, ◌≤◌, ◌∷◌, ◌&&◌, if◌then◌else◌, List, length, nat_le, true, None, is_some, option_map, Result, Ok, Err, unwrap_or, IsOk, IfOk, IfErr, OnOk, OnErr};
 ghost use Rattle.packstream.specs.Writing.{whole};
 ghost use Rattle.wire.specs.declared.Version.{Version as AnyVersion};
 ghost use Rattle.machine.specs.declared.states.State.{State as AnyState};
@@ -14,9 +14,11 @@ ghost use Rattle.session.specs.Session.{Reply, Tx, fields_said, in_transaction, 
 ghost use Rattle.session.specs.Limits.{max_writes};
 ghost use Rattle.session.specs.Rest.{version_of, cause_of, replies, IsCounted};
 ghost use Rattle.session.specs.Views.{kept_of, kept_before, tx_of};
-ghost use Rattle.session.specs.Acts.{FailsBy, IsRun, Steps, after_summary};
+ghost use Rattle.session.specs.Acts.{FailsBy, IsRun, Steps, after_summary, asked_by, runs, token_of_run, turn_in};
 
 use crate::MAX_WRITES;
+use crate::acts::Turn;
+use crate::decision::token_of;
 use crate::fault::Fault;
 use crate::kinds::Worked;
 use crate::query_answer::{open_result, put_fields};
@@ -26,35 +28,38 @@ use crate::spelling::Unwritten;
 use crate::words::is_in_transaction;
 use bytes::BytesMut;
 use engine::{Answer, Engine, EngineFault, Write};
-use machine::{Kind, State, Verdict};
+use machine::{Kind, State, Verdict, kind};
 use speller::Output;
 use std::alloc::{AllocError, Global};
 use wire::Version;
 
 impl Session {
-    /// Opens the result of an engine's answer to a RUN with this token, or tells its refusal.
-    pub(crate) fn ran<E: Engine>(
+    /// Answers the first request, a RUN that has a row in the state: opens the result of its engine's answer, or tells its refusal. It is a call,
+    /// so that no other step pays for its locals.
+    #[inline(never)]
+    pub(crate) fn answer_run<E: Engine>(
         &mut self,
-        answered: Result<Answer, EngineFault>,
-        token: Option<String>,
         conn: u64,
-        kind: Kind,
         engine: &mut E,
     ) -> Result<Worked, AllocError>
-        requires some { 0 < length self.old.queue.waiting.items }
-        requires few { IfOk answered (λ a. a.rows.count ≤ max_rows) }
-        ensures ok { (defined : Result AnswerView QueryFault) → Runs answered defined
-            → let k = kept_of self.old in
+        requires turn { turn_in (kept_of self.old).waiting ≡ Turn.Serves }
+        requires run { let k = kept_of self.old in (q : RequestView) (later : List Arrival)
+            → k.waiting ≡ Asked q ∷ later → runs (version_of k) k.state q ≡ true }
+        ensures ok { let k = kept_of self.old in
             (q : RequestView) (later : List Arrival) → k.waiting ≡ Asked q ∷ later
-            → kind ≡ kind_of q
             → IfOk result (λ w. Steps (replies (E.entries engine.old) k q later
-            (reply_to_run (version_of k) k.state k.tx (token_view token) defined)) conn k.first w (kept_of self.new)
+            (reply_to_run (version_of k) k.state k.tx (token_of_run q)
+            (asked_by E.answer (E.entries engine.old) k.state k.tx q))) conn k.first w (kept_of self.new)
             (E.entries engine.old) (E.entries engine.new)) }
         ensures err { OnErr result
             ((kept_of self.new ≡ kept_of self.old)
             × (E.entries engine.new ≡ E.entries engine.old)) }
         ensures counted { IfOk result IsCounted }
     {
+        let request = self.queue.request();
+        let asked = kind(request);
+        let token = token_of(request)?;
+        let answered = self.ask(request, engine);
         match put_opening(
             self.alloc,
             self.version(),
@@ -67,11 +72,11 @@ impl Session {
             Ok(()) => {}
             Err(why) => {
                 drop_answered(answered, token);
-                return self.refuse_run(why, conn, kind, engine);
+                return self.refuse_run(why, conn, asked, engine);
             }
         }
         let Ok(answer) = answered else { unreachable!() };
-        self.take(answer, token, kind)
+        self.take(answer, token, asked)
     }
 
     /// Answers the first request by a FAILURE, unless it is memory that is wanted.

@@ -5,15 +5,15 @@ ghost use Rattle.messages.specs.Arrivals.{Arrival, Asked};
 ghost use Rattle.machine.specs.Asks.{kind_of};
 ghost use Rattle.machine.specs.Rows.{row_at};
 ghost use Rattle.machine.specs.Following.{interruptible};
-ghost use Rattle.session.specs.Session.{fails, reply_to_run};
+ghost use Rattle.session.specs.Session.{fails};
 ghost use Rattle.session.specs.Rest.{version_of, cause_of, replies, reset_among, serves, turns, stepped, commit_entries, IsCounted, MayStep};
 ghost use Rattle.session.specs.Views.{kept_of, kept_before, snapshot_of};
-ghost use Rattle.session.specs.Acts.{IsFree, IsSized, SendsRow, Steps, reply_of, owes_row, runs, asked_by, token_of_run, row_reply, entry_in, length_after, left_result, left_tx, left_entry, after_bytes, after_summary, turn_in};
+ghost use Rattle.session.specs.Acts.{IsFree, IsSized, SendsRow, Steps, reply_of, owes_row, runs, row_reply, entry_in, length_after, left_result, left_tx, left_entry, after_bytes, after_summary, turn_in};
 
 use crate::MAX_UNSENT;
 use crate::acts::{Act, After, Turn};
 use crate::commit::leave;
-use crate::decision::{interrupted, token_of};
+use crate::decision::interrupted;
 use crate::fault::Fault;
 use crate::kinds::{Cause, Worked};
 use crate::rows::{put_first, spell_first};
@@ -106,7 +106,7 @@ impl Session {
     }
 
     /// Answers the first request, if no RESET interrupts and no row is owed to it.
-    #[inline(never)]
+    #[inline(always)]
     fn answer_next<E: Engine, G: Gate>(
         &mut self,
         conn: u64,
@@ -126,26 +126,29 @@ impl Session {
             × (E.entries engine.new ≡ E.entries engine.old)) }
         ensures counted { IfOk result IsCounted }
     {
-        let request = self.queue.request();
-        if self.runs(request) {
+        if self.runs(self.queue.request()) {
             return self.answer_run(conn, engine);
         }
-        let asked = kind(request);
-        let act = self.decide(conn, request, engine, gate)?;
-        self.perform(self.state, act, conn, asked, engine)
+        self.answer_other(conn, engine, gate)
     }
 
-    /// Answers the first request, a RUN that has a row in the state. It is a call, so that no other step pays for its locals.
+    /// Answers the first request, if that runs no query either. It is a call, so that a RUN doesn't pay for its locals.
     #[inline(never)]
-    fn answer_run<E: Engine>(&mut self, conn: u64, engine: &mut E) -> Result<Worked, AllocError>
+    fn answer_other<E: Engine, G: Gate>(
+        &mut self,
+        conn: u64,
+        engine: &mut E,
+        gate: &G,
+    ) -> Result<Worked, AllocError>
         requires turn { turn_in (kept_of self.old).waiting ≡ Turn.Serves }
-        requires run { let k = kept_of self.old in (q : RequestView) (later : List Arrival)
-            → k.waiting ≡ Asked q ∷ later → runs (version_of k) k.state q ≡ true }
+        requires unowed { let k = kept_of self.old in (q : RequestView) (later : List Arrival)
+            → k.waiting ≡ Asked q ∷ later → owes_row k.state k.result q ≡ false }
+        requires unrun { let k = kept_of self.old in (q : RequestView) (later : List Arrival)
+            → k.waiting ≡ Asked q ∷ later → runs (version_of k) k.state q ≡ false }
         ensures ok { let k = kept_of self.old in
             (q : RequestView) (later : List Arrival) → k.waiting ≡ Asked q ∷ later
-            → IfOk result (λ w. Steps (replies (E.entries engine.old) k q later
-            (reply_to_run (version_of k) k.state k.tx (token_of_run q)
-            (asked_by E.answer (E.entries engine.old) k.state k.tx q))) conn k.first w (kept_of self.new)
+            → IfOk result (λ w. Steps (serves (record { run = E.answer; welcome = G.welcomes gate.now })
+            conn (E.entries engine.old) k q later) conn k.first w (kept_of self.new)
             (E.entries engine.old) (E.entries engine.new)) }
         ensures err { OnErr result
             ((kept_of self.new ≡ kept_of self.old)
@@ -154,9 +157,8 @@ impl Session {
     {
         let request = self.queue.request();
         let asked = kind(request);
-        let token = token_of(request)?;
-        let answered = self.ask(request, engine);
-        self.ran(answered, token, conn, asked, engine)
+        let act = self.decide(conn, request, engine, gate)?;
+        self.perform(self.state, act, conn, asked, engine)
     }
 
     /// Whether a RESET waits that interrupts the state.
