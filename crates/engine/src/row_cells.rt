@@ -1,5 +1,5 @@
 //! The cells of an answer's rows.
-ghost use Rattle.std.specs.Prelude.{◌≡◌, [], length, IfOk};
+ghost use Rattle.std.specs.Prelude.{◌≡◌, [], length, IfOk, OnErr};
 ghost use Rattle.engine.specs.RowCells.{cells_in};
 
 use std::alloc::{AllocError, Global};
@@ -33,7 +33,8 @@ impl Cells {
 
     /// The cells as a list. An `Err` is want of memory, which only a cell that is alone takes.
     pub fn into_vec(self, alloc: Global) -> Result<Vec<Cell>, AllocError>
-        ensures { IfOk result (λ v. v.items ≡ cells_in self) }
+        ensures cells { IfOk result (λ v. v.items ≡ cells_in self) }
+        ensures memory { OnErr result (length (cells_in self) ≡ 1) }
     {
         match self {
             Cells::One(cell) => {
