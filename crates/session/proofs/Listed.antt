@@ -12,7 +12,6 @@ use Rattle.structures.proofs.Fitted.{fitted_list}
 use Rattle.std.specs.declared.alloc.AllocError.{AllocError}
 use Rattle.engine.specs.declared.answer.Answer.{Answer}
 use Rattle.engine.specs.declared.answer.Mode.{Mode as QueryMode}
-use Rattle.engine.specs.declared.fault.EngineFault.{EngineFault}
 use Rattle.engine.specs.declared.row_cells.Cells.{Cells}
 use Rattle.engine.specs.Prelude.{cells_in, rows_in, answer_view, IsAnswer}
 use Rattle.engine.proofs.Columns.{length-rows_in}
@@ -70,9 +69,8 @@ as_many_of v (Ok x) cells h = as_many v (cells_in x) cells h
 as_many_of v (Err e) cells h = tt
 
 -- the rows of an answer are few
-pub few_answered : (mode : QueryMode) (r : Result Answer EngineFault) → IfOk r (λ a. IsAnswer mode (answer_view a)) → IfOk r (λ a. a.rows.count ≤ 1024)
-few_answered mode (Ok a) h = subst (λ (n : ℕ). n ≤ 1024) (length-rows_in a.rows.width a.rows.count (shapes (cells_in a.rows.cells))) h.few_rows
-few_answered mode (Err e) h = tt
+pub few_answered : (mode : QueryMode) (a : Answer) → IsAnswer mode (answer_view a) → a.rows.count ≤ 1024
+few_answered mode a h = subst (λ (n : ℕ). n ≤ 1024) (length-rows_in a.rows.width a.rows.count (shapes (cells_in a.rows.cells))) h.few_rows
 
 -- the first row, where one is left
 pub row_first : (cells : List Cell) (start width n : ℕ) (row : List Tree) (rest : List (List Tree)) → 0 < n → rows_in width n (drop start (shapes cells)) ≡ row ∷ rest → shapes (take width (drop start cells)) ≡ row

@@ -1,5 +1,5 @@
 -- What is decided, as the model's reply.
-use Rattle.std.proofs.Common.{◌≡◌, ◌∙◌, ap, sym, subst, refl, ℕ, suc, ◌<◌, ◌≤◌, Bool, true, false, not, ◌&&◌, ◌==◌, List, [], ◌∷◌, length, drop, None, arith, length-drop, is_some, Result, IfOk}
+use Rattle.std.proofs.Common.{◌≡◌, ◌∙◌, ap, sym, subst, refl, ℕ, suc, ◌<◌, ◌≤◌, Bool, true, false, not, ◌&&◌, ◌==◌, List, [], ◌∷◌, length, drop, None, arith, length-drop, is_some, Result, Ok, Err, IfOk}
 use Rattle.std.specs.declared.alloc.AllocError.{AllocError}
 use Rattle.std.proofs.lemmas.Bool.Decides.{nat_tests}
 use Rattle.session.specs.declared.acts.Act.{Act}
@@ -14,15 +14,20 @@ use Rattle.machine.specs.declared.states.State.TheVariants as states
 use Rattle.machine.specs.declared.kinds.Kind.{Kind}
 use Rattle.machine.specs.declared.rows.Verdict.{Verdict}
 use Rattle.machine.specs.Prelude.{row_at}
-use Rattle.engine.specs.Prelude.{EntryView}
+use Rattle.engine.specs.Prelude.{EntryView, Token}
 use Rattle.session.specs.declared.fault.Fault.{Fault}
 use Rattle.session.specs.declared.spelling.Unwritten.{Unwritten}
 use Rattle.session.specs.declared.spelling.Unwritten.TheVariants as unwritten
-use Rattle.session.specs.Prelude.{Setting, Open, no_result, Tx, Reply, Summary, close, close_last, used_up, count_at, left_after, pull, serve, fits, fails, if_fits, unwritable, IsBody, IsRefused, Refuses, reply_of, streams, owes_row, runs, asked_by, token_of_run, reply_to_run, row_reply}
+use Rattle.session.specs.Prelude.{Setting, Open, no_result, Tx, Reply, Summary, close, close_last, used_up, count_at, left_after, pull, serve, fits, fails, if_fits, unwritable, IsBody, IsRefused, Refuses, reply_of, streams, owes_row, runs, asked_by, token_of, reply_to_run, row_reply}
 
 -- of an act whose reply is another name of the same
-pub acts_same : (v : Version) (s : State) (left : Open) (tx : Tx) (r : Result Act AllocError) (x y : Reply) → x ≡ y → IfOk r (λ act. reply_of v s left tx act ≡ x) → IfOk r (λ act. reply_of v s left tx act ≡ y)
-acts_same v s left tx r x y e h = subst (λ (z : Reply). IfOk r (λ act. reply_of v s left tx act ≡ z)) e h
+pub acts_same : (left : Open) (tx : Tx) (r : Result Act AllocError) (x y : Reply) → x ≡ y → IfOk r (λ act. (token : Token) → reply_of left tx token act ≡ x) → IfOk r (λ act. (token : Token) → reply_of left tx token act ≡ y)
+acts_same left tx r x y e h = subst (λ (z : Reply). IfOk r (λ act. (token : Token) → reply_of left tx token act ≡ z)) e h
+
+-- the same of one token
+pub acts_told : (left : Open) (tx : Tx) (t : Token) (r : Result Act AllocError) (x : Reply) → IfOk r (λ act. (token : Token) → reply_of left tx token act ≡ x) → IfOk r (λ act. reply_of left tx t act ≡ x)
+acts_told left tx t (Ok act) x h = h t
+acts_told left tx t (Err e) x h = tt
 
 -- with these rows left
 abbrev pub more_left : List (List Tree) → Open → Tx → Reply
@@ -101,8 +106,19 @@ pub first_sized : (v : Version) (rows : List (List Tree)) (b : List ℕ) → 0 <
 first_sized v [] b h w = absurd (omega arith)
 first_sized v (r ∷ rs) b h w = let x = (w r rs refl).0 in (x.some, x.few)
 
+-- Neither is worked in Interrupted.
+pub owed_elsewhere : (s : State) (left : Open) (q : RequestView) → owes_row s left q ≡ true → s ≡ states.Interrupted → ⊥
+owed_elsewhere states.Interrupted left (RequestView.Pull n) h e = cc
+owed_elsewhere s left (RequestView.Pull n) h e = cc
+owed_elsewhere s left q h e = absurd cc
+
+pub runs_elsewhere : (v : Version) (s : State) (q : RequestView) → runs v s q ≡ true → s ≡ states.Interrupted → ⊥
+runs_elsewhere v states.Interrupted (RequestView.Run query params mode token) h e = cc
+runs_elsewhere v s (RequestView.Run query params mode token) h e = cc
+runs_elsewhere v s q h e = absurd cc
+
 -- A RUN that has a row in its state is answered by what its engine answers.
-pub run_served : (S : Setting) (v : Version) (c : ℕ) (ledger : List EntryView) (s : State) (left : Open) (tx : Tx) (q : RequestView) → runs v s q ≡ true → reply_to_run v s tx (token_of_run q) (asked_by S.run ledger s tx q) ≡ serve S v c ledger s left tx q
+pub run_served : (S : Setting) (v : Version) (c : ℕ) (ledger : List EntryView) (s : State) (left : Open) (tx : Tx) (q : RequestView) → runs v s q ≡ true → reply_to_run v s tx (token_of q) (asked_by S.run ledger s tx q) ≡ serve S v c ledger s left tx q
 run_served S v c ledger states.Ready left tx (RequestView.Run query params mode token) h = refl
 run_served S v c ledger states.TxReady left tx (RequestView.Run query params mode token) h = refl
 run_served S v c ledger s left tx (RequestView.Run query params mode token) h = absurd cc

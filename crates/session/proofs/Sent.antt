@@ -1,5 +1,5 @@
 -- A row that is spelled where it goes out, as the model's step.
-use Rattle.std.proofs.Common.{◌≡◌, ◌<◌, ◌≤◌, ℕ, suc, true, List, [], ◌∷◌, ◌++◌, length, drop, Result, Ok, Err, IfOk, refl, sym, ap, subst, ◌∙◌, arith}
+use Rattle.std.proofs.Common.{◌≡◌, ◌<◌, ◌≤◌, ℕ, suc, true, List, [], ◌∷◌, ◌++◌, length, drop, Ok, refl, sym, ap, subst, ◌∙◌, arith}
 use Rattle.std.proofs.lemmas.List.{append-nil}
 use Rattle.packstream.specs.Prelude.{Tree, list, trees_of, canon, IsGood, depth}
 use Rattle.wire.specs.declared.Version.{Version}
@@ -15,8 +15,6 @@ use Rattle.messages.specs.Prelude.{RequestView, ResponseView, Arrival, RECORD, c
 use Rattle.messages.proofs.Added.{field_of_cells, formed_cells, appended}
 use Rattle.messages.proofs.Rounds.{response_reads_back}
 use Rattle.engine.specs.Prelude.{EntryView}
-use Rattle.std.specs.declared.alloc.AllocError.{AllocError}
-use Rattle.session.specs.declared.kinds.Worked.{Worked}
 use Rattle.session.specs.declared.kinds.Worked.TheVariants as worked
 use Rattle.session.specs.Prelude.{Open, Reply, OneRow, Kept, Steps, replies, puts, row_reply, version_of, IsPut, SendsRow, fits, IsBody, one_less}
 use Rattle.session.specs.Acts.{after_bytes}
@@ -68,13 +66,11 @@ row_sent ledger k new q later conn some h = by_rows k.result.rows refl some
         subst (λ (x : Reply). Steps (replies ledger k q later x) conn k.first worked.Row new ledger ledger) (sym same) (record { told = refl; kept = kept; ledger = sym (append-nil ledger) })
 
 -- The first row, spelled and then put.
-pub row_put : (ledger : List EntryView) (k new : Kept) (body : List ℕ) (r : Result Worked AllocError) (q : RequestView) (later : List Arrival) (conn : ℕ) → 0 < length k.result.rows
+pub row_put : (ledger : List EntryView) (k new : Kept) (body : List ℕ) (q : RequestView) (later : List Arrival) (conn : ℕ) → 0 < length k.result.rows
     → ((row : List Tree) (rest : List (List Tree)) → k.result.rows ≡ row ∷ rest → IsBody (version_of k) (ResponseView.Record row) body × (fits (version_of k) (ResponseView.Record row) ≡ true))
-    → IfOk r (λ w. (w ≡ worked.Row) × (new ≡ after_bytes body k))
-    → IfOk r (λ w. Steps (replies ledger k q later (row_reply (version_of k) k.result.rows k.result)) conn k.first w new ledger ledger)
-row_put ledger k new body (Err e) q later conn some spelled h = tt
-row_put ledger k new body (Ok w) q later conn some spelled h =
-    let unsent : new.unsent ≡ k.unsent ++ written_run body = ap (λ (x : Kept). x.unsent) h.1 in
+    → new ≡ after_bytes body k → Steps (replies ledger k q later (row_reply (version_of k) k.result.rows k.result)) conn k.first worked.Row new ledger ledger
+row_put ledger k new body q later conn some spelled h =
+    let unsent : new.unsent ≡ k.unsent ++ written_run body = ap (λ (x : Kept). x.unsent) h in
     let sends : SendsRow k new = λ row rest e. let s = spelled row rest e in
-    (record { body = body; spelled = s.0; fits = s.1; run = unsent }, h.1 ∙ ap (λ (x : List ℕ). record k { result = one_less k.result; unsent = x }) (sym unsent)) in
-    subst (λ (x : Worked). Steps (replies ledger k q later (row_reply (version_of k) k.result.rows k.result)) conn k.first x new ledger ledger) (sym h.0) (row_sent ledger k new q later conn some sends)
+    (record { body = body; spelled = s.0; fits = s.1; run = unsent }, h ∙ ap (λ (x : List ℕ). record k { result = one_less k.result; unsent = x }) (sym unsent)) in
+    row_sent ledger k new q later conn some sends

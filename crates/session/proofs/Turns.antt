@@ -1,13 +1,15 @@
 -- What a step does, as the model's step.
-use Rattle.std.proofs.Common.{◌≡◌, subst, refl, ℕ, Bool, true, false, List, ◌∷◌, Result, IfOk, if◌then◌else◌, ◌&&◌}
+use Rattle.std.proofs.Common.{◌≡◌, ◌∙◌, ap, subst, refl, ℕ, Bool, true, false, List, ◌∷◌, Option, Result, IfOk, if◌then◌else◌, ◌&&◌}
 use Rattle.std.specs.declared.alloc.AllocError.{AllocError}
 use Rattle.messages.specs.Prelude.{RequestView, Arrival, Asked}
 use Rattle.machine.specs.declared.states.State.{State}
+use Rattle.machine.specs.declared.kinds.Kind.{Kind}
 use Rattle.machine.specs.Prelude.{kind_of, is_goodbye, is_reset, interruptible}
 use Rattle.engine.specs.Prelude.{EntryView}
 use Rattle.session.specs.declared.acts.Turn.TheVariants as turn
-use Rattle.session.specs.declared.kinds.Worked.{Worked}
-use Rattle.session.specs.Prelude.{Setting, Reply, Bye, serve, passed_over, Kept, Step, replies, after_interrupt, turns, reset_among, version_of, Steps, served_interrupted, turn_in}
+use Rattle.session.specs.declared.kinds.Cause.{Cause}
+use Rattle.session.specs.Prelude.{Setting, Reply, serve, passed_over, Kept, Step, Ended, rests, ends, replies, after_interrupt, turns, reset_among, version_of, row_reply, reply_to_run, asked_by, token_of, owes_row, runs, Answers, turn_in}
+use Rattle.session.proofs.Replies.{owed_served, owed_elsewhere, run_served, runs_elsewhere}
 
 pub asked_head : (a b : RequestView) (xs ys : List Arrival) → (Asked a ∷ xs) ≡ (Asked b ∷ ys) → a ≡ b
 asked_head a b xs ys e = cc
@@ -18,30 +20,63 @@ serves_is (Asked q ∷ later) e = (q, later, refl)
 serves_is _ e = cc
 
 -- what is answered in Interrupted goes by what is kept but for the result and the transaction
-passed_apart : (ledger : List EntryView) (k : Kept) (q : RequestView) (later : List Arrival) (bye reset : Bool) → replies ledger (record k { state = State.Interrupted }) q later (if bye then Bye else passed_over reset) ≡ replies ledger (after_interrupt k) q later (if bye then Bye else passed_over reset)
-passed_apart ledger k q later true reset = refl
-passed_apart ledger k q later false true = refl
-passed_apart ledger k q later false false = refl
+passed_apart : (ledger : List EntryView) (k : Kept) (q : RequestView) (later : List Arrival) (reset : Bool) → replies ledger (record k { state = State.Interrupted }) q later (passed_over reset) ≡ replies ledger (after_interrupt k) q later (passed_over reset)
+passed_apart ledger k q later true = refl
+passed_apart ledger k q later false = refl
 
--- where a RESET interrupts
-pub turns_interrupted : (S : Setting) (c : ℕ) (ledger : List EntryView) (k : Kept) (xs : List Arrival) (q : RequestView) (later : List Arrival) → xs ≡ Asked q ∷ later → (reset_among xs && interruptible k.state) ≡ true
-    → replies ledger (record k { state = State.Interrupted }) q later (served_interrupted (kind_of q)) ≡ turns S c ledger k xs
-turns_interrupted S c ledger k xs q later e h =
-    let interrupts_so : (reset_among (Asked q ∷ later) && interruptible k.state) ≡ true = rw e at h in
-    rw (e, interrupts_so) (passed_apart ledger k q later (is_goodbye (kind_of q)) (is_reset (kind_of q)))
+module _ (S : Setting) (c : ℕ) (ledger : List EntryView) (k : Kept) (xs : List Arrival) (q : RequestView) (later : List Arrival) (e : xs ≡ Asked q ∷ later) where
+  -- a GOODBYE ends it, whether a RESET interrupts or not
+  pub turns_goodbye : is_goodbye (kind_of q) ≡ true → rests (ends Cause.Goodbye k) (Ended Cause.Goodbye) ≡ turns S c ledger k xs
+  turns_goodbye bye = by (reset_among (Asked q ∷ later) && interruptible k.state) refl
+    where
+      by : (b : Bool) → (reset_among (Asked q ∷ later) && interruptible k.state) ≡ b → rests (ends Cause.Goodbye k) (Ended Cause.Goodbye) ≡ turns S c ledger k xs
+      by true h = rw (e, h, bye) refl
+      by false h = rw (e, h, bye) refl
 
-pub turns_served : (S : Setting) (c : ℕ) (ledger : List EntryView) (k : Kept) (xs : List Arrival) (q : RequestView) (later : List Arrival) → xs ≡ Asked q ∷ later → (reset_among xs && interruptible k.state) ≡ false
-    → replies ledger k q later (serve S (version_of k) c ledger k.state k.result k.tx q) ≡ turns S c ledger k xs
-turns_served S c ledger k xs q later e h =
-    let none : (reset_among (Asked q ∷ later) && interruptible k.state) ≡ false = rw e at h in
-    rw (e, none) refl
+  pub turns_served : (reset_among xs && interruptible k.state) ≡ false → replies ledger k q later (serve S (version_of k) c ledger k.state k.result k.tx q) ≡ turns S c ledger k xs
+  turns_served h =
+      let none : (reset_among (Asked q ∷ later) && interruptible k.state) ≡ false = rw e at h in
+      rw (e, none) refl
 
--- of a step that has another name
-pub steps_at : (d e : Step) (conn first : ℕ) (r : Result Worked AllocError) (new : Kept) (before after : List EntryView) → d ≡ e
-    → IfOk r (λ w. Steps d conn first w new before after) → IfOk r (λ w. Steps e conn first w new before after)
-steps_at d e conn first r new before after same h = subst (λ (x : Step). IfOk r (λ w. Steps x conn first w new before after)) same h
+  -- another request is served in the state in which it is worked
+  pub turns_worked : is_goodbye (kind_of q) ≡ false → (w : State) → w ≡ (if reset_among xs && interruptible k.state then State.Interrupted else k.state) → replies ledger (record k { state = w }) q later (serve S (version_of k) c ledger w k.result k.tx q) ≡ turns S c ledger k xs
+  turns_worked stays w is = by (reset_among xs && interruptible k.state) refl
+    where
+      by : (b : Bool) → (reset_among xs && interruptible k.state) ≡ b → replies ledger (record k { state = w }) q later (serve S (version_of k) c ledger w k.result k.tx q) ≡ turns S c ledger k xs
+      by true h =
+          let heard : w ≡ State.Interrupted = rw h at is in
+          let so : (reset_among (Asked q ∷ later) && interruptible k.state) ≡ true = rw e at h in
+          rw (heard, e, so, stays) (passed_apart ledger k q later (is_reset (kind_of q)))
+      by false h =
+          let same : w ≡ k.state = rw h at is in
+          rw same (turns_served h)
 
--- of a step from what is kept by another name
-pub steps_from : (k j : Kept) → k ≡ j → (ledger : List EntryView) (q : RequestView) (later : List Arrival) (reply : Reply) (conn : ℕ) (r : Result Worked AllocError) (new : Kept) (before after : List EntryView)
-    → IfOk r (λ w. Steps (replies ledger k q later reply) conn k.first w new before after) → IfOk r (λ w. Steps (replies ledger j q later reply) conn j.first w new before after)
-steps_from k j same ledger q later reply conn r new before after h = subst (λ (x : Kept). IfOk r (λ w. Steps (replies ledger x q later reply) conn x.first w new before after)) same h
+-- one that isn't worked in Interrupted isn't interrupted
+unheard : (b : Bool) (s w : State) → w ≡ (if b then State.Interrupted else s) → (w ≡ State.Interrupted → ⊥) → (b ≡ false) × (w ≡ s)
+unheard true s w is other = absurd (other is)
+unheard false s w is other = (refl, is)
+
+-- A row that is owed, and a RUN, are worked in the state that stands.
+module _ (k : Kept) (q : RequestView) (w : State) (is : w ≡ (if reset_among k.waiting && interruptible k.state then State.Interrupted else k.state)) where
+  row_here : owes_row w k.result q ≡ true → ((reset_among k.waiting && interruptible k.state) ≡ false) × (w ≡ k.state)
+  row_here owed = unheard (reset_among k.waiting && interruptible k.state) k.state w is (owed_elsewhere w k.result q owed)
+
+  run_heard : runs (version_of k) w q ≡ true → ((reset_among k.waiting && interruptible k.state) ≡ false) × (w ≡ k.state)
+  run_heard asked = unheard (reset_among k.waiting && interruptible k.state) k.state w is (runs_elsewhere (version_of k) w q asked)
+
+  pub run_here : runs (version_of k) w q ≡ true → runs (version_of k) k.state q ≡ true
+  run_here asked = subst (λ (s : State). runs (version_of k) s q ≡ true) (run_heard asked).1 asked
+
+  pub row_turn : (S : Setting) (c : ℕ) (ledger : List EntryView) (later : List Arrival) → k.waiting ≡ Asked q ∷ later → owes_row w k.result q ≡ true → replies ledger k q later (row_reply (version_of k) k.result.rows k.result) ≡ turns S c ledger k k.waiting
+  row_turn S c ledger later first owed =
+      let here : owes_row k.state k.result q ≡ true = subst (λ (s : State). owes_row s k.result q ≡ true) (row_here owed).1 owed in
+      ap (λ (r : Reply). replies ledger k q later r) (owed_served S (version_of k) c ledger k.state k.result k.tx q here) ∙ turns_served S c ledger k k.waiting q later first (row_here owed).0
+
+  pub run_turn : (S : Setting) (c : ℕ) (ledger : List EntryView) (later : List Arrival) → k.waiting ≡ Asked q ∷ later → runs (version_of k) w q ≡ true → replies ledger k q later (reply_to_run (version_of k) k.state k.tx (token_of q) (asked_by S.run ledger k.state k.tx q)) ≡ turns S c ledger k k.waiting
+  run_turn S c ledger later first asked =
+      ap (λ (r : Reply). replies ledger k q later r) (run_served S (version_of k) c ledger k.state k.result k.tx q (run_here asked)) ∙ turns_served S c ledger k k.waiting q later first (run_heard asked).0
+
+-- of an answer that has another name
+pub answers_at : (d e : Step) (conn first : ℕ) (kind : Kind) (r : Result (Option ℕ) AllocError) (new : Kept) (before after : List EntryView) → d ≡ e
+    → IfOk r (λ n. Answers d conn first kind n new before after) → IfOk r (λ n. Answers e conn first kind n new before after)
+answers_at d e conn first kind r new before after same h = subst (λ (x : Step). IfOk r (λ n. Answers x conn first kind n new before after)) same h

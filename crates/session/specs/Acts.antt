@@ -14,8 +14,10 @@ use Rattle.machine.specs.declared.rows.Verdict.{Verdict}
 use Rattle.engine.specs.declared.ledger.Commit.{Commit}
 use Rattle.engine.specs.declared.ledger.Commit.TheVariants.{Added, Repeat, Clash}
 use Rattle.engine.specs.declared.answer.Mode.{Mode as QueryMode}
+use Rattle.engine.specs.declared.answer.Rows.{Rows}
+use Rattle.engine.specs.declared.ledger.Write.{Write}
 use Rattle.engine.specs.Tokens.{Free, found_in}
-use Rattle.engine.specs.Views.{Token, WriteView, ParameterView, EntryView, AnswerView, QueryFault, unknown_text, token_view}
+use Rattle.engine.specs.Views.{Token, rows_view, write_view, WriteView, ParameterView, EntryView, AnswerView, QueryFault, unknown_text}
 use Rattle.session.specs.declared.waiting.Waiting.{Waiting}
 use Rattle.session.specs.declared.waiting.Waiting.TheVariants as waiting
 use Rattle.session.specs.declared.kinds.Cause.{Cause}
@@ -24,7 +26,6 @@ use Rattle.session.specs.declared.kinds.Worked.{Worked}
 use Rattle.session.specs.declared.acts.Turn.{Turn}
 use Rattle.session.specs.declared.acts.Turn.TheVariants as turn
 use Rattle.session.specs.declared.acts.Act.{Act}
-use Rattle.session.specs.declared.acts.Act.TheVariants as act
 use Rattle.session.specs.declared.acts.After.{After}
 use Rattle.session.specs.declared.acts.After.TheVariants as after
 use Rattle.session.specs.declared.summary.Summary.{Summary}
@@ -37,10 +38,9 @@ use Rattle.session.specs.declared.spelling.Unwritten.{Unwritten}
 use Rattle.session.specs.declared.spelling.Unwritten.TheVariants as unwritten
 use Rattle.session.specs.Faults.{failure}
 use Rattle.session.specs.Said.{fits}
-use Rattle.machine.specs.Asks.{is_goodbye, is_reset}
 use Rattle.machine.specs.Following.{interruptible}
 use Rattle.machine.specs.Rows.{row_at}
-use Rattle.session.specs.Session.{Open, no_result, Tx, no_tx, Change, change_alone, change_inside, Reply, fails, if_fits, used_up, unwritable, passed_over, in_transaction, query_mode}
+use Rattle.session.specs.Session.{Open, no_result, Tx, no_tx, Change, change_alone, change_inside, Reply, fails, if_fits, used_up, unwritable, in_transaction, query_mode}
 use Rattle.session.specs.Rest.{Kept, Step, version_of, worked_of, commit_entries, reset_among}
 use Rattle.wire.specs.Limits.{max_message}
 use Rattle.engine.specs.Limits.{ledger_bound}
@@ -106,12 +106,12 @@ abbrev pub left_result : After → Open → Open
 left_result (after.Rest n) left = record left { rows = drop n left.rows; written = 0 }
 left_result _ left = no_result
 
--- the transaction that is open after a summary, by the one that was open before
-abbrev pub left_tx : After → Tx → Tx
-left_tx (after.Begun mode token) tx = record { mode = mode; writes = []; token = token_view token }
-left_tx (after.Rest n) tx = tx
-left_tx after.Transaction tx = tx
-left_tx _ tx = no_tx
+-- the transaction that is open after a summary, by the one that was open before; token: the request's
+abbrev pub left_tx : After → Token → Tx → Tx
+left_tx (after.Begun mode) token tx = record { mode = mode; writes = []; token = token }
+left_tx (after.Rest n) token tx = tx
+left_tx after.Transaction token tx = tx
+left_tx _ token tx = no_tx
 
 -- what a summary adds to the ledger, if it does: the change of the result or of the transaction open before
 abbrev pub left_entry : After → Open → Tx → Option Change
@@ -123,12 +123,11 @@ left_entry _ left tx = None
 abbrev pub change_of : List WriteView → Token → Change
 change_of writes token = record { writes = writes; token = token }
 
--- what a request is answered, by what was decided in this state
-abbrev pub reply_of : Version → State → Open → Tx → Act → Reply
-reply_of v s left tx (act.Says d said after) =
-    Reply.Summary d (response_of_summary (summary_of said)) (left_result after left)
-    (left_tx after tx) (left_entry after left tx)
-reply_of v s left tx act.Goodbye = Reply.Bye
+-- what a request with this token is answered, by what was decided
+abbrev pub reply_of : Open → Tx → Token → Act → Reply
+reply_of left tx token act =
+    Reply.Summary act.verdict (response_of_summary (summary_of act.summary)) (left_result act.after left)
+    (left_tx act.after token tx) (left_entry act.after left tx)
 
 -- the states in which a result is open
 abbrev pub streams : State → Bool
@@ -156,10 +155,25 @@ asked_by run ledger s tx (RequestView.Run query params mode token) =
     else run ledger [] query params (query_mode mode)
 asked_by run ledger s tx q = Err unknown_text
 
--- the token of a RUN
-abbrev pub token_of_run : RequestView → Token
-token_of_run (RequestView.Run query params mode token) = token
-token_of_run q = None
+-- the token of a RUN or of a BEGIN
+abbrev pub token_of : RequestView → Token
+token_of (RequestView.Run query params mode token) = token
+token_of (RequestView.Begin mode token) = token
+token_of q = None
+
+-- the same of the first that waits
+abbrev pub first_token : List Arrival → Token
+first_token (Asked q ∷ later) = token_of q
+first_token _ = None
+
+-- an answer, by its parts
+abbrev pub answer_by : List (List ℕ) → Rows → Option Write → QueryMode → AnswerView
+answer_by names rows write mode = record {
+  fields = names;
+  rows = rows_view rows;
+  write = option_map write_view write;
+  mode = mode;
+}
 
 -- the first of these rows, or the FAILURE if it can't be written
 abbrev pub row_reply : Version → List (List Tree) → Open → Reply
@@ -259,9 +273,9 @@ abbrev pub IsBelow : Option ℕ → Type 0
 IsBelow None = Unit {0}
 IsBelow (Some n) = n < ledger_bound
 
--- what is answered to a request in Interrupted
-abbrev pub served_interrupted : Kind → Reply
-served_interrupted k = if is_goodbye k then Reply.Bye else passed_over (is_reset k)
+-- the state in which the first that waits is worked
+abbrev pub work_state : Kept → State
+work_state k = if reset_among k.waiting && interruptible k.state then State.Interrupted else k.state
 
 -- What a step told, what is kept after it, and the ledger, are those of the model.
 pub record Steps (d : Step) (conn first : ℕ) (w : Worked) (new : Kept)
@@ -269,3 +283,8 @@ pub record Steps (d : Step) (conn first : ℕ) (w : Worked) (new : Kept)
   pub told : worked_of d.answer ≡ w
   pub kept : d.kept ≡ new
   pub ledger : after ≡ before ++ commit_entries conn first d.commit
+
+-- The same of a step that answers a request of this kind, the first, by a summary, and adds this entry.
+abbrev pub Answers : Step → ℕ → ℕ → Kind → Option ℕ → Kept → List EntryView → List EntryView → Type 0
+Answers d conn first kind entry new before after =
+    Steps d conn first (Worked.Wrote first kind new.state entry) new before after

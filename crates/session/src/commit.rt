@@ -1,5 +1,5 @@
 //! What is open after a summary, and the commit of it.
-ghost use Rattle.std.specs.Prelude.{◌≡◌, ◌+◌, ◌<◌, ◌≤◌, ◌++◌, length, Some, IfOk, OnOk, OnErr};
+ghost use Rattle.std.specs.Prelude.{◌≡◌, ◌+◌, ◌<◌, ◌≤◌, ◌++◌, length, Some, None, IfOk, OnOk, OnErr};
 ghost use Rattle.engine.specs.Tokens.{Free, found_in};
 ghost use Rattle.engine.specs.Views.{token_view, writes_view};
 ghost use Rattle.session.specs.Session.{no_result, change_alone};
@@ -14,8 +14,8 @@ use engine::{Commit, Engine, EntryId, NoMemory, Write};
 use std::alloc::{AllocError, Global};
 use std::mem;
 
-/// Replaces the open result and transaction as `after` says, and commits if it says so. Answers the ledger's new length if an entry
-/// was added. The ledger has no entry under its token before. An `Err` changes nothing.
+/// Replaces the open result and transaction as `after` says, one that is begun without a token, and commits if it says so. Answers
+/// the ledger's new length if an entry was added. The ledger has no entry under its token before. An `Err` changes nothing.
 pub(crate) fn leave<E: Engine>(
     alloc: Global,
     open: &mut OpenResult,
@@ -27,7 +27,7 @@ pub(crate) fn leave<E: Engine>(
     requires { IsFree (E.entries engine.old)
         (left_entry after (open_of open.old) (tx_of tx.old)) }
     ensures open { OnOk result (open_of open.new ≡ left_result after (open_of open.old)) }
-    ensures tx { OnOk result (tx_of tx.new ≡ left_tx after (tx_of tx.old)) }
+    ensures tx { OnOk result (tx_of tx.new ≡ left_tx after None (tx_of tx.old)) }
     ensures ledger { OnOk result
         (E.entries engine.new ≡ E.entries engine.old
         ++ commit_entries id.conn id.ordinal
@@ -43,12 +43,12 @@ pub(crate) fn leave<E: Engine>(
     match after {
         After::Nothing => {
             *open = OpenResult::closed(alloc);
-            *tx = Transaction::none(alloc);
+            tx.close(alloc);
             Ok(None)
         }
-        After::Begun(mode, token) => {
+        After::Begun(mode) => {
             *open = OpenResult::closed(alloc);
-            *tx = Transaction::begun(alloc, mode, token);
+            *tx = Transaction::begun(alloc, mode);
             Ok(None)
         }
         After::Rest(count) => {
@@ -61,7 +61,7 @@ pub(crate) fn leave<E: Engine>(
         }
         After::CommitsResult => {
             let len = commit_result(alloc, open, id, engine)?;
-            *tx = Transaction::none(alloc);
+            tx.close(alloc);
             Ok(Some(len))
         }
         After::CommitsTransaction => {

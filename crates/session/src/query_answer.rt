@@ -1,5 +1,5 @@
 //! What a query's answer opens.
-ghost use Rattle.std.specs.Prelude.{◌≡◌, ◌+◌, ◌≤◌, ◌∷◌, [], ◌++◌, true, false, if◌then◌else◌, length, codes, map, option_map, option_to_list, Some, IfOk, OnOk, OnErr, IfErr, All, IsUtf8};
+ghost use Rattle.std.specs.Prelude.{◌≡◌, ◌+◌, ◌≤◌, ◌∷◌, [], ◌++◌, true, false, if◌then◌else◌, length, codes, map, option_map, option_to_list, None, IfOk, OnOk, OnErr, IfErr, All, IsUtf8};
 ghost use Rattle.messages.specs.View.{response_view};
 ghost use Rattle.cells.specs.Shape.{shapes};
 ghost use Rattle.packstream.specs.Writing.{whole};
@@ -7,19 +7,19 @@ ghost use Rattle.packstream.specs.Tree.{text, dict};
 ghost use Rattle.packstream.specs.Canon.{canon, canon_all};
 ghost use Rattle.packstream.specs.View.{entries_of, trees_of};
 ghost use Rattle.wire.specs.declared.Version.{Version as AnyVersion};
-ghost use Rattle.engine.specs.Views.{names_view, rows_view, token_view, write_view, writes_view, answer_view};
+ghost use Rattle.engine.specs.Views.{names_view, write_view, writes_view};
 ghost use Rattle.session.specs.Session.{fields_told, fields_said, rows_fitted, result_of_answer, in_transaction, with_write, no_tx};
 ghost use Rattle.session.specs.Views.{first_of, open_of, tx_of};
 ghost use Rattle.engine.specs.Limits.{max_rows};
 ghost use Rattle.session.specs.Said.{fits};
-ghost use Rattle.session.specs.Acts.{IsRun, Refuses};
+ghost use Rattle.session.specs.Acts.{IsRun, Refuses, answer_by};
 
 use crate::remaining::Remaining;
 use crate::result::{OpenResult, Transaction};
 use crate::spelling::{Unwritten, put_response};
 use crate::words::{is_in_transaction, result_mode};
 use bytes::BytesMut;
-use engine::{Answer, Names, Write};
+use engine::{Mode as QueryMode, Names, Rows, Write};
 use machine::State;
 use messages::{Response, close_run};
 use speller::{Output, Unspelled, put_text};
@@ -159,65 +159,55 @@ fn texts(alloc: Global, names: &Names) -> Result<Vec<Cell>, AllocError>
     Ok(cells)
 }
 
-/// Opens a result of these rows, of which none is written yet: in a transaction with its write among the transaction's, which has its
-/// own token. An `Err` changes nothing.
+/// Opens a result of these rows, of which none is written yet, without a token: in a transaction with its write among the transaction's. An
+/// `Err` changes nothing.
 pub(crate) fn open_result(
     alloc: Global,
     version: Version,
     state: State,
-    answer: Answer,
-    token: Option<String>,
+    rows: Rows,
+    write: Option<Write>,
+    mode: QueryMode,
     left: &mut OpenResult,
     tx: &mut Transaction,
 ) -> Result<(), AllocError>
-    requires { answer.rows.count ≤ max_rows }
+    requires { rows.count ≤ max_rows }
     ensures open { OnOk result (open_of left.new
-        ≡ result_of_answer version state (token_view token) (answer_view answer)) }
+        ≡ result_of_answer version state None (answer_by [] rows write mode)) }
     ensures tx { OnOk result (tx_of tx.new ≡ (if in_transaction state
-        then with_write (tx_of tx.old) (option_map write_view answer.write) else no_tx)) }
+        then with_write (tx_of tx.old) (option_map write_view write) else no_tx)) }
     ensures open_kept { OnErr result (open_of left.new ≡ open_of left.old) }
     ensures tx_kept { OnErr result (tx_of tx.new ≡ tx_of tx.old) }
 {
-    let Answer {
-        fields: _,
-        rows,
-        write,
-        mode,
-    } = answer;
     let rows = match Remaining::fitted(alloc, version, rows) {
         Ok(rows) => rows,
         Err(AllocError) => {
-            drop_write(write, token);
+            drop_write(write);
             return Err(AllocError);
         }
     };
     let mode = result_mode(mode);
-    if is_in_transaction(state) {
+    let writes = if is_in_transaction(state) {
         join_write(&mut tx.writes, write)?;
-        *left = OpenResult {
-            rows,
-            mode,
-            writes: Vec::new(alloc),
-            token: None,
-            written: 0,
-        };
-        return Ok(());
-    }
-    let writes = writes_of(alloc, write)?;
+        Vec::new(alloc)
+    } else {
+        let writes = writes_of(alloc, write)?;
+        tx.close(alloc);
+        writes
+    };
     *left = OpenResult {
         rows,
         mode,
         writes,
-        token,
+        token: None,
         written: 0,
     };
-    *tx = Transaction::none(alloc);
     Ok(())
 }
 
-/// Drops the write of a result, with the token of its RUN. It is a call, so that a result that is opened doesn't pay for the locals of a drop.
+/// Drops the write of a result. It is a call, so that a result that is opened doesn't pay for the locals of a drop.
 #[inline(never)]
-fn drop_write(_write: Option<Write>, _token: Option<String>) {}
+fn drop_write(_write: Option<Write>) {}
 
 /// The transaction takes over the write of a result, if it has one.
 fn join_write(writes: &mut Vec<Write>, write: Option<Write>) -> Result<(), AllocError>
@@ -233,24 +223,6 @@ fn join_write(writes: &mut Vec<Write>, write: Option<Write>) -> Result<(), Alloc
             Ok(())
         }
     }
-}
-
-/// A copy of a token, if there is one.
-pub(crate) fn copy_token(token: &Option<String>) -> Result<Option<String>, AllocError>
-    ensures { IfOk result (λ t. token_view t ≡ token_view token.now) }
-{
-    match token {
-        None => Ok(None),
-        Some(token) => copy_text(token),
-    }
-}
-
-/// A copy of a token that is there. It is a call, so that a request without one doesn't pay for its locals.
-#[inline(never)]
-fn copy_text(token: &String) -> Result<Option<String>, AllocError>
-    ensures { IfOk result (λ t. token_view t ≡ token_view (Some token.now)) }
-{
-    Ok(Some(token.clone()?))
 }
 
 fn writes_of(alloc: Global, write: Option<Write>) -> Result<Vec<Write>, AllocError>

@@ -3,9 +3,10 @@ ghost use Rattle.std.specs.Prelude.{◌≡◌, ◌<◌, ◌∷◌, [], ◌++◌,
 ghost use Rattle.messages.specs.View.{request_view};
 ghost use Rattle.messages.specs.Arrivals.{Asked};
 ghost use Rattle.machine.specs.Limits.{max_waiting};
+ghost use Rattle.engine.specs.Views.{token_view};
 ghost use Rattle.session.specs.Rest.{unread_among, reset_among};
 ghost use Rattle.session.specs.Views.{waiting_in, first_of};
-ghost use Rattle.session.specs.Acts.{turn_in, turn_by};
+ghost use Rattle.session.specs.Acts.{first_token, token_of, turn_in, turn_by};
 
 use crate::acts::Turn;
 use crate::waiting::{Queue, Waiting};
@@ -44,21 +45,26 @@ impl Queue {
         self.waiting.push_back_reserved(waiting);
     }
 
-    /// The first leaves, where something waits.
+    /// The first leaves, where something waits, and hands out its token.
     #[tactic(auto, using(crate::proofs::Queues::first_gone))]
-    pub(crate) fn pop(&mut self)
+    pub(crate) fn pop(&mut self) -> Option<String>
         ensures items { self.new.waiting.items ≡ drop 1 self.old.waiting.items }
         ensures waiting { waiting_in self.new.waiting.items
             ≡ drop 1 (waiting_in self.old.waiting.items) }
+        ensures token { token_view result ≡ first_token (waiting_in self.old.waiting.items) }
     {
         match self.waiting.pop_front() {
             Some(Waiting::Asked(request)) => {
                 if is_reset(&request) {
                     self.resets -= 1;
                 }
+                token_of(request)
             }
-            Some(Waiting::Unread(_) | Waiting::TooLong) => self.unread -= 1,
-            None => {}
+            Some(Waiting::Unread(_) | Waiting::TooLong) => {
+                self.unread -= 1;
+                None
+            }
+            None => None,
         }
     }
 
@@ -96,6 +102,33 @@ impl Queue {
             Some(Waiting::Asked(request)) => request,
             _ => unreachable!(),
         }
+    }
+}
+
+/// The token of a RUN or of a BEGIN.
+fn token_of(request: Request) -> Option<String>
+    ensures { token_view result ≡ token_of (request_view request) }
+{
+    match request {
+        Request::Run {
+            text: _text,
+            params: _params,
+            mode: _mode,
+            token,
+        } => token,
+        Request::Begin { mode: _mode, token } => token,
+        Request::Hello {
+            agent: _agent,
+            auth: _auth,
+        } => None,
+        Request::Logon(_auth) => None,
+        Request::Logoff
+        | Request::Goodbye
+        | Request::Reset
+        | Request::Commit
+        | Request::Rollback
+        | Request::Discard(_)
+        | Request::Pull(_) => None,
     }
 }
 

@@ -59,7 +59,15 @@ impl Remaining {
             width,
             count,
         } = rows;
-        let cells = fitted_cells(alloc, version, cells)?;
+        if are_plain(cells.as_slice()) {
+            return Ok(Remaining {
+                cells,
+                width,
+                start: 0,
+                count,
+            });
+        }
+        let cells = fit_cells(alloc, version, cells)?;
         Ok(Remaining {
             cells,
             width,
@@ -101,21 +109,11 @@ impl Remaining {
 }
 
 /// Cells in the form of a version.
-fn fitted_cells(alloc: Global, version: Version, cells: Cells) -> Result<Cells, AllocError>
+#[inline(never)]
+fn fit_cells(alloc: Global, version: Version, cells: Cells) -> Result<Cells, AllocError>
     ensures shapes { IfOk result
         (λ r. shapes (cells_in r) ≡ map (fitted version) (shapes (cells_in cells))) }
     ensures len { IfOk result (λ r. length (cells_in r) ≡ length (cells_in cells)) }
-{
-    if are_plain(cells.as_slice()) {
-        return Ok(cells);
-    }
-    fit_cells(alloc, version, cells)
-}
-
-#[inline(never)]
-fn fit_cells(alloc: Global, version: Version, cells: Cells) -> Result<Cells, AllocError>
-    ensures { IfOk result
-        (λ r. shapes (cells_in r) ≡ map (fitted version) (shapes (cells_in cells))) }
 {
     let list = cells.into_vec(alloc)?;
     Ok(Cells::Many(fit_list(alloc, version, list)?))

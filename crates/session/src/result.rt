@@ -59,8 +59,7 @@ impl OpenResult {
 }
 
 impl Transaction {
-    ghost use Rattle.std.specs.Prelude.{◌≡◌, []};
-    ghost use Rattle.engine.specs.Views.{token_view};
+    ghost use Rattle.std.specs.Prelude.{◌≡◌, [], None, true};
     ghost use Rattle.session.specs.Session.{no_tx};
     ghost use Rattle.session.specs.Views.{tx_of};
 
@@ -75,14 +74,40 @@ impl Transaction {
         }
     }
 
-    /// One of a mode and with a token, without writes.
-    pub(crate) fn begun(alloc: Global, mode: Mode, token: Option<String>) -> Transaction
-        ensures { tx_of result
-            ≡ record { mode = mode; writes = []; token = token_view token } }
+    /// None is open any more. One that is none stays as it is.
+    pub(crate) fn close(&mut self, alloc: Global)
+        ensures { tx_of self.new ≡ no_tx }
+    {
+        if !self.is_none() {
+            self.drop_all(alloc);
+        }
+    }
+
+    /// Drops all that it holds. It is a call, so that a step in which none is open doesn't pay for its locals.
+    #[inline(never)]
+    fn drop_all(&mut self, alloc: Global)
+        ensures { tx_of self.new ≡ no_tx }
+    {
+        *self = Transaction::none(alloc);
+    }
+
+    /// Whether none is open.
+    fn is_none(&self) -> bool
+        ensures { result ≡ true → tx_of self.now ≡ no_tx }
+    {
+        match self.mode {
+            Mode::Read => false,
+            Mode::Write => self.token.is_none() && self.writes.is_empty(),
+        }
+    }
+
+    /// One of a mode, without a token and without writes.
+    pub(crate) fn begun(alloc: Global, mode: Mode) -> Transaction
+        ensures { tx_of result ≡ record { mode = mode; writes = []; token = None } }
     {
         Transaction {
             mode,
-            token,
+            token: None,
             writes: Vec::new(alloc),
         }
     }

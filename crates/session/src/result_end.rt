@@ -2,11 +2,8 @@
 ghost use Rattle.std.specs.Prelude.{◌≡◌, ◌+◌, ◌<◌, length, drop, Some, IfOk};
 ghost use Rattle.messages.specs.Summaries.{response_of_summary, Closing, Committed};
 ghost use Rattle.engine.specs.Tokens.{found_in, commit_by, known_by};
-ghost use Rattle.engine.specs.Views.{token_view, writes_view};
-ghost use Rattle.wire.specs.declared.Version.{Version as AnyVersion};
-ghost use Rattle.machine.specs.declared.states.State.{State as AnyState};
+ghost use Rattle.engine.specs.Views.{Token, token_view, writes_view};
 ghost use Rattle.session.specs.Session.{Open, Tx, change_alone, change_inside, close, close_last};
-ghost use Rattle.session.specs.Rest.{version_of};
 ghost use Rattle.session.specs.Views.{kept_of};
 ghost use Rattle.session.specs.Acts.{reply_of, commits_by};
 ghost use Rattle.engine.specs.Limits.{ledger_bound};
@@ -62,7 +59,7 @@ fn next_len<E: Engine>(engine: &E) -> Result<u64, AllocError>
 
 /// The answer to a COMMIT, by what the engine would answer to it.
 pub(crate) fn committed(commit: Commit) -> Act<'static>
-    ensures { (v : AnyVersion) (s : AnyState) (left : Open) (tx : Tx) → reply_of v s left tx result
+    ensures { (left : Open) (tx : Tx) (token : Token) → reply_of left tx token result
         ≡ commits_by (change_inside tx) (λ n. response_of_summary (Committed n)) commit }
 {
     match commit {
@@ -74,7 +71,7 @@ pub(crate) fn committed(commit: Commit) -> Act<'static>
 
 /// The last summary of a result of this mode outside a transaction, by what the engine would answer to its commit.
 fn closed(commit: Commit, mode: Mode) -> Act<'static>
-    ensures { (v : AnyVersion) (s : AnyState) (left : Open) (tx : Tx) → reply_of v s left tx result
+    ensures { (left : Open) (tx : Tx) (token : Token) → reply_of left tx token result
         ≡ commits_by (change_alone left) (λ n. response_of_summary (Closing (Some n) mode)) commit }
 {
     match commit {
@@ -85,35 +82,36 @@ fn closed(commit: Commit, mode: Mode) -> Act<'static>
 }
 
 impl Session {
-    /// The summary of a PULL or DISCARD that drops so many rows.
+    /// The summary of a PULL or DISCARD that drops so many rows, worked in this state.
     #[inline(always)]
     pub(crate) fn ends_rows<E: Engine>(
         &self,
+        state: State,
         dropped: usize,
         engine: &E,
     ) -> Result<Act<'static>, AllocError>
         ensures { let k = kept_of self.now in IfOk result
-            (λ act. reply_of (version_of k) k.state k.result k.tx act
-            ≡ close k.state (E.entries engine.now) (drop dropped k.result.rows) k.result k.tx) }
+            (λ act. (token : Token) → reply_of k.result k.tx token act
+            ≡ close state (E.entries engine.now) (drop dropped k.result.rows) k.result k.tx) }
     {
         if dropped < self.result.rows.count {
-            return Ok(Act::Says {
+            return Ok(Act {
                 verdict: Verdict::More,
                 summary: Summary::RowsLeft,
                 after: After::Rest(dropped),
             });
         }
-        self.last(engine)
+        self.last(state, engine)
     }
 
-    /// The last summary of a result, which commits outside a transaction.
-    fn last<E: Engine>(&self, engine: &E) -> Result<Act<'static>, AllocError>
+    /// The last summary of a result in this state, which commits outside a transaction.
+    fn last<E: Engine>(&self, state: State, engine: &E) -> Result<Act<'static>, AllocError>
         ensures { let k = kept_of self.now in IfOk result
-            (λ act. reply_of (version_of k) k.state k.result k.tx act
-            ≡ close_last k.state (E.entries engine.now) k.result k.tx) }
+            (λ act. (token : Token) → reply_of k.result k.tx token act
+            ≡ close_last state (E.entries engine.now) k.result k.tx) }
     {
         let mode = self.result.mode;
-        match self.state {
+        match state {
             State::Streaming => {
                 let commit = commit_of(engine, &self.result.token, &self.result.writes)?;
                 Ok(closed(commit, mode))

@@ -252,8 +252,10 @@ impl Session {
     }
 
     /// The open result and the open transaction are dropped.
-    fn close(&mut self)
-        ensures { kept_of self.new ≡ record (kept_of self.old) { result = no_result; tx = no_tx } }
+    pub(crate) fn close(&mut self)
+        ensures kept { kept_of self.new ≡ record (kept_of self.old) { result = no_result; tx = no_tx } }
+        ensures out { self.new.out ≡ self.old.out }
+        ensures queue { self.new.queue ≡ self.old.queue }
     {
         self.result = OpenResult::closed(self.alloc);
         self.tx = Transaction::none(self.alloc);

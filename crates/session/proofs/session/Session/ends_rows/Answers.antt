@@ -1,5 +1,5 @@
 use Rattle.std.proofs.Common.{◌<◌, ◌≤◌, length, arith}
-use Rattle.session.specs.Prelude.{version_of, kept_of}
+use Rattle.session.specs.Prelude.{kept_of}
 use Rattle.session.proofs.Listed.{rows_counted}
 use Rattle.session.proofs.Replies.{acts_same, ends_some, ends_all}
 use Rattle.session.proofs.session.Session.ends_rows.Goals as goal
@@ -9,11 +9,11 @@ returns-then-dropped-self g c =
     let s = c.args.self.now in
     let k = kept_of s in
     let less : c.args.dropped < length k.result.rows = omega (arith, c.if-dropped-self.true, rows_counted s.result.rows) in
-    ends_some k.state (g.E.Engine.entries c.args.engine.now) c.args.dropped k.result.rows k.result k.tx less
+    λ token. ends_some c.args.state (g.E.Engine.entries c.args.engine.now) c.args.dropped k.result.rows k.result k.tx less
 
 pub returns : goal.returns
 returns g c =
     let s = c.args.self.now in
     let k = kept_of s in
     let all : length k.result.rows ≤ c.args.dropped = omega (arith, c.if-dropped-self.false, rows_counted s.result.rows) in
-    acts_same (version_of k) k.state k.result k.tx c.last.result _ _ (ends_all k.state (g.E.Engine.entries c.args.engine.now) c.args.dropped k.result.rows k.result k.tx all) c.last.ensures
+    acts_same k.result k.tx c.last.result _ _ (ends_all c.args.state (g.E.Engine.entries c.args.engine.now) c.args.dropped k.result.rows k.result k.tx all) c.last.ensures
