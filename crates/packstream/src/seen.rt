@@ -1,14 +1,36 @@
 //! Keys that were seen.
-ghost use Rattle.std.specs.Prelude.{◌≡◌, ◌++◌, ◌∷◌, [], not, true, IfOk, List, ℕ};
+ghost use Rattle.std.specs.Prelude.{◌≡◌, ◌<◌, ◌%◌, ◌++◌, ◌∷◌, [], not, true, length, IfOk, List, ℕ};
 ghost use Rattle.packstream.specs.Good.{is_among};
 ghost use Rattle.packstream.specs.Hashing.{hash, Knows};
 
-use std::alloc::AllocError;
+pub use crate::places::Seen;
+use std::alloc::{AllocError, Global};
 use std::collections::BTreeSet;
 
-/// The keys of a dictionary so far, each behind its hash. By hashes most keys are told apart without a look at their
-/// bytes; where two are equal, the bytes are compared, so keys that were chosen to collide cost no more than that.
-pub type Seen<'a> = BTreeSet<(u64, &'a str)>;
+/// The most keys for which places are made.
+const MANY: usize = 2_048;
+
+impl<'a> Seen<'a> {
+    /// None yet, with two places a key, of at most 2,048; or want of memory.
+    #[tactic(auto, using(crate::proofs::Keys::knows_none))]
+    pub fn new(alloc: Global, count: usize) -> Result<Seen<'a>, AllocError>
+        ensures { IfOk result (λ seen. Knows seen []) }
+    {
+        let places = vec![in alloc; None; 2 * count.min(MANY) + 1]?;
+        Ok(Seen {
+            places,
+            others: BTreeSet::new(alloc),
+        })
+    }
+
+    /// The place that a hash chooses.
+    fn place_of(&self, hash: u64) -> usize
+        ensures choice { result ≡ hash % length self.now.places.items }
+        ensures within { result < length self.now.places.items }
+    {
+        (hash % self.places.len() as u64) as usize
+    }
+}
 
 #[tactic(auto, unfolding(crate::specs::Hashing::hash_more))]
 fn hash_of(key: &str) -> u64
@@ -31,6 +53,18 @@ pub fn is_new<'a>(seen: &mut Seen<'a>, key: &'a str) -> Result<bool, AllocError>
         → IfOk result (λ b. b ≡ true → Knows seen.new (before ++ key.now ∷ [])) }
 {
     let hash = hash_of(key);
-    let is_new = seen.insert((hash, key))?;
-    Ok(is_new)
+    let place = seen.place_of(hash);
+    match seen.places[place] {
+        None => {
+            seen.places[place] = Some(key);
+            Ok(true)
+        }
+        Some(other) => {
+            if key == other {
+                return Ok(false);
+            }
+            let is_new = seen.others.insert((hash, key))?;
+            Ok(is_new)
+        }
+    }
 }

@@ -3,9 +3,8 @@ ghost use Rattle.std.specs.Prelude.{◌≡◌, IfOk, map, string_bytes};
 ghost use Rattle.packstream.specs.Good.{is_among};
 ghost use Rattle.packstream.specs.Twins.{IsFirstTwin};
 
-use crate::seen::is_new;
+use crate::seen::{Seen, is_new};
 use std::alloc::{AllocError, Global};
-use std::collections::BTreeSet;
 
 /// Dictionaries of up to so many entries look for equal keys by comparing all; larger ones use an ordered set, so that no input costs a square.
 pub const FEW: u64 = 16;
@@ -45,7 +44,7 @@ fn twin_looked_up<T>(alloc: Global, pairs: &[(String, T)]) -> usize
 fn twin_in_set<T>(alloc: Global, pairs: &[(String, T)]) -> Result<usize, AllocError>
     ensures { IfOk result (IsFirstTwin pairs.now) }
 {
-    let mut seen = BTreeSet::new(alloc);
+    let mut seen = Seen::new(alloc, pairs.len())?;
     for (i, pair) in pairs.iter().enumerate() {
         let is_new = is_new(&mut seen, pair.0.as_str())?;
         if !is_new {

@@ -21,7 +21,6 @@ use packstream::reading::{first_room, key_of, new_key_of, size_of};
 use packstream::seen::Seen;
 use packstream::twins::FEW;
 use std::alloc::Global;
-use std::collections::BTreeSet;
 use wire::Version;
 
 /// A dictionary behind its marker.
@@ -228,7 +227,7 @@ fn many_pairs_of(
     ensures fine { IfOk result (λ x. all_fine (fault_of_structure version)
         (structures_under (entries_of (entries x.0.items))) ≡ true) }
 {
-    let mut seen = BTreeSet::new(alloc);
+    let mut seen = Seen::new(alloc, count.min(bytes.len() as u64) as usize)?;
     let mut pairs = Vec::with_capacity(alloc, first_room(count, bytes))?;
     let mut rest = bytes;
     for _ in 0..count {
