@@ -1,5 +1,5 @@
 //! Bytes out of values.
-ghost use Rattle.std.specs.Prelude.{◌≡◌, ◌≤◌, ◌<◌, ◌+◌, ◌∷◌, [], ◌++◌, length};
+ghost use Rattle.std.specs.Prelude.{◌≡◌, ◌<◌, ◌+◌, [], ◌++◌, length};
 ghost use Rattle.packstream.specs.Canon.{long_head, text_bytes, canon, canon_all, canon_entries, IsShortest};
 ghost use Rattle.std.specs.Prelude.{string_bytes};
 ghost use Rattle.packstream.specs.Tree.{list, dict, structure};
@@ -126,7 +126,7 @@ fn put_struct(out: &mut Output, tag: u8, fields: &[Value]) -> Result<(), Unwritt
     put_members(out, fields)
 }
 
-/// A member of a list, in its loop: the members are often integers, and these take no call.
+/// A member of a list that is no integer, unless too much is written before it.
 #[cycle(encoder)]
 #[inline(always)]
 fn put_member(out: &mut Output, value: &Value) -> Result<(), Unwritten>
@@ -134,13 +134,10 @@ fn put_member(out: &mut Output, value: &Value) -> Result<(), Unwritten>
     ensures before { out.new.before ≡ out.old.before }
     ensures writes { Writes result out.old.more out.new.more (canon (tree value.now)) }
 {
-    match value {
-        Value::Int(n) => {
-            put_int(out, *n)?;
-            Ok(())
-        }
-        _ => put_value(out, value),
+    if out.len() > MAX_SIZE {
+        return Err(Unwritten::Size);
     }
+    put_value(out, value)
 }
 
 #[cycle(encoder)]
@@ -152,10 +149,10 @@ fn put_members(out: &mut Output, members: &[Value]) -> Result<(), Unwritten>
         (canon_all (trees_of (trees members.now))) }
 {
     for member in members {
-        if out.len() > MAX_SIZE {
-            return Err(Unwritten::Size);
+        match member {
+            Value::Int(n) => put_int(out, *n)?,
+            _ => put_member(out, member)?,
         }
-        put_member(out, member)?;
     }
     Ok(())
 }

@@ -1,10 +1,11 @@
 //! What follows a marker: numbers, lengths, bytes and texts (PackStream version 1). `left` counts the bytes from the marker on, for the fault.
-ghost use Rattle.std.specs.Prelude.{◌≡◌, ◌≤◌, ℕ, List, [], ◌∷◌, ◌++◌, map, string_bytes, IfOk, IfSome, IsNone, IsUtf8, length};
+ghost use Rattle.std.specs.Prelude.{◌≡◌, ◌≤◌, [], ◌∷◌, ◌++◌, IfOk, IfSome, IsNone, IsUtf8, length};
 ghost use Rattle.byteorder.specs.Endian.{big_number, twos_complement};
 ghost use Rattle.packstream.specs.Hashing.{Knows};
 ghost use Rattle.packstream.specs.Markers.{width};
 ghost use Rattle.packstream.specs.Reading.{Gives, number_at, int_at, size_at, bytes_at, text_at, key_at};
 ghost use Rattle.packstream.specs.Tree.{int};
+ghost use Rattle.packstream.specs.Twins.{names};
 
 use crate::fault::Reason;
 pub use crate::fault::Stop;
@@ -125,7 +126,7 @@ pub fn text_of(left: usize, size: Size, bytes: &[u8]) -> Result<(&str, &[u8]), S
 #[inline]
 pub fn key_of<'a, T>(pairs: &[(String, T)], bytes: &'a [u8]) -> Result<(&'a str, &'a [u8]), Stop>
     ensures { Gives (λ x. (x.0.now, x.1.now)) result
-        (key_at (map (λ e. string_bytes e.0) pairs.now) bytes.now) }
+        (key_at (names pairs.now) bytes.now) }
 {
     let left = bytes.len();
     let Some((&first, rest)) = bytes.split_first() else {
@@ -143,17 +144,21 @@ pub fn key_of<'a, T>(pairs: &[(String, T)], bytes: &'a [u8]) -> Result<(&'a str,
     Ok((key, rest))
 }
 
-/// A key that is none of those seen, which joins them.
+/// A key that none of these pairs has, whose keys were seen, and which joins them.
 #[tactic(auto, using(crate::proofs::Keys::key_stops))]
-pub fn new_key_of<'a>(seen: &mut Seen<'a>, bytes: &'a [u8]) -> Result<(&'a str, &'a [u8]), Stop>
-    ensures key { (before : List (List ℕ)) → Knows seen.old before
-        → Gives (λ x. (x.0.now, x.1.now)) result (key_at before bytes.now) }
-    ensures seen { (before : List (List ℕ)) → Knows seen.old before
-        → IfOk result (λ x. Knows seen.new (before ++ x.0.now ∷ [])) }
+pub fn new_key_of<'a, T>(
+    seen: &mut Seen<'a>,
+    pairs: &[(String, T)],
+    bytes: &'a [u8],
+) -> Result<(&'a str, &'a [u8]), Stop>
+    ensures key { Knows seen.old (names pairs.now)
+        → Gives (λ x. (x.0.now, x.1.now)) result (key_at (names pairs.now) bytes.now) }
+    ensures seen { Knows seen.old (names pairs.now)
+        → IfOk result (λ x. Knows seen.new (names pairs.now ++ x.0.now ∷ [])) }
 {
     let left = bytes.len();
     let (key, rest) = key_of::<()>(&[], bytes)?;
-    let is_new = is_new(seen, key)?;
+    let is_new = is_new(seen, pairs, key)?;
     if !is_new {
         return Err(Stop::Fault(Reason::KeyTwice, left));
     }
@@ -162,13 +167,21 @@ pub fn new_key_of<'a>(seen: &mut Seen<'a>, bytes: &'a [u8]) -> Result<(&'a str, 
 
 /// The first capacity of a list. Doubled from here the longest list of a message has room for 73,728 members. The list and a copy of
 /// it then stay below the threshold at which glibc gives memory back to the system, so no page is faulted in again for each message.
-const AT_ONCE: u64 = 1_152;
+const AT_ONCE: usize = 1_152;
 
-/// How many members to make room for: no more than their count, the bytes that are left, and `AT_ONCE`.
+/// How many members can follow: no more than their count and the bytes that are left.
+pub fn most_members(count: u64, bytes: &[u8]) -> usize
+    ensures bytes { result ≤ length bytes.now }
+    ensures count { result ≤ count }
+{
+    count.min(bytes.len() as u64) as usize
+}
+
+/// How many members to make room for: no more than can follow, and `AT_ONCE`.
 pub fn first_room(count: u64, bytes: &[u8]) -> usize
     ensures bytes { result ≤ length bytes.now }
     ensures count { result ≤ count }
     ensures at_once { result ≤ AT_ONCE }
 {
-    count.min(bytes.len() as u64).min(AT_ONCE) as usize
+    most_members(count, bytes).min(AT_ONCE)
 }

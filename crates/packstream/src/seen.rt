@@ -1,22 +1,23 @@
 //! Keys that were seen.
-ghost use Rattle.std.specs.Prelude.{◌≡◌, ◌<◌, ◌%◌, ◌++◌, ◌∷◌, [], not, true, length, IfOk, List, ℕ};
+ghost use Rattle.std.specs.Prelude.{◌≡◌, ◌<◌, ◌%◌, ◌++◌, ◌∷◌, [], not, true, length, IfOk};
 ghost use Rattle.packstream.specs.Good.{is_among};
-ghost use Rattle.packstream.specs.Hashing.{hash, Knows};
+ghost use Rattle.packstream.specs.Hashing.{hash, numbered, is_key, Knows};
+ghost use Rattle.packstream.specs.Twins.{names};
 
 pub use crate::places::Seen;
 use std::alloc::{AllocError, Global};
 use std::collections::BTreeSet;
 
 /// The most keys for which places are made.
-const MANY: usize = 2_048;
+const MANY: usize = 4_096;
 
 impl<'a> Seen<'a> {
-    /// None yet, with two places a key, of at most 2,048; or want of memory.
+    /// None yet, with two places a key, of at most 4,096; or want of memory.
     #[tactic(auto, using(crate::proofs::Keys::knows_none))]
     pub fn new(alloc: Global, count: usize) -> Result<Seen<'a>, AllocError>
         ensures { IfOk result (λ seen. Knows seen []) }
     {
-        let places = vec![in alloc; None; 2 * count.min(MANY) + 1]?;
+        let places = vec![in alloc; 0; 2 * count.min(MANY) + 1]?;
         Ok(Seen {
             places,
             others: BTreeSet::new(alloc),
@@ -45,26 +46,39 @@ fn hash_of(key: &str) -> u64
     hash
 }
 
-/// Whether the key is none of those seen, which it joins; or want of memory.
-pub fn is_new<'a>(seen: &mut Seen<'a>, key: &'a str) -> Result<bool, AllocError>
-    ensures answer { (before : List (List ℕ)) → Knows seen.old before
-        → IfOk result (λ b. b ≡ not (is_among key.now before)) }
-    ensures seen { (before : List (List ℕ)) → Knows seen.old before
-        → IfOk result (λ b. b ≡ true → Knows seen.new (before ++ key.now ∷ [])) }
+/// Whether the pair with this number, from 1, has the key.
+#[inline]
+fn is_numbered<T>(pairs: &[(String, T)], number: usize, key: &str) -> bool
+    requires { 0 < number }
+    ensures { result ≡ is_key (numbered (names pairs.now) number) key.now }
+{
+    match pairs.get(number - 1) {
+        Some(pair) => key == pair.0.as_str(),
+        None => false,
+    }
+}
+
+/// Whether the key is none of those of the pairs, which were seen, and joins them; or want of memory.
+pub fn is_new<'a, T>(
+    seen: &mut Seen<'a>,
+    pairs: &[(String, T)],
+    key: &'a str,
+) -> Result<bool, AllocError>
+    ensures answer { Knows seen.old (names pairs.now)
+        → IfOk result (λ b. b ≡ not (is_among key.now (names pairs.now))) }
+    ensures seen { Knows seen.old (names pairs.now)
+        → IfOk result (λ b. b ≡ true → Knows seen.new (names pairs.now ++ key.now ∷ [])) }
 {
     let hash = hash_of(key);
     let place = seen.place_of(hash);
-    match seen.places[place] {
-        None => {
-            seen.places[place] = Some(key);
-            Ok(true)
-        }
-        Some(other) => {
-            if key == other {
-                return Ok(false);
-            }
-            let is_new = seen.others.insert((hash, key))?;
-            Ok(is_new)
-        }
+    let number = seen.places[place];
+    if number == 0 {
+        seen.places[place] = pairs.len() + 1;
+        return Ok(true);
     }
+    if is_numbered(pairs, number, key) {
+        return Ok(false);
+    }
+    let is_new = seen.others.insert((hash, key))?;
+    Ok(is_new)
 }

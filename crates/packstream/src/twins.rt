@@ -46,7 +46,7 @@ fn twin_in_set<T>(alloc: Global, pairs: &[(String, T)]) -> Result<usize, AllocEr
 {
     let mut seen = Seen::new(alloc, pairs.len())?;
     for (i, pair) in pairs.iter().enumerate() {
-        let is_new = is_new(&mut seen, pair.0.as_str())?;
+        let is_new = is_new(&mut seen, &pairs[..i], pair.0.as_str())?;
         if !is_new {
             return Ok(i);
         }

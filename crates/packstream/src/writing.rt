@@ -48,12 +48,14 @@ pub fn put_int(out: &mut Output, n: i64) -> Result<(), AllocError>
     ensures before { out.new.before ≡ out.old.before }
     ensures ok { OnOk result (out.new.more ≡ out.old.more ++ int_bytes n) }
 {
-    if -16 <= n && n <= 127 {
-        out.extend_from_slice(&(n as i8).to_be_bytes())
-    } else if -128 <= n && n <= 127 {
-        out.push_and_extend(0xC8, &(n as i8).to_be_bytes())
-    } else if -32_768 <= n && n <= 32_767 {
-        out.push_and_extend(0xC9, &(n as i16).to_be_bytes())
+    if -32_768 <= n && n <= 32_767 {
+        if -16 <= n && n <= 127 {
+            out.extend_from_slice(&(n as i8).to_be_bytes())
+        } else if -128 <= n && n <= 127 {
+            out.push_and_extend(0xC8, &(n as i8).to_be_bytes())
+        } else {
+            out.push_and_extend(0xC9, &(n as i16).to_be_bytes())
+        }
     } else if -2_147_483_648 <= n && n <= 2_147_483_647 {
         out.push_and_extend(0xCA, &(n as i32).to_be_bytes())
     } else {

@@ -1,12 +1,11 @@
-use Rattle.std.proofs.Common.{◌≡◌, ◌++◌, ◌∷◌, [], ap, ◌∙◌, List, ℕ}
+use Rattle.std.proofs.Common.{rules, to_z, of_z, w64, ◌≡◌, ◌++◌, ◌∷◌, [], ap, sym, subst, ◌∙◌, List, ℕ, string_bytes}
 use Rattle.std.proofs.lemmas.Result.{err_from_is_err_and}
 use Rattle.std.proofs.lemmas.List.{map_push}
-use Rattle.packstream.specs.Prelude.{tree, trees, entry, entries, layer, inner, items_at, entries_at, keys}
+use Rattle.packstream.specs.Prelude.{int, tree, trees, entry, entries, layer, inner, items_at, entries_at, names, Knows}
 use Rattle.packstream.proofs.Views.{keys-entries}
 use Rattle.packstream.proofs.Steps.{items_on, items_end, entries_on, entries_end_key, entries_end_value}
-use Rattle.packstream.proofs.Complete.{keys_push}
 use Rattle.packstream.proofs.decoder.+decoder.Goals as goal
-use Rattle.packstream.proofs.decoder.+decoder.Goals.{members_of-in-Some+in_ok-push, members_of-in_default+in_ok-member+in_ok-push-2}
+use Rattle.packstream.proofs.decoder.+decoder.Goals.{members_of-in-Some+in_ok-push_int, members_of-in_default+in_ok-member+in_ok-push}
 
 pub members_of-returns-in_err-member : goal.members_of-returns-in_err-member
 members_of-returns-in_err-member t c =
@@ -15,13 +14,12 @@ members_of-returns-in_err-member t c =
 
 pub members_of-loop-preserved : goal.members_of-loop-preserved
 members_of-loop-preserved t c = elim c.match-int_front.branch [
-  | members_of-in-Some+in_ok-push w ↦
-      let n = w.in-Some.number in
-      let e : trees w.push.new.self.items ≡ trees c.loop.members.items ++ tree n ∷ [] = rw w.in_ok-push.ensures.items (map_push tree c.loop.members.items n) in
-      rw (w.members-is, w.rest-is, e) (items_on (layer (inner c.args.room)) c.args.count c.loop.counter (trees c.loop.members.items) c.loop.rest.now w.in-Some.after.now (tree n) (items_at (layer (inner c.args.room)) c.args.count [] c.args.bytes.now) c.loop-test.true (w.in-Some.ensures (inner c.args.room)) c.loop.invariant)
-  | members_of-in_default+in_ok-member+in_ok-push-2 w ↦
+  | members_of-in-Some+in_ok-push_int w ↦
+      let n : to_z w64 (of_z w64 w.in-Some.number) ≡ w.in-Some.number = search rules in
+      rw (w.members-is, w.rest-is, w.in_ok-push_int.ensures, n) (items_on (layer (inner c.args.room)) c.args.count c.loop.counter (trees c.loop.members.items) c.loop.rest.now w.in-Some.after.now (int w.in-Some.number) (items_at (layer (inner c.args.room)) c.args.count [] c.args.bytes.now) c.loop-test.true (w.in-Some.ensures (inner c.args.room)) c.loop.invariant)
+  | members_of-in_default+in_ok-member+in_ok-push w ↦
       let n = w.in_ok-member.member in
-      let e : trees w.push-in_default.new.self.items ≡ trees c.loop.members.items ++ tree n ∷ [] = rw w.in_ok-push-2.ensures.items (map_push tree c.loop.members.items n) in
+      let e : trees w.push.new.self.items ≡ trees c.loop.members.items ++ tree n ∷ [] = rw w.in_ok-push.ensures.items (map_push tree c.loop.members.items n) in
       rw (w.members-is, w.rest-is, e) (items_on (layer (inner c.args.room)) c.args.count c.loop.counter (trees c.loop.members.items) c.loop.rest.now w.in_ok-member.after.now (tree n) (items_at (layer (inner c.args.room)) c.args.count [] c.args.bytes.now) c.loop-test.true w.in_ok-member.ensures c.loop.invariant)
 ]
 
@@ -47,22 +45,25 @@ pairs_of-loop-preserved t c =
 pub many_pairs_of-returns-in_err-key : goal.many_pairs_of-returns-in_err-key
 many_pairs_of-returns-in_err-key t c =
     let p = err_from_is_err_and c.from_residual-in_err-key.result c.from_residual-in_err-key.ensures.1 in
-    let h = c.in_err-key.ensures.key (keys (entries c.loop.pairs.items)) c.loop.invariant.1 in
+    let knows = subst (λ es. Knows c.loop.seen (names es)) (sym c.deref.ensures.value) c.loop.invariant.1 in
+    let h = rw (c.deref.ensures.value, ← keys-entries c.loop.pairs.items) at (c.in_err-key.ensures.key knows) in
     rw (p.1, p.2) (entries_end_key c.in_err-key.field-0.0 (layer (inner c.args.room)) c.args.count c.loop.counter (entries c.loop.pairs.items) c.loop.rest.now (entries_at (layer (inner c.args.room)) c.args.count [] c.args.bytes.now) c.loop-test.true h c.loop.invariant.0)
 
 pub many_pairs_of-returns-in_err-value : goal.many_pairs_of-returns-in_err-value
 many_pairs_of-returns-in_err-value t c =
     let p = err_from_is_err_and c.from_residual-in_err-value.result c.from_residual-in_err-value.ensures.1 in
-    let h = c.in_ok-key.ensures.key (keys (entries c.loop.pairs.items)) c.loop.invariant.1 in
+    let knows = subst (λ es. Knows c.loop.seen (names es)) (sym c.deref.ensures.value) c.loop.invariant.1 in
+    let h = rw (c.deref.ensures.value, ← keys-entries c.loop.pairs.items) at (c.in_ok-key.ensures.key knows) in
     rw (p.1, p.2) (entries_end_value c.in_err-value.field-0.0 (layer (inner c.args.room)) c.args.count c.loop.counter (entries c.loop.pairs.items) c.loop.rest.now c.in_ok-key.after.now c.in_ok-key.key.now (entries_at (layer (inner c.args.room)) c.args.count [] c.args.bytes.now) c.loop-test.true h c.in_err-value.ensures c.loop.invariant.0)
 
 pub many_pairs_of-loop-preserved : goal.many_pairs_of-loop-preserved
 many_pairs_of-loop-preserved t c =
     let n = c.in_ok-value.value in
     let k = c.in_ok-key.key.now in
-    let h = c.in_ok-key.ensures.key (keys (entries c.loop.pairs.items)) c.loop.invariant.1 in
-    let g = c.in_ok-key.ensures.seen (keys (entries c.loop.pairs.items)) c.loop.invariant.1 in
+    let knows = subst (λ es. Knows c.loop.seen (names es)) (sym c.deref.ensures.value) c.loop.invariant.1 in
+    let h = rw (c.deref.ensures.value, ← keys-entries c.loop.pairs.items) at (c.in_ok-key.ensures.key knows) in
+    let more = ap names c.in_ok-push.ensures.items ∙ map_push (λ e. string_bytes e.0) c.loop.pairs.items (c.in_ok-name.name, n) ∙ ap (λ (k : List ℕ). names c.loop.pairs.items ++ k ∷ []) c.in_ok-name.ensures.ok in
     let e : entries c.push.new.self.items ≡ entries c.loop.pairs.items ++ (k, tree n) ∷ [] = rw c.in_ok-push.ensures.items (map_push entry c.loop.pairs.items (c.in_ok-name.name, n) ∙ ap (λ (k : List ℕ). entries c.loop.pairs.items ++ (k, tree n) ∷ []) c.in_ok-name.ensures.ok) in (
       rw e (entries_on (layer (inner c.args.room)) c.args.count c.loop.counter (entries c.loop.pairs.items) c.loop.rest.now c.in_ok-key.after.now c.in_ok-value.after.now k (tree n) (entries_at (layer (inner c.args.room)) c.args.count [] c.args.bytes.now) c.loop-test.true h c.in_ok-value.ensures c.loop.invariant.0),
-      rw (e, keys_push (entries c.loop.pairs.items) k (tree n)) g,
+      subst (Knows _) (ap (λ es. names es ++ k ∷ []) c.deref.ensures.value ∙ sym more) (c.in_ok-key.ensures.seen knows),
     )

@@ -1,5 +1,5 @@
 use Rattle.std.proofs.Common.{◌≡◌, ◌-◌, ◌*◌, ◌+◌, []}
-use Rattle.packstream.specs.Prelude.{trees, entries, layer, inner, items_at, entries_at, keys, Knows}
+use Rattle.packstream.specs.Prelude.{trees, entries, layer, inner, items_at, entries_at, names, Knows}
 use Rattle.packstream.proofs.decoder.+decoder.Given as goal
 
 abbrev pub decreases-value_of : goal.decreases-value_of
@@ -33,4 +33,4 @@ abbrev pub invariant-pairs_of-loop : goal.invariant-pairs_of-loop
 invariant-pairs_of-loop l = entries_at (layer (inner l.room)) (l.count - l.counter) (entries l.pairs.items) l.rest ≡ entries_at (layer (inner l.room)) l.count [] l.bytes
 
 abbrev pub invariant-many_pairs_of-loop : goal.invariant-many_pairs_of-loop
-invariant-many_pairs_of-loop l = (entries_at (layer (inner l.room)) (l.count - l.counter) (entries l.pairs.items) l.rest ≡ entries_at (layer (inner l.room)) l.count [] l.bytes) × Knows l.seen (keys (entries l.pairs.items))
+invariant-many_pairs_of-loop l = (entries_at (layer (inner l.room)) (l.count - l.counter) (entries l.pairs.items) l.rest ≡ entries_at (layer (inner l.room)) l.count [] l.bytes) × Knows l.seen (names l.pairs.items)
