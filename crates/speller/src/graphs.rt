@@ -1,13 +1,10 @@
 //! Nodes, relationships and paths whose structures have no fault.
-ghost use Rattle.std.specs.Prelude.{◌≡◌, ◌≤◌, ◌++◌, ℕ, OnOk, true, map};
+ghost use Rattle.std.specs.Prelude.{◌≡◌, ◌≤◌, ◌++◌, ℕ, OnOk, map};
 ghost use Rattle.packstream.specs.Canon.{canon, canon_all};
 ghost use Rattle.packstream.specs.Good.{count};
 ghost use Rattle.packstream.specs.Tree.{int, list};
 ghost use Rattle.packstream.specs.View.{trees_of};
-ghost use Rattle.cells.specs.Faults.{structures, structures_in};
 ghost use Rattle.cells.specs.Shape.{text_of, texts_of, numbers_of, element_of, elements_of, node_shape, unbound_shape, relationship_shape, path_shape};
-ghost use Rattle.cells.specs.Steps.{all_fine};
-ghost use Rattle.cells.specs.Writing.{fault_of_structure};
 ghost use Rattle.structures.specs.Form.{form, form_all};
 ghost use Rattle.speller.specs.Ready.{IsReady, AreReady};
 
@@ -109,7 +106,6 @@ pub(crate) fn put_node(
     node: &Node,
     room: u8,
 ) -> Result<(), Unspelled>
-    requires { all_fine (fault_of_structure version) (structures (node_shape node.now)) ≡ true }
     ensures before { out.new.before ≡ out.old.before }
     ensures spelled { OnOk result (out.new.more
         ≡ out.old.more ++ canon (form version (node_shape node.now))) }
@@ -133,7 +129,6 @@ pub(crate) fn put_unbound(
     unbound: &UnboundRelationship,
     room: u8,
 ) -> Result<(), Unspelled>
-    requires { all_fine (fault_of_structure version) (structures (unbound_shape unbound.now)) ≡ true }
     ensures before { out.new.before ≡ out.old.before }
     ensures spelled { OnOk result (out.new.more
         ≡ out.old.more ++ canon (form version (unbound_shape unbound.now))) }
@@ -161,8 +156,6 @@ pub(crate) fn put_relationship(
     relationship: &Relationship,
     room: u8,
 ) -> Result<(), Unspelled>
-    requires { all_fine (fault_of_structure version)
-        (structures (relationship_shape relationship.now)) ≡ true }
     ensures before { out.new.before ≡ out.old.before }
     ensures spelled { OnOk result (out.new.more
         ≡ out.old.more ++ canon (form version (relationship_shape relationship.now))) }
@@ -197,7 +190,6 @@ pub(crate) fn put_path(
     path: &Path,
     room: u8,
 ) -> Result<(), Unspelled>
-    requires { all_fine (fault_of_structure version) (structures (path_shape path.now)) ≡ true }
     ensures before { out.new.before ≡ out.old.before }
     ensures spelled { OnOk result (out.new.more
         ≡ out.old.more ++ canon (form version (path_shape path.now))) }
@@ -215,8 +207,6 @@ pub(crate) fn put_path(
 /// Spells a list of nodes, each within the room.
 #[cycle(speller)]
 fn put_nodes(out: &mut Output, version: Version, nodes: &[Node], room: u8) -> Result<(), Unspelled>
-    requires { all_fine (fault_of_structure version)
-        (structures_in (trees_of (map node_shape nodes.now))) ≡ true }
     ensures before { out.new.before ≡ out.old.before }
     ensures spelled { OnOk result (out.new.more
         ≡ out.old.more ++ canon (form version (list (trees_of (map node_shape nodes.now))))) }
@@ -238,8 +228,6 @@ fn put_unbounds(
     unbounds: &[UnboundRelationship],
     room: u8,
 ) -> Result<(), Unspelled>
-    requires { all_fine (fault_of_structure version)
-        (structures_in (trees_of (map unbound_shape unbounds.now))) ≡ true }
     ensures before { out.new.before ≡ out.old.before }
     ensures spelled { OnOk result (out.new.more
         ≡ out.old.more ++ canon (form version (list (trees_of (map unbound_shape unbounds.now))))) }

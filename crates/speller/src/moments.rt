@@ -1,13 +1,10 @@
 //! Times, durations and points.
-ghost use Rattle.std.specs.Prelude.{◌≡◌, ◌≤◌, ◌++◌, ℕ, length, map, OnOk, None, true};
+ghost use Rattle.std.specs.Prelude.{◌≡◌, ◌≤◌, ◌++◌, ℕ, length, map, OnOk};
 ghost use Rattle.packstream.specs.Canon.{canon, canon_all};
 ghost use Rattle.packstream.specs.Tree.{int, float, structure, no_trees, tree_then};
 ghost use Rattle.packstream.specs.View.{trees_of};
-ghost use Rattle.cells.specs.Faults.{structures};
 ghost use Rattle.cells.specs.Shape.{shape, text_of};
-ghost use Rattle.cells.specs.Steps.{all_fine};
 ghost use Rattle.cells.specs.Table.{date_time_tag};
-ghost use Rattle.cells.specs.Writing.{fault_of_structure};
 ghost use Rattle.structures.specs.Form.{form};
 ghost use Rattle.speller.specs.Ready.{IsReady, AreReady};
 
@@ -120,8 +117,6 @@ fn put_date_time(
     offset: i64,
     room: u8,
 ) -> Result<(), Unspelled>
-    requires { fault_of_structure version date_time_tag
-        (tree_then (int utc) (tree_then (int nanos) (tree_then (int offset) no_trees))) ≡ None }
     ensures before { out.new.before ≡ out.old.before }
     ensures spelled { OnOk result (out.new.more
         ≡ out.old.more ++ canon (form version (structure date_time_tag
@@ -130,11 +125,12 @@ fn put_date_time(
         (tree_then (int utc) (tree_then (int nanos) (tree_then (int offset) no_trees)))))) }
 {
     if version.has_utc_times() {
-        put_numbers(out, tags::DATE_TIME, &[utc, nanos, offset], room)
-    } else {
-        let local = [utc + offset, nanos, offset];
-        put_numbers(out, tags::LEGACY_DATE_TIME, &local, room)
+        return put_numbers(out, tags::DATE_TIME, &[utc, nanos, offset], room);
     }
+    let Some(local) = utc.checked_add(offset) else {
+        return Err(Unspelled);
+    };
+    put_numbers(out, tags::LEGACY_DATE_TIME, &[local, nanos, offset], room)
 }
 
 /// Spells a time, a duration or a point whose structure has no fault.
@@ -144,7 +140,6 @@ pub(crate) fn put_moment(
     cell: &Cell,
     room: u8,
 ) -> Result<(), Unspelled>
-    requires { all_fine (fault_of_structure version) (structures (shape cell.now)) ≡ true }
     ensures before { out.new.before ≡ out.old.before }
     ensures spelled { OnOk result (out.new.more
         ≡ out.old.more ++ canon (form version (shape cell.now))) }

@@ -10,7 +10,7 @@ ghost use Rattle.cells.specs.Shape.{shape, shapes, entries};
 ghost use Rattle.cells.specs.Steps.{all_fine};
 ghost use Rattle.cells.specs.Writing.{fault_of_structure};
 ghost use Rattle.structures.specs.Form.{form, form_all, form_under};
-ghost use Rattle.speller.specs.declared.inside.Inside.TheVariants.{Fine};
+ghost use Rattle.speller.specs.declared.inside.Inside.TheVariants.{Unchecked};
 ghost use Rattle.speller.specs.Ready.{IsReady, AreReady, HaveReady};
 
 use crate::fault::Unspelled;
@@ -35,13 +35,11 @@ fn put_cell(
     room: u8,
     inside: Inside,
 ) -> Result<(), Unspelled>
-    requires { inside ≡ Fine → all_fine (fault_of_structure version)
-        (structures (shape cell.now)) ≡ true }
     ensures before { out.new.before ≡ out.old.before }
     ensures spelled { OnOk result (out.new.more
         ≡ out.old.more ++ canon (form version (shape cell.now))) }
     ensures ready { OnOk result (IsReady room (form version (shape cell.now))) }
-    ensures fine { OnOk result (all_fine (fault_of_structure version)
+    ensures fine { OnOk result (inside ≡ Unchecked → all_fine (fault_of_structure version)
         (structures (shape cell.now)) ≡ true) }
 {
     match cell {
@@ -68,13 +66,11 @@ fn put_member(
     room: u8,
     inside: Inside,
 ) -> Result<(), Unspelled>
-    requires { inside ≡ Fine → all_fine (fault_of_structure version)
-        (structures (shape member.now)) ≡ true }
     ensures before { out.new.before ≡ out.old.before }
     ensures spelled { OnOk result (out.new.more
         ≡ out.old.more ++ canon (form version (shape member.now))) }
     ensures ready { OnOk result (IsReady room (form version (shape member.now))) }
-    ensures fine { OnOk result (all_fine (fault_of_structure version)
+    ensures fine { OnOk result (inside ≡ Unchecked → all_fine (fault_of_structure version)
         (structures (shape member.now)) ≡ true) }
 {
     match member {
@@ -85,9 +81,7 @@ fn put_member(
 
 /// Whether the structures of a cell have no fault at the version, looked at unless that is known.
 fn is_fine(version: Version, cell: &Cell, inside: Inside) -> bool
-    requires { inside ≡ Fine → all_fine (fault_of_structure version)
-        (structures (shape cell.now)) ≡ true }
-    ensures { result ≡ true → all_fine (fault_of_structure version)
+    ensures { result ≡ true → inside ≡ Unchecked → all_fine (fault_of_structure version)
         (structures (shape cell.now)) ≡ true }
 {
     match inside {
@@ -106,13 +100,11 @@ fn put_structure(
     room: u8,
     inside: Inside,
 ) -> Result<(), Unspelled>
-    requires { inside ≡ Fine → all_fine (fault_of_structure version)
-        (structures (shape cell.now)) ≡ true }
     ensures before { out.new.before ≡ out.old.before }
     ensures spelled { OnOk result (out.new.more
         ≡ out.old.more ++ canon (form version (shape cell.now))) }
     ensures ready { OnOk result (IsReady room (form version (shape cell.now))) }
-    ensures fine { OnOk result (all_fine (fault_of_structure version)
+    ensures fine { OnOk result (inside ≡ Unchecked → all_fine (fault_of_structure version)
         (structures (shape cell.now)) ≡ true) }
 {
     if !is_fine(version, cell, inside) {
@@ -137,13 +129,11 @@ pub(crate) fn put_cells(
     room: u8,
     inside: Inside,
 ) -> Result<(), Unspelled>
-    requires { inside ≡ Fine → all_fine (fault_of_structure version)
-        (structures_in (trees_of (shapes members.now))) ≡ true }
     ensures before { out.new.before ≡ out.old.before }
     ensures spelled { OnOk result (out.new.more
         ≡ out.old.more ++ canon (form version (list (trees_of (shapes members.now))))) }
     ensures ready { OnOk result (IsReady room (form version (list (trees_of (shapes members.now))))) }
-    ensures fine { OnOk result (all_fine (fault_of_structure version)
+    ensures fine { OnOk result (inside ≡ Unchecked → all_fine (fault_of_structure version)
         (structures_in (trees_of (shapes members.now))) ≡ true) }
 {
     if room == 0 {
@@ -161,13 +151,11 @@ fn put_members(
     room: u8,
     inside: Inside,
 ) -> Result<(), Unspelled>
-    requires { inside ≡ Fine → all_fine (fault_of_structure version)
-        (structures_in (trees_of (shapes members.now))) ≡ true }
     ensures before { out.new.before ≡ out.old.before }
     ensures spelled { OnOk result (out.new.more
         ≡ out.old.more ++ canon_all (form_all version (trees_of (shapes members.now)))) }
     ensures ready { OnOk result (AreReady room (form_all version (trees_of (shapes members.now)))) }
-    ensures fine { OnOk result (all_fine (fault_of_structure version)
+    ensures fine { OnOk result (inside ≡ Unchecked → all_fine (fault_of_structure version)
         (structures_in (trees_of (shapes members.now))) ≡ true) }
 {
     for member in members {
@@ -186,13 +174,11 @@ pub(crate) fn put_entries(
     room: u8,
     inside: Inside,
 ) -> Result<(), Unspelled>
-    requires { inside ≡ Fine → all_fine (fault_of_structure version)
-        (structures_under (entries_of (entries pairs.now))) ≡ true }
     ensures before { out.new.before ≡ out.old.before }
     ensures spelled { OnOk result (out.new.more
         ≡ out.old.more ++ canon (form version (dict (entries_of (entries pairs.now))))) }
     ensures ready { OnOk result (IsReady room (form version (dict (entries_of (entries pairs.now))))) }
-    ensures fine { OnOk result (all_fine (fault_of_structure version)
+    ensures fine { OnOk result (inside ≡ Unchecked → all_fine (fault_of_structure version)
         (structures_under (entries_of (entries pairs.now))) ≡ true) }
 {
     if room == 0 || pairs.len() > MAX_SIZE || !are_new(out.allocator(), pairs) {
@@ -210,13 +196,11 @@ fn put_pairs(
     room: u8,
     inside: Inside,
 ) -> Result<(), Unspelled>
-    requires { inside ≡ Fine → all_fine (fault_of_structure version)
-        (structures_under (entries_of (entries pairs.now))) ≡ true }
     ensures before { out.new.before ≡ out.old.before }
     ensures spelled { OnOk result (out.new.more
         ≡ out.old.more ++ canon_entries (form_under version (entries_of (entries pairs.now)))) }
     ensures ready { OnOk result (HaveReady room (form_under version (entries_of (entries pairs.now)))) }
-    ensures fine { OnOk result (all_fine (fault_of_structure version)
+    ensures fine { OnOk result (inside ≡ Unchecked → all_fine (fault_of_structure version)
         (structures_under (entries_of (entries pairs.now))) ≡ true) }
 {
     for pair in pairs {
@@ -234,14 +218,12 @@ fn put_pair(
     room: u8,
     inside: Inside,
 ) -> Result<(), Unspelled>
-    requires { inside ≡ Fine → all_fine (fault_of_structure version)
-        (structures (shape pair.now.1)) ≡ true }
     ensures before { out.new.before ≡ out.old.before }
     ensures spelled { OnOk result (out.new.more
         ≡ out.old.more ++ (text_bytes (string_bytes pair.now.0) ++ canon (form version (shape pair.now.1)))) }
     ensures utf8 { IsUtf8 (string_bytes pair.now.0) }
     ensures ready { OnOk result (IsReady room (form version (shape pair.now.1))) }
-    ensures fine { OnOk result (all_fine (fault_of_structure version)
+    ensures fine { OnOk result (inside ≡ Unchecked → all_fine (fault_of_structure version)
         (structures (shape pair.now.1)) ≡ true) }
 {
     put_text(out, pair.0.as_str())?;

@@ -6,13 +6,11 @@ use Rattle.packstream.specs.Canon.{head}
 use Rattle.cells.specs.declared.cell.Node.{Node}
 use Rattle.cells.specs.declared.cell.Path.{out-Path}
 use Rattle.cells.specs.declared.cell.UnboundRelationship.{UnboundRelationship}
-use Rattle.cells.specs.Prelude.{shape, entry, entries, structures, structures_under, all_fine, fault_of_structure, node_shape, unbound_shape, texts_of, numbers_of}
-use Rattle.cells.proofs.Views.{shape-Dict, node-out, unbound-out, relationship-out, path-out}
-use Rattle.cells.proofs.Fine.{fine_member, fine_pair}
-use Rattle.cells.proofs.Judged.{node_fine, unbound_fine, relationship_fine, path_nodes_fine, path_unbounds_fine}
+use Rattle.cells.specs.Prelude.{shape, entries, node_shape, unbound_shape, texts_of, numbers_of}
+use Rattle.cells.proofs.Views.{node-out, unbound-out, relationship-out, path-out}
 use Rattle.structures.specs.Prelude.{form, form_all}
 use Rattle.speller.specs.Ready.{IsReady, AreReady}
-use Rattle.speller.proofs.Flat.{Pair, flat, flats, pair_bytes, flat_more, flats_more, ready_more, readys_more, fine_more, fines_more, new_forms, are_fine, len_forms}
+use Rattle.speller.proofs.Flat.{Pair, flat, flats, pair_bytes, flat_more, flats_more, ready_more, readys_more, fine_more, fines_more, new_forms, len_forms}
 use Rattle.speller.proofs.Pieces.{node_put, unbound_put, relationship_put, path_put, node_ready, unbound_ready, relationship_ready, path_ready}
 use Rattle.speller.proofs.+speller.Goals as goal
 
@@ -24,7 +22,7 @@ spelling::put_members-loop-member-preserved t c =
       c.put_member.ensures.before ∙ c.loop-member.invariant.0,
       c.in_ok-put_member.ensures.spelled ∙ ap (λ (x : List ℕ). x ++ its) c.loop-member.invariant.1 ∙ append_assoc c.args.out.now.more done its ∙ ap (λ (x : List ℕ). c.args.out.now.more ++ x) (sym (flat_more v shape c.args.members.now c.loop-member.member-index c.member-item.result c.loop-member-test.true c.member-item.is)),
       ready_more v c.args.room shape c.args.members.now c.loop-member.member-index c.member-item.result c.loop-member-test.true c.member-item.is c.loop-member.invariant.2 c.in_ok-put_member.ensures.ready,
-      fine_more v shape c.args.members.now c.loop-member.member-index c.member-item.result c.loop-member-test.true c.member-item.is c.loop-member.invariant.3 c.in_ok-put_member.ensures.fine,
+      λ u. fine_more v shape c.args.members.now c.loop-member.member-index c.member-item.result c.loop-member-test.true c.member-item.is (c.loop-member.invariant.3 u) (c.in_ok-put_member.ensures.fine u),
     )
 
 pub spelling::put_pairs-loop-pair-preserved : goal.spelling::put_pairs-loop-pair-preserved
@@ -35,7 +33,7 @@ spelling::put_pairs-loop-pair-preserved t c =
       c.put_pair.ensures.before ∙ c.loop-pair.invariant.0,
       c.in_ok-put_pair.ensures.spelled ∙ ap (λ (x : List ℕ). x ++ its) c.loop-pair.invariant.1 ∙ append_assoc c.args.out.now.more done its ∙ ap (λ (x : List ℕ). c.args.out.now.more ++ x) (sym (flats_more v c.args.pairs.now c.loop-pair.pair-index c.pair-item.result c.loop-pair-test.true c.pair-item.is)),
       readys_more v c.args.room c.args.pairs.now c.loop-pair.pair-index c.pair-item.result c.loop-pair-test.true c.pair-item.is c.loop-pair.invariant.2 c.put_pair.ensures.utf8 c.in_ok-put_pair.ensures.ready,
-      fines_more v c.args.pairs.now c.loop-pair.pair-index c.pair-item.result c.loop-pair-test.true c.pair-item.is c.loop-pair.invariant.3 c.in_ok-put_pair.ensures.fine,
+      λ u. fines_more v c.args.pairs.now c.loop-pair.pair-index c.pair-item.result c.loop-pair-test.true c.pair-item.is (c.loop-pair.invariant.3 u) (c.in_ok-put_pair.ensures.fine u),
     )
 
 pub graphs::put_nodes-loop-node-preserved : goal.graphs::put_nodes-loop-node-preserved
@@ -49,9 +47,6 @@ graphs::put_nodes-loop-node-preserved t c =
       ready_more v c.args.room node_shape c.args.nodes.now c.loop-node.node-index c.node-item.result c.loop-node-test.true c.node-item.is c.loop-node.invariant.2 c.in_ok-put_node.ensures.ready,
     )
 
-pub graphs::put_nodes-put_node-requires : goal.graphs::put_nodes-put_node-requires
-graphs::put_nodes-put_node-requires t c = (omega (arith, c.decreases), fine_member node_shape (fault_of_structure c.args.version) c.args.nodes.now c.loop-node.node-index c.node-item.result c.loop-node-test.true c.node-item.is c.requires)
-
 pub graphs::put_unbounds-loop-unbound-preserved : goal.graphs::put_unbounds-loop-unbound-preserved
 graphs::put_unbounds-loop-unbound-preserved t c =
     let v = c.args.version in
@@ -62,33 +57,6 @@ graphs::put_unbounds-loop-unbound-preserved t c =
       c.in_ok-put_unbound.ensures.spelled ∙ ap (λ (x : List ℕ). x ++ its) c.loop-unbound.invariant.1 ∙ append_assoc start done its ∙ ap (λ (x : List ℕ). start ++ x) (sym (flat_more v unbound_shape c.args.unbounds.now c.loop-unbound.unbound-index c.unbound-item.result c.loop-unbound-test.true c.unbound-item.is)),
       ready_more v c.args.room unbound_shape c.args.unbounds.now c.loop-unbound.unbound-index c.unbound-item.result c.loop-unbound-test.true c.unbound-item.is c.loop-unbound.invariant.2 c.in_ok-put_unbound.ensures.ready,
     )
-
-pub graphs::put_unbounds-put_unbound-requires : goal.graphs::put_unbounds-put_unbound-requires
-graphs::put_unbounds-put_unbound-requires t c = (omega (arith, c.decreases), fine_member unbound_shape (fault_of_structure c.args.version) c.args.unbounds.now c.loop-unbound.unbound-index c.unbound-item.result c.loop-unbound-test.true c.unbound-item.is c.requires)
-
-pub spelling::put_members-put_member-requires : goal.spelling::put_members-put_member-requires
-spelling::put_members-put_member-requires t c = (omega (arith, c.decreases), λ e. fine_member shape (fault_of_structure c.args.version) c.args.members.now c.loop-member.member-index c.member-item.result c.loop-member-test.true c.member-item.is (c.requires e))
-
-pub spelling::put_pairs-put_pair-requires : goal.spelling::put_pairs-put_pair-requires
-spelling::put_pairs-put_pair-requires t c = (omega (arith, c.decreases), λ e. fine_pair entry (fault_of_structure c.args.version) c.args.pairs.now c.loop-pair.pair-index c.pair-item.result c.loop-pair-test.true c.pair-item.is (c.requires e))
-
-pub spelling::put_cell-put_entries-requires : goal.spelling::put_cell-put_entries-requires
-spelling::put_cell-put_entries-requires t c = (omega (arith, c.decreases), λ e. ap (λ (ps : List Pair). all_fine (fault_of_structure c.args.version) (structures_under (entries_of (entries ps)))) c.deref-in-Dict.ensures.value ∙ sym (ap (λ (u : Tree). all_fine (fault_of_structure c.args.version) (structures u)) (ap shape c.in-Dict.is ∙ shape-Dict c.in-Dict.pairs)) ∙ c.requires e)
-
-pub graphs::put_node-put_entries-requires : goal.graphs::put_node-put_entries-requires
-graphs::put_node-put_entries-requires t c =
-    let n = c.args.node.now in
-    (omega (arith, c.decreases, c.if-room-lt2.false), λ e. ap (λ (ps : List Pair). all_fine (fault_of_structure c.args.version) (structures_under (entries_of (entries ps)))) c.deref-2.ensures.value ∙ node_fine (fault_of_structure c.args.version) n.id n.labels.items n.properties.items n.element_id (sym (ap (λ (u : Tree). all_fine (fault_of_structure c.args.version) (structures u)) (node-out n)) ∙ c.requires))
-
-pub graphs::put_unbound-put_entries-requires : goal.graphs::put_unbound-put_entries-requires
-graphs::put_unbound-put_entries-requires t c =
-    let n = c.args.unbound.now in
-    (omega (arith, c.decreases, c.if-room-lt2.false), λ e. ap (λ (ps : List Pair). all_fine (fault_of_structure c.args.version) (structures_under (entries_of (entries ps)))) c.deref.ensures.value ∙ unbound_fine (fault_of_structure c.args.version) n.id n.kind n.properties.items n.element_id (sym (ap (λ (u : Tree). all_fine (fault_of_structure c.args.version) (structures u)) (unbound-out n)) ∙ c.requires))
-
-pub graphs::put_relationship-put_entries-requires : goal.graphs::put_relationship-put_entries-requires
-graphs::put_relationship-put_entries-requires t c =
-    let n = c.args.relationship.now in
-    (omega (arith, c.decreases, c.if-room-lt2.false), λ e. ap (λ (ps : List Pair). all_fine (fault_of_structure c.args.version) (structures_under (entries_of (entries ps)))) c.deref.ensures.value ∙ relationship_fine (fault_of_structure c.args.version) n.id n.start n.end n.kind n.properties.items n.element_ids (sym (ap (λ (u : Tree). all_fine (fault_of_structure c.args.version) (structures u)) (relationship-out n)) ∙ c.requires))
 
 pub graphs::put_node-returns-clause-spelled : goal.graphs::put_node-returns-clause-spelled
 graphs::put_node-returns-clause-spelled t c =
@@ -153,20 +121,6 @@ graphs::put_relationship-returns-clause-ready t c =
     let to : FitsSigned w64 n.end = search rules in
     let under = subst (λ (ps : List Pair). IsReady (c.args.room - 1) (form v (dict (entries_of (entries ps))))) c.deref.ensures.value c.in_ok-put_entries.ensures.ready in
     on_ok_weaker c.put_elements.result (λ p. subst (λ (u : Tree). IsReady c.args.room (form v u)) (sym (relationship-out n)) (relationship_ready v c.args.room n.id n.properties.items two fits under n.start n.end n.kind n.element_ids from to)) c.put_elements.ensures.spelled
-
-pub graphs::put_path-put_nodes-requires : goal.graphs::put_path-put_nodes-requires
-graphs::put_path-put_nodes-requires t c =
-    let j = fault_of_structure c.args.version in
-    let w = out-Path c.args.path.now in
-    let h = sym (ap (λ (u : Tree). all_fine j (structures u)) (path-out c.args.path.now)) ∙ c.requires in
-    (omega (arith, c.decreases, c.if-room-lt2.false), subst (λ (ns : List Node). are_fine c.args.version node_shape ns) (sym c.deref.ensures.value) (path_nodes_fine j (map node_shape w.nodes.items) (map unbound_shape w.relationships.items) w.indices.items h))
-
-pub graphs::put_path-put_unbounds-requires : goal.graphs::put_path-put_unbounds-requires
-graphs::put_path-put_unbounds-requires t c =
-    let j = fault_of_structure c.args.version in
-    let w = out-Path c.args.path.now in
-    let h = sym (ap (λ (u : Tree). all_fine j (structures u)) (path-out c.args.path.now)) ∙ c.requires in
-    (omega (arith, c.decreases, c.if-room-lt2.false), subst (λ (rs : List UnboundRelationship). are_fine c.args.version unbound_shape rs) (sym c.deref-2.ensures.value) (path_unbounds_fine j (map node_shape w.nodes.items) (map unbound_shape w.relationships.items) w.indices.items h))
 
 pub graphs::put_path-returns-clause-spelled : goal.graphs::put_path-returns-clause-spelled
 graphs::put_path-returns-clause-spelled t c =

@@ -1,6 +1,7 @@
 use Rattle.std.proofs.Common.{◌≡◌, ◌+◌, ◌++◌, ◌*◌, take, length}
 use Rattle.packstream.specs.Canon.{head}
 use Rattle.cells.specs.Prelude.{shape, node_shape, unbound_shape}
+use Rattle.speller.specs.declared.inside.Inside.TheVariants.{Unchecked}
 use Rattle.speller.proofs.Flat.{flat, flats, are_ready, have_ready, are_fine, have_fine}
 use Rattle.speller.proofs.+speller.Given as goal
 
@@ -51,14 +52,14 @@ invariant-spelling::put_members-loop-member l =
     (l.out.before ≡ l.fn.out.before)
     × (l.out.more ≡ l.fn.out.more ++ flat l.version shape (take l.member-index l.members))
     × are_ready l.version l.room shape (take l.member-index l.members)
-    × are_fine l.version shape (take l.member-index l.members)
+    × (l.inside ≡ Unchecked → are_fine l.version shape (take l.member-index l.members))
 
 abbrev pub invariant-spelling::put_pairs-loop-pair : goal.invariant-spelling::put_pairs-loop-pair
 invariant-spelling::put_pairs-loop-pair l =
     (l.out.before ≡ l.fn.out.before)
     × (l.out.more ≡ l.fn.out.more ++ flats l.version (take l.pair-index l.pairs))
     × have_ready l.version l.room (take l.pair-index l.pairs)
-    × have_fine l.version (take l.pair-index l.pairs)
+    × (l.inside ≡ Unchecked → have_fine l.version (take l.pair-index l.pairs))
 
 abbrev pub invariant-graphs::put_nodes-loop-node : goal.invariant-graphs::put_nodes-loop-node
 invariant-graphs::put_nodes-loop-node l =
