@@ -5,8 +5,7 @@ use Rattle.std.specs.Fmt.{digits, digits_onto, digit_glyph}
 use Rattle.std.specs.Str.{chars, encode_utf8_all, all_scalars}
 use Rattle.std.specs.Char.{encode_utf8}
 use Rattle.std.proofs.Math.Utf8.{scalar}
-use Rattle.std.proofs.lemmas.Bool.{and_parts, cond_both, ltb-true, agree_below_at, false≢true}
-use Rattle.cells.proofs.Both.{both_true}
+use Rattle.std.proofs.lemmas.Bool.{and_parts, cond_both, ltb-true, agree_below_at}
 use Rattle.std.proofs.lemmas.List.Folds.{list_all-append}
 use Rattle.std.proofs.lemmas.Str.{chars-encodes, encodes-chars, encodes-append, scalars-chars, encode_ascii, chars_past_char, chars-nil}
 use Rattle.prints.specs.Prelude.{is_unprintable, hex_number, escape, shown, escaped, is_clean}
@@ -16,7 +15,7 @@ abbrev is_plain : ℕ → Bool
 is_plain b = nat_lt b 128 && not (is_unprintable b)
 
 joined : (p : ℕ → Bool) (xs ys : List ℕ) → list_all p xs ≡ true → list_all p ys ≡ true → list_all p (xs ++ ys) ≡ true
-joined p xs ys e f = list_all-append p xs ys ∙ both_true (list_all p xs) (list_all p ys) e f
+joined p xs ys e f = rw (list_all-append p xs ys, e) f
 
 glyph_plain : (d : ℕ) → d < 16 → is_plain (digit_glyph false d) ≡ true
 glyph_plain d h = agree_below_at (λ d. is_plain (digit_glyph false d)) (λ d. true) 16 d refl h
@@ -24,7 +23,7 @@ glyph_plain d h = agree_below_at (λ d. is_plain (digit_glyph false d)) (λ d. t
 digits_plain : (k n : ℕ) (acc : List ℕ) → list_all is_plain acc ≡ true → list_all is_plain (digits_onto k 16 false n acc) ≡ true
 digits_plain zero n acc h = h
 digits_plain (suc k) n acc h =
-    let more : list_all is_plain (digit_glyph false (n % 16) ∷ acc) ≡ true = both_true (is_plain (digit_glyph false (n % 16))) (list_all is_plain acc) (glyph_plain (n % 16) (omega arith)) h in
+    let more : list_all is_plain (digit_glyph false (n % 16) ∷ acc) ≡ true = rw (glyph_plain (n % 16) (omega arith)) h in
     cond_both (n / 16 == 0) _ _ (λ (ds : List ℕ). list_all is_plain ds ≡ true) (λ _. more) (λ _. digits_plain k (n / 16) (digit_glyph false (n % 16) ∷ acc) more)
 
 all_digits_plain : (n : ℕ) → list_all is_plain (digits 16 false n) ≡ true
@@ -42,8 +41,7 @@ encoded_plain : (xs : List ℕ) → list_all is_plain xs ≡ true → encode_utf
 encoded_plain [] h = refl
 encoded_plain (x ∷ xs) h =
     let p = and_parts (is_plain x) (list_all is_plain xs) h in
-    let small = ltb-true x 128 (and_parts (nat_lt x 128) (not (is_unprintable x)) p.0).0 in
-    ap (λ b. b ++ encode_utf8_all xs) (encode_ascii x small) ∙ ap (λ b. x ∷ b) (encoded_plain xs p.1)
+    rw (encode_ascii x (ltb-true x 128 (and_parts (nat_lt x 128) (not (is_unprintable x)) p.0).0), encoded_plain xs p.1) refl
 
 -- what is printed of a character by its number is one byte a character
 pub encoded_escape : (c : ℕ) → encode_utf8_all (escape c) ≡ escape c
@@ -51,9 +49,7 @@ encoded_escape c = encoded_plain (escape c) (escape_plain c)
 
 all_from : (p q : ℕ → Bool) (xs : List ℕ) → ((x : ℕ) → p x ≡ true → q x ≡ true) → list_all p xs ≡ true → list_all q xs ≡ true
 all_from p q [] f h = refl
-all_from p q (x ∷ xs) f h =
-    let e = and_parts (p x) (list_all p xs) h in
-    both_true (q x) (list_all q xs) (f x e.0) (all_from p q xs f e.1)
+all_from p q (x ∷ xs) f h = let e = and_parts (p x) (list_all p xs) h in rw (f x e.0) (all_from p q xs f e.1)
 
 plain_printed : (x : ℕ) → is_plain x ≡ true → not (is_unprintable x) ≡ true
 plain_printed x h = (and_parts (nat_lt x 128) (not (is_unprintable x)) h).1
@@ -64,7 +60,7 @@ plain_scalar x h = agree_below_at scalar (λ b. true) 128 x refl (ltb-true x 128
 shown_step : (hidden : Bool) (p : ℕ → Bool) (c : ℕ) → is_unprintable c ≡ hidden → ((x : ℕ) → is_plain x ≡ true → p x ≡ true) → (not (is_unprintable c) ≡ true → p c ≡ true)
     → list_all p (cond hidden (escape c) (c ∷ [])) ≡ true
 shown_step true p c e plain own = all_from is_plain p (escape c) plain (escape_plain c)
-shown_step false p c e plain own = both_true (p c) true (own (ap not e)) refl
+shown_step false p c e plain own = rw (own (ap not e)) refl
 
 -- what is printed of characters passes a test that plain ones pass, and each that is printed as it is
 shown_all : (p : ℕ → Bool) (cs : List ℕ) → ((x : ℕ) → is_plain x ≡ true → p x ≡ true) → ((x : ℕ) → scalar x ≡ true → not (is_unprintable x) ≡ true → p x ≡ true) → all_scalars cs ≡ true → list_all p (flat_map shown cs) ≡ true
@@ -73,23 +69,16 @@ shown_all p (c ∷ cs) plain own h =
     let s = and_parts (scalar c) (all_scalars cs) h in
     joined p (shown c) (flat_map shown cs) (shown_step (is_unprintable c) p c refl plain (own c s.0)) (shown_all p cs plain own s.1)
 
-scalars_all : (cs : List ℕ) → list_all scalar cs ≡ true → all_scalars cs ≡ true
-scalars_all [] h = refl
-scalars_all (c ∷ cs) h =
-    let p = and_parts (scalar c) (list_all scalar cs) h in
-    both_true (scalar c) (all_scalars cs) p.0 (scalars_all cs p.1)
-
 -- what is printed of a text may be printed as it is
 pub escaped_clean : (t : List ℕ) → IsUtf8 t → is_clean (escaped t) ≡ true
 escaped_clean t u =
     let cs = chars t in
     let good = scalars-chars t u in
-    ap (list_all (λ c. not (is_unprintable c))) (chars-encodes (flat_map shown cs) (scalars_all (flat_map shown cs) (shown_all scalar cs plain_scalar (λ x s e. s) good)))
+    ap (list_all (λ c. not (is_unprintable c))) (chars-encodes (flat_map shown cs) (shown_all scalar cs plain_scalar (λ x s e. s) good))
     ∙ shown_all (λ c. not (is_unprintable c)) cs plain_printed (λ x s e. e) good
 
 same_step : (hidden : Bool) (c : ℕ) (front rest cs : List ℕ) → not hidden ≡ true → rest ≡ cs → cond hidden front (c ∷ []) ++ rest ≡ c ∷ cs
-same_step true c front rest cs h e = absurd (false≢true h)
-same_step false c front rest cs h e = ap (λ r. c ∷ r) e
+same_step hidden c front rest cs h e = grind (arith, h, e)
 
 shown_same : (cs : List ℕ) → list_all (λ c. not (is_unprintable c)) cs ≡ true → flat_map shown cs ≡ cs
 shown_same [] h = refl
@@ -103,12 +92,9 @@ escaped_same t u h = ap encode_utf8_all (shown_same (chars t) h) ∙ encodes-cha
 
 -- one more character of a text is shown
 pub escaped_step : (t rest a out whole : List ℕ) (c : ℕ) → IsUtf8 t → t ≡ encode_utf8 c ++ rest → out ≡ a ++ encode_utf8_all (shown c) → a ++ escaped t ≡ whole → out ++ escaped rest ≡ whole
-escaped_step t rest a out whole c u e o h =
-    let split : escaped t ≡ encode_utf8_all (shown c) ++ escaped rest =
-    ap (λ cs. encode_utf8_all (flat_map shown cs)) (chars_past_char t rest c u e) ∙ encodes-append (shown c) (flat_map shown (chars rest)) in
-    ap (λ x. x ++ escaped rest) o ∙ append_assoc a (encode_utf8_all (shown c)) (escaped rest) ∙ ap (λ x. a ++ x) (sym split) ∙ h
+escaped_step t rest a out whole c u e o h = rw (o, append_assoc, ← h, chars_past_char t rest c u e, encodes-append (shown c) (flat_map shown (chars rest))) refl
 
 -- nothing is left of a text
 pub escaped_end : (t out whole : List ℕ) → length t ≡ 0 → out ++ escaped t ≡ whole → out ≡ whole
-escaped_end [] out whole e h = sym (append-nil out) ∙ ap (λ cs. out ++ encode_utf8_all (flat_map shown cs)) (sym chars-nil) ∙ h
+escaped_end [] out whole e h = rw (← h, chars-nil) (sym (append-nil out))
 escaped_end (b ∷ bs) out whole e h = absurd (omega (arith, e))
