@@ -23,6 +23,9 @@ use streams::{Over, Sink, Source, StreamFault};
 /// How many seconds a peer may say nothing, or take nothing of what it is sent.
 const SILENCE: u64 = 10;
 
+/// How many connections behind one another are passed over that fail as they are accepted. Behind these none comes, as where no descriptor is free.
+const MOST_GONE: u32 = 64;
+
 /// Has a peer given up that says nothing for long, or takes nothing of what it is sent; and has each write sent at once.
 fn timed(stream: TcpStream) -> io::Result<TcpStream> {
     let longest = Some(Duration::from_secs(SILENCE));
@@ -147,7 +150,7 @@ fn serve_once<E: Engine + Drop, S: Alter + Drop, G: Gate, O: Sink, W: Sink>(
 
 /// Serves the connections of a listener, one after another, and prints `conn K En` as each ends, its number and the cause of its end; a
 /// fault that broke one off is told on `err`. It goes on until the engine stops, since its disk failed, or standard output fails, or memory
-/// runs out as a session is to begin or its end to be told; what it answers is which.
+/// runs out as a session is to begin or its end to be told, or no connection comes any more; what it answers is which.
 pub fn serve_until_failed<E: Engine + Drop, S: Alter + Drop, G: Gate, O: Sink, W: Sink>(
     alloc: Global,
     server: &mut Server<Lasting<E, S>, G>,
@@ -163,9 +166,18 @@ pub fn serve_until_failed<E: Engine + Drop, S: Alter + Drop, G: Gate, O: Sink, W
     if server.engine().is_stopped() {
         return Reason::DiskFailed;
     }
+    let mut gone = 0;
     for stream in listener.incoming() {
         // A connection that fails before it begins is passed over.
-        let Ok(stream) = stream.and_then(timed) else {
+        let Ok(stream) = stream else {
+            if gone >= MOST_GONE {
+                return Reason::NoConnection;
+            }
+            gone += 1;
+            continue;
+        };
+        gone = 0;
+        let Ok(stream) = timed(stream) else {
             continue;
         };
         match serve_once(alloc, server, &stream, out, err) {

@@ -1,6 +1,5 @@
 //! The server over a file.
-ghost use Rattle.std.specs.Prelude.{◌≡◌, [], List, false, true, Err, IfOk, IfErr, OnOk, IsErrOf};
-ghost use Rattle.std.specs.Io.KnownBytes.{Appends};
+ghost use Rattle.std.specs.Prelude.{◌≡◌, [], List, false, Err, IfOk, IfErr};
 ghost use Rattle.engine.specs.Views.{EntryView};
 ghost use Rattle.lasting.specs.Kept.{Endures, ledger_of};
 ghost use Rattle.lasting.specs.Ledger.{HoldsLedger};
@@ -53,8 +52,16 @@ fn listening_text(alloc: Global, port: u16) -> Result<String, AllocError> {
     Ok(text)
 }
 
-/// Prints the port at which connections are taken.
-fn put_listening<O: Sink>(alloc: Global, port: u16, out: &mut O) -> Result<(), Reason> {
+/// Prints the port at which connections are taken: where 0 was asked for, the one that was had.
+fn put_listening<O: Sink>(
+    alloc: Global,
+    listener: &TcpListener,
+    out: &mut O,
+) -> Result<(), Reason> {
+    let port = match listener.local_addr() {
+        Ok(address) => address.port(),
+        Err(error) => return Err(Reason::Port(error)),
+    };
     let Ok(text) = listening_text(alloc, port) else {
         return Err(Reason::Memory);
     };
@@ -87,7 +94,7 @@ pub fn serve_database<E: Engine + Drop, S: Alter + Drop, G: Gate + Drop, O: Sink
         Ok(listener) => listener,
         Err(error) => return Reason::Port(error),
     };
-    if let Err(reason) = put_listening(alloc, port, out) {
+    if let Err(reason) = put_listening(alloc, &listener, out) {
         return reason;
     }
     let mut server = Server::new(alloc, engine, gate);

@@ -2,6 +2,7 @@
 #![tactic(auto)]
 
 use keeping::serve_file;
+use prints::fill_closed;
 use std::io;
 use std::process::ExitCode;
 
@@ -26,6 +27,8 @@ fn run(rt: &HostRuntime) -> io::Result<()> {
 
 /// It serves until it fails, so the status is 1 however it ends.
 fn main(rt: HostRuntime) -> ExitCode {
+    // Before anything else is opened, and kept until the end.
+    let _closed = fill_closed(&rt);
     if let Err(error) = run(&rt) {
         let _told = eprintln!(rt; "Error: {error}");
     }
