@@ -10,9 +10,6 @@ use Rattle.server.specs.Prelude.{Feeding, feeding, takes_none, takes_item, Live,
 use Rattle.behind.specs.Prelude.{IsFront}
 
 module _ (xs ys : List ℕ) (f : IsFront xs ys) where
-  pub front_take : take (length xs) ys ≡ xs
-  front_take = ap (take (length xs)) (sym f.1) ∙ take_at xs f.0 (length xs) refl
-
   pub front_length : length xs ≤ length ys
   front_length = let long = ap length f.1 in omega (arith, length-append xs f.0)
 

@@ -1,6 +1,6 @@
 //! What a handle holds, and its calls in plain data.
 
-ghost use Rattle.std.specs.Prelude.{◌≡◌, ◌≤◌, ◌<◌, true, false, None, Some, Ok, Err, is_some, length, min, IfOk, IfErr, OnErr, IsErrOf};
+ghost use Rattle.std.specs.Prelude.{◌≡◌, ◌<◌, true, false, None, Some, Ok, Err, is_some, length, min, IfOk, IfErr, OnErr, IsErrOf};
 ghost use Rattle.client.specs.Rest.{begun};
 ghost use Rattle.driver.specs.Account.{untold, response_of, rows_of};
 ghost use Rattle.bolt_c.specs.Codes.{StandsAt};

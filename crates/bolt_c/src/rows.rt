@@ -1,6 +1,6 @@
 //! The bytes of a row, in PackStream.
 
-ghost use Rattle.std.specs.Prelude.{◌≡◌, ◌++◌, ◌∷◌, true, Ok, Err, IfOk, IfErr, OnOk, IfSome, [], ◌≤◌};
+ghost use Rattle.std.specs.Prelude.{◌≡◌, ◌++◌, ◌∷◌, Ok, Err, IfOk, IfErr, OnOk, IfSome, [], ◌≤◌};
 ghost use Rattle.packstream.specs.Canon.{canon};
 ghost use Rattle.packstream.specs.Good.{IsGood, depth};
 ghost use Rattle.packstream.specs.Tree.{list};

@@ -3,8 +3,8 @@
 ghost use Rattle.std.specs.Prelude.{◌≡◌, ◌≤◌, ◌<◌, ◌+◌, ◌^◌, Some, None, IfSome, IfNone, length};
 ghost use Rattle.byteorder.specs.Endian.{big_number, twos_complement};
 ghost use Rattle.packstream.specs.Markers.{width, size_len};
-ghost use Rattle.packstream.specs.Faults.{size_in, needs};
-ghost use Rattle.bolt_c.specs.Values.{kind_code, plain, counted, placed, head_by, head_at, size_read};
+ghost use Rattle.packstream.specs.Faults.{size_in};
+ghost use Rattle.bolt_c.specs.Values.{kind_code, plain, counted, placed, head_by, head_at};
 
 use byteorder::{BigEndian, ByteOrder};
 use packstream::marker::{Marker, Size, Width, marker_of};

@@ -1,7 +1,5 @@
 //! The password of the one user.
-ghost use Rattle.std.specs.Prelude.{◌≡◌};
 
-use std::alloc::{AllocError, Global};
 use std::{fs, io};
 
 /// The first line of a text, without its end.

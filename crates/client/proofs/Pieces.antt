@@ -54,11 +54,3 @@ quiet_feeds r m new used came there u = heard_feeds r m AnyHeard.Quiet came r.kn
 -- where it goes on
 same_open : (r : Rest) (piece : List ℕ) → r.knows.over ≡ false → feed_of r piece ≡ fed_open r (takes at_client r.item piece)
 same_open r piece o = rw o refl
-
-pub feeds_rests : (r : Rest) (piece : List ℕ) (result : Result (ℕ × Heard) ClientFault) (new : Rest) → r.knows.over ≡ false → Feeds new r (fed_open r (takes at_client r.item piece)) result
-    → UnlessMemory result ((note_result result ≡ (feed_of r piece).answer) × (new ≡ (feed_of r piece).rest))
-feeds_rests r piece result new o h = subst (λ (f : Fed). UnlessMemory result ((note_result result ≡ f.answer) × (new ≡ f.rest))) (sym (same_open r piece o)) (go result h)
-  where
-    go : (x : Result (ℕ × Heard) ClientFault) → Feeds new r (fed_open r (takes at_client r.item piece)) x → UnlessMemory x ((note_result x ≡ (fed_open r (takes at_client r.item piece)).answer) × (new ≡ (fed_open r (takes at_client r.item piece)).rest))
-    go (Err client_fault.Memory) k = tt
-    go _ k = k

@@ -1,5 +1,5 @@
 //! What a server answers to the bytes of a text.
-ghost use Rattle.std.specs.Prelude.{◌≡◌, ◌↔◌, ◌%◌, length, string_bytes, IsTrue, IsErr, IsOk, IfOk};
+ghost use Rattle.std.specs.Prelude.{◌≡◌, ◌↔◌, ◌%◌, string_bytes, IsTrue, IsErr, IsOk, IfOk};
 ghost use Rattle.std.specs.List.{AllPass};
 ghost use Rattle.hex.specs.Hex.{decode_of, is_hex_digit};
 ghost use Rattle.commands.specs.Answers.{Answers};

@@ -1,5 +1,5 @@
 //! Whether bytes are a value, and whether it is a cell.
-ghost use Rattle.std.specs.Prelude.{◌≡◌, ◌↔◌, ℕ, List, string_bytes, IsErr, IfOk};
+ghost use Rattle.std.specs.Prelude.{◌≡◌, ◌↔◌, ℕ, List, IsErr, IfOk};
 ghost use Rattle.hex.specs.Hex.{decode_of};
 ghost use Rattle.cells.specs.Shape.{shape};
 ghost use Rattle.wire.specs.declared.Version.{Version as AnyVersion};

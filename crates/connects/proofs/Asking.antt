@@ -39,10 +39,6 @@ ask_run x q e = subst (λ o. GoesOn x (record x { run = submits x.run q o }) (as
 pub leads_ask : (s : Stand) (q : RequestView) → refuses s.rest.knows q ≡ None → Leads s (Asks q ∷ []) (asked_stand s q) (q ∷ []) [] [] false
 leads_ask s q e x f = subst (λ (z : Stand). GoesOn x (tracked_call x (Asks q)) (asked_stand z q) (q ∷ []) [] [] false) f (ask_run x q (ap (λ (z : Stand). refuses z.rest.knows q) f ∙ e))
 
-pub leads_asks : (s : Stand) (qs : List RequestView) → AcceptsEach s qs → Leads s (map Asks qs) (asked_all s qs) qs [] [] false
-leads_asks s [] h = leads_nowhere s
-leads_asks s (q ∷ qs) h = leads_on (Asks q ∷ []) (map Asks qs) (leads_ask s q h.0) (leads_asks (asked_stand s q) qs h.1)
-
 -- what is accepted has room, so its ordinal is below 2^63
 pub accepted_open : (k : Knows) (q : RequestView) → refuses k q ≡ None → k.over ≡ true → ⊥
 accepted_open k q e o = let f = (accepted_facts k q e).0 in cc
@@ -118,19 +114,6 @@ pub unasked_said : (A : Type 0) (from to : Place) (q : RequestView) (qs all : Li
 unasked_said A from to q qs all f e g h =
     subst (λ (z : Fault). Says {A = A} from to all (Err z)) (sym g)
     (record { stopped = fresh from.stand; stops = record { before = []; request = q; behind = qs; parts = sym e; accepted = tt; stays = refl; first = λ n. absurd (n refl) }; unsent = h })
-
--- what is answered hangs on what was told, and not on what is made of it
-sent_as : {A B : Type 0} (from to : Place) (qs : List RequestView) (x : Result A Fault) (y : Result B Fault) → ((broken : Result (Unit {0}) Break) → Told to.stand.account (next_ordinal from.stand.rest) (length qs) broken x → Told to.stand.account (next_ordinal from.stand.rest) (length qs) broken y) → Sent from to qs x → Sent from to qs y
-sent_as from to qs x y f s = record { broken = s.broken; accepted = s.accepted; exchanged = s.exchanged; told = f s.broken s.told }
-
-pub says_ok : {A B : Type 0} (from to : Place) (qs : List RequestView) (x : A) (y : B) → Says from to qs (Ok x) → Says from to qs (Ok y)
-says_ok from to qs x y s = sent_as from to qs (Ok x) (Ok y) (λ _ t. t) s
-
-pub says_err : (A B : Type 0) (from to : Place) (qs : List RequestView) (e : Fault) → Says {A = A} from to qs (Err e) → Says {A = B} from to qs (Err e)
-says_err A B from to qs (fault.NotSent rule) s = s
-says_err A B from to qs (fault.Refused i c m) s = sent_as {A = A} {B = B} from to qs (Err (fault.Refused i c m)) (Err (fault.Refused i c m)) (λ _ t. t) s
-says_err A B from to qs (fault.Broken why) s = sent_as {A = A} {B = B} from to qs (Err (fault.Broken why)) (Err (fault.Broken why)) (λ _ t. t) s
-says_err A B from to qs fault.Memory s = sent_as {A = A} {B = B} from to qs (Err fault.Memory) (Err fault.Memory) (λ _ t. t) s
 
 pub greeting_some : (b : Bool) (agent : List ℕ) (auth : AuthView) → (q : RequestView) × (qs : List RequestView) × (q ∷ qs ≡ greeting b agent auth)
 greeting_some true agent auth = (RequestView.Hello agent (Some auth), [], refl)

@@ -96,9 +96,6 @@ reads_on {a = a} {b = b} {c = c} {l = l} {m = m} {n = n} f still_open g =
       whole = g.whole;
     }
 
-pub broken_off : {a b : Stand} {l m : Option (List ℕ)} → ReadsOn a b l m (Ok tt) → (e : Break) → ReadsOn a b l m (Err e)
-broken_off f e = record { heard = f.heard; unheard = f.unheard; input = f.input; hears = f.hears; whole = tt }
-
 -- what was answered, by a test of it
 pub on_err : {T E : Type 0} (x : Result T E) (P : Type 0) → is_err x ≡ true → OnErr x P → P
 on_err (Ok t) P e h = absurd (true≢false (sym e))

@@ -1,7 +1,6 @@
 //! One attempt of a transaction under a token.
-ghost use Rattle.std.specs.Prelude.{◌≡◌, ◌∷◌, ◌++◌, ◌<◌, ◌^◌, IfOk, Some, map, string_bytes, length};
+ghost use Rattle.std.specs.Prelude.{◌≡◌, ◌<◌, IfOk, Some, map};
 ghost use Rattle.messages.specs.View.{request_view};
-ghost use Rattle.connects.specs.Stands.{stand_of, place};
 ghost use Rattle.connects.specs.Attempting.{asked_view, requests_of, streams, TellsOf};
 
 use crate::exchanging::exchange;

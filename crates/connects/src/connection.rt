@@ -1,10 +1,9 @@
 //! A connection: a tracking client over a source and a sink.
-ghost use Rattle.std.specs.Prelude.{◌≡◌, ◌∷◌, ◌+◌, ◌^◌, ◌<◌, [], IfOk, IfErr, map, option_map, string_bytes};
-ghost use Rattle.messages.specs.View.{RequestView, request_view, auth_view, token_view, response_view};
+ghost use Rattle.std.specs.Prelude.{◌≡◌, ◌∷◌, ◌+◌, ◌^◌, ◌<◌, [], IfOk, IfErr, map, string_bytes};
+ghost use Rattle.messages.specs.View.{RequestView, request_view, auth_view, token_view};
 ghost use Rattle.client.specs.Rest.{begun, next_ordinal};
-ghost use Rattle.driver.specs.Account.{untold, outcome_of, failure_of, response_of, rows_of, left_of, rows_taken};
+ghost use Rattle.driver.specs.Account.{untold};
 ghost use Rattle.driver.specs.Asking.{rows_view, is_login_in_hello};
-ghost use Rattle.driver.specs.Holding.{row_view};
 ghost use Rattle.connects.specs.Stands.{stand_of, place};
 ghost use Rattle.connects.specs.Opening.{Opens};
 ghost use Rattle.connects.specs.Pipelines.{Says, WhenNotSent};
@@ -16,11 +15,10 @@ use crate::pipelines::{say, unasked};
 use crate::queries::{Query, greeting, is_login_in_hello, rows_request, running, transaction};
 use client::{ClientFault, Outcome};
 use driver::{Rows, TrackingClient};
-use messages::{Auth, Mode, Request, Response};
+use messages::{Auth, Mode, Request};
 use std::alloc::Global;
 use streams::{Sink, Source};
-use structures::Cell;
-use wire::{Version, Wish};
+use wire::Wish;
 
 /// If the account has what came of a query: the ordinals of its RUN, and of the request for its rows.
 #[derive(Clone, Copy, Debug, PartialEq, Eq)]

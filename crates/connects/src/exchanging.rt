@@ -1,5 +1,5 @@
 //! All that waits is written, and all that is answered is read.
-ghost use Rattle.std.specs.Prelude.{◌≡◌, ◌<◌, ◌≤◌, true, IsErrOf, IfErr, OnOk, length};
+ghost use Rattle.std.specs.Prelude.{◌≡◌, ◌<◌, true, IsErrOf, OnOk, length};
 ghost use Rattle.std.specs.Io.KnownBytes.{IsAtEnd};
 ghost use Rattle.streams.specs.Failing.{StaysSound, UnlessTold};
 ghost use Rattle.connects.specs.Stands.{stand_of, place};

@@ -1,5 +1,5 @@
 //! Requests that are sent in parts, each as one pipeline.
-ghost use Rattle.std.specs.Prelude.{◌≡◌, ◌<◌, ◌≤◌, ◌^◌, ◌+◌, length, map};
+ghost use Rattle.std.specs.Prelude.{◌<◌, ◌≤◌, ◌^◌, ◌+◌, length, map};
 ghost use Rattle.messages.specs.View.{request_view};
 ghost use Rattle.connects.specs.Stands.{stand_of, place};
 ghost use Rattle.connects.specs.Parts.{IsQuiet, SendsPart, MakesRoom, SendsInParts};

@@ -1,5 +1,5 @@
 //! Requests that are asked as one pipeline.
-ghost use Rattle.std.specs.Prelude.{◌≡◌, ◌∷◌, ◌<◌, ◌≤◌, ◌+◌, ◌^◌, IfOk, map, length};
+ghost use Rattle.std.specs.Prelude.{◌≡◌, ◌∷◌, ◌<◌, ◌+◌, ◌^◌, IfOk, map};
 ghost use Rattle.std.specs.Result.{result_err};
 ghost use Rattle.messages.specs.View.{request_view};
 ghost use Rattle.client.specs.Rest.{next_ordinal};

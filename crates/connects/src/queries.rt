@@ -3,7 +3,7 @@ ghost use Rattle.std.specs.Prelude.{◌≡◌, ◌++◌, ◌∷◌, [], IfOk, ma
 ghost use Rattle.cells.specs.Shape.{entries};
 ghost use Rattle.messages.specs.View.{RequestView, request_view, auth_view, token_view};
 ghost use Rattle.driver.specs.Asking.{rows_view, is_login_in_hello};
-ghost use Rattle.connects.specs.Requests.{query_view, query_run, asks_of, within, greeting};
+ghost use Rattle.connects.specs.Requests.{query_view, query_run, within, greeting};
 
 use driver::Rows;
 use messages::{Auth, Mode, Request};

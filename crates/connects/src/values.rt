@@ -1,5 +1,5 @@
 //! Cells from Rust's own values, and back.
-ghost use Rattle.std.specs.Prelude.{◌≡◌, IfOk, map, option_map};
+ghost use Rattle.std.specs.Prelude.{◌≡◌, IfOk, option_map};
 ghost use Rattle.cells.specs.Shape.{shape};
 ghost use Rattle.packstream.specs.Tree.{text};
 ghost use Rattle.connects.specs.Values.{bool_in, int_in, float_in, text_in, bytes_in, HasMembers, is_text, column};

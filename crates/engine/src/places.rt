@@ -3,7 +3,7 @@ ghost use Rattle.std.specs.Prelude.{◌≡◌, ℕ, List, length, Some, None, Ma
 ghost use Rattle.std.specs.BTreeMap.{get_by_text};
 ghost use Rattle.std.specs.Str.{bytes_eq};
 ghost use Rattle.engine.specs.Places.{fingerprint, has_token_at, place_in, where_none, AreBehindFirsts, IsReady, IsSame, IsWith};
-ghost use Rattle.engine.specs.Views.{EntryView, entries_view, pairs_view, token_view, writes_view};
+ghost use Rattle.engine.specs.Views.{EntryView, entries_view, pairs_view, writes_view};
 
 use crate::lookup::has_token;
 use crate::next::take_next;

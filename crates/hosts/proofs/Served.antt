@@ -40,13 +40,6 @@ turns_begin P left items l = record { todo = items; done = []; is = sym (append_
     append_nil_of [] = refl
     append_nil_of (x ∷ xs) = ap (λ l. x ∷ l) (append_nil_of xs)
 
-pub turns_end : {A : Type 0} (P : A → Type 0) (left : ℕ) (items : List A) → InTurn P left items → left ≡ 0 → AllByRecursion P items
-turns_end {A = A} P left items t none = go t.todo t.few t.is
-  where
-    go : (todo : List A) → length todo ≤ left → items ≡ todo ++ t.done → AllByRecursion P items
-    go [] l e = subst (λ (xs : List A). AllByRecursion P xs) (sym e) t.all
-    go (x ∷ xs) l e = absurd (omega (arith, l, none))
-
 -- the first had its turn, and is the last then or has gone
 pub one_turn : {A : Type 0} (P : A → Type 0) (left : ℕ) (items : List A) (x : A) (rest new : List A) → InTurn P (left + 1) items → items ≡ x ∷ rest → (new ≡ rest) ⊎ ((y : A) × P y × (new ≡ rest ++ y ∷ [])) → InTurn P left new
 one_turn {A = A} P left items x rest new t e next = go t.todo t.few (sym e ∙ t.is) next

@@ -1,5 +1,5 @@
 //! Who is told of each end.
-ghost use Rattle.std.specs.Prelude.{◌≡◌, Option, List, [], ◌∷◌};
+ghost use Rattle.std.specs.Prelude.{Option, List, [], ◌∷◌};
 ghost use Rattle.hosts.specs.Standing.{Told};
 ghost use Rattle.hosts.specs.Running.{TellsMore};
 

@@ -1,6 +1,5 @@
 //! A turn of one connection, and whether it goes on.
-ghost use Rattle.std.specs.Prelude.{◌≡◌, ◌+◌, ◌*◌, ℕ, [], true, IsSome};
-ghost use Rattle.server.specs.Serving.{find};
+ghost use Rattle.std.specs.Prelude.{◌≡◌, ◌+◌, ◌*◌, [], true};
 ghost use Rattle.server.specs.Views.{rest_of};
 ghost use Rattle.lines.specs.Moving.{Moves};
 ghost use Rattle.lines.specs.Views.{seat_held, Lingers};

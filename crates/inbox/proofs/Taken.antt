@@ -36,10 +36,6 @@ at_part s b going after reads = record { over = after.1 ∙ sym going; reads = r
 at_refusal : (s : Stream) (place : Place) (b : List ℕ) → s.is_over ≡ true → place.too_big ≡ true → Reads s.reader.here b → IsAt s (unfinished_at place b)
 at_refusal s place b over big reads = record { over = big ∙ sym over; reads = reads; place = λ e. let no : ◌≡◌ true false = sym big ∙ e in absurd cc }
 
--- the point that is held means nothing to where it stands
-pub at_held : (s t : Stream) (u : Unfinished) → t.chunks ≡ s.chunks → t.is_over ≡ s.is_over → t.reader.here ≡ s.reader.here → IsAt s u → IsAt t u
-at_held s t u c o h is = record { over = is.over ∙ sym o; reads = subst (λ (p : Point). Reads p u.body) (sym h) is.reads; place = λ e. rw c (is.place e) }
-
 -- a stream in which a message was refused takes everything, and keeps the data
 pub record TakesAll (u : Unfinished) (piece : List ℕ) : Type 0 where
   pub rest : Unfinished
@@ -113,7 +109,3 @@ module _ {M : Type 0} (reads : List ℕ → Result M MsgFault → Type 0) (u : U
     pub taken_refused : (t : Stream) → cut.what ≡ part.TooBig → t.is_over ≡ true → t.reader.here ≡ s.reader.here → Is cut.used brought.TooBig t
     taken_refused t e over same =
         by_taken _ _ t (rw e at h.takes) refl (at_refusal t s.chunks h.body over (h.refuses e) (subst (λ (p : Point). Reads p h.body) (sym same) h.reads))
-
-  -- the same of a stream that holds another point
-  pub taken_held : (used : ℕ) (x : Brought M) (s t : Stream) → t.chunks ≡ s.chunks → t.is_over ≡ s.is_over → t.reader.here ≡ s.reader.here → Is used x s → Is used x t
-  taken_held used x s t c o h is = record { used_is = is.used_is; item = is.item; rest = at_held s t _ c o h is.rest }

@@ -7,10 +7,6 @@ use Rattle.lasting.proofs.Front.{take_front, take_whole}
 use Rattle.sqlite.specs.State.{State, Survives}
 use Rattle.sqlite.specs.Tree.{Trees}
 
--- a call that touches no database
-pub survives_same : (s : State) (P : Trees → Type 0) → Survives s s P
-survives_same s P = record { clean = omega arith; shield = λ h. h; counts = omega arith; limit = refl; closes = λ _ h. inl h; crash = λ _ _ h. inl h }
-
 -- an engine that shows all its entries leaves them
 pub leaves_all : (s : State) (all : List EntryView) (n : ℕ) → length all ≡ n → LeavesEither s (take n all) all → LeavesLedger s (take n all)
 leaves_all s all n is either clean trees may = elim (either clean trees may) [

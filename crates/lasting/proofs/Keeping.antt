@@ -69,7 +69,3 @@ either old new es others P left then survives clean trees may = elim (survives.c
   | inl before ↦ inl (left (omega (arith, survives.clean)) trees before)
   | inr after ↦ inr (then trees after)
 ]
-
--- nothing was committed, so it commits no other ledger either
-pub nothing_more : (old new : State) (P : Trees → Type 0) → Survives old new (λ _. ⊥) → Survives old new P
-nothing_more old new P h = survives_weaker old new _ P (λ _ _ none. absurd none) h

@@ -10,17 +10,6 @@ use Rattle.sqlite.specs.Values.{or_null}
 use Rattle.sqlite_value.specs.declared.value.Value.{Value}
 use Rattle.sqlite_value.specs.declared.value.Value.TheVariants.{Null, Text}
 
--- a token that was read is the one in its column
-pub token_read : (v : Value) (token : Option (String Global)) → MatchOption token (v ≡ Null) (λ x. (v ≢ Null) × (v ≡ Text (string_bytes x))) → v ≡ or_null Text (token_view token)
-token_read v None h = h
-token_read v (Some x) h = h.1
-
--- what is answered as added was found nowhere
-pub added_free : (len n : ℕ) (f : Found) → Added n ≡ commit_by len f → f ≡ Free
-added_free len n Free h = refl
-added_free len n (There m) h = absurd cc
-added_free len n Other h = absurd cc
-
 -- a row more
 pub shown_more : (n m : ℕ) (old new : List EntryView) (rows : List Row) (row : Row) → m ≡ n + length old → AreShownAs n old rows → TakesRow m row old new → AreShownAs n new (rows ++ row ∷ [])
 shown_more n m old new rows row is h taken = subst (λ es. AreShownAs n es (rows ++ row ∷ [])) (sym taken.2) (go n old rows is h)

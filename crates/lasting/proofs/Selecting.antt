@@ -154,12 +154,6 @@ module _ (sql : List ℕ) (old new : State) (has : HasCleanDisk new → old.now.
   pub row_leaves : (r : Result Row Error) → (HasCleanDisk new → QueriesRow sql [] old new r) → IsLeft old new
   row_leaves r ran = leaves (λ clean. row_keeps sql old new r (has clean) plain (ran clean))
 
-pub left_same : (s : State) → IsLeft s s
-left_same s = record {
-  keeps = λ _. record { was_open = λ h. h; committed = λ _. refl };
-  survives = record { clean = omega arith; shield = λ h. h; counts = omega arith; limit = refl; closes = λ _ h. inl h; crash = λ _ _ h. inl h };
-}
-
 pub left_then : (a b c : State) → IsLeft a b → IsLeft b c → IsLeft a c
 left_then a b c p q = record {
   keeps = λ clean.

@@ -35,8 +35,7 @@ pub struct Closing {
 }
 
 impl Closing {
-    ghost use Rattle.std.specs.Prelude.{◌≡◌, ℕ, ◌++◌, [], true};
-    ghost use Rattle.lines.specs.Peers.{Wire};
+    ghost use Rattle.std.specs.Prelude.{◌≡◌, ◌++◌, []};
     ghost use Rattle.lines.specs.Views.{owed_of, Lingers};
     ghost use Rattle.lines.specs.Turns.{joined, is_closed, is_closing_busy, closing_deadline};
 

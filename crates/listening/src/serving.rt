@@ -1,6 +1,6 @@
 //! A server at a port.
 
-ghost use Rattle.std.specs.Prelude.{◌≡◌, [], true, IfOk, IfErr, OnOk, IsErrOf, string_bytes};
+ghost use Rattle.std.specs.Prelude.{◌≡◌, [], true, IfOk, OnOk, IsErrOf, string_bytes};
 ghost use Rattle.std.specs.Io.KnownBytes.{Appends};
 ghost use Rattle.server.specs.Views.{rest_of};
 ghost use Rattle.listening.specs.Serving.{IsUnbound, Reaches, listening_line};

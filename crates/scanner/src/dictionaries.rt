@@ -17,7 +17,7 @@ use crate::plain::{int_in, text_in};
 use crate::scan::cell_in;
 use cells::Cell;
 use packstream::marker::{Marker, Size, marker_of};
-use packstream::reading::{first_room, key_of, new_key_of, size_of};
+use packstream::reading::{first_room, key_of, most_members, new_key_of, size_of};
 use packstream::seen::Seen;
 use packstream::twins::FEW;
 use std::alloc::Global;
@@ -186,7 +186,7 @@ fn push_new_entry<'a>(
         → OnOk result (all_fine (fault_of_structure version)
         (structures_under (entries_of (entries pairs.new.items))) ≡ true) }
 {
-    let (key, value) = new_key_of(seen, bytes)?;
+    let (key, value) = new_key_of(seen, pairs, bytes)?;
     push_value(pairs, alloc, version, room, key, value)
 }
 
@@ -227,7 +227,7 @@ fn many_pairs_of(
     ensures fine { IfOk result (λ x. all_fine (fault_of_structure version)
         (structures_under (entries_of (entries x.0.items))) ≡ true) }
 {
-    let mut seen = Seen::new(alloc, count.min(bytes.len() as u64) as usize)?;
+    let mut seen = Seen::new(alloc, most_members(count, bytes))?;
     let mut pairs = Vec::with_capacity(alloc, first_room(count, bytes))?;
     let mut rest = bytes;
     for _ in 0..count {

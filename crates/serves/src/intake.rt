@@ -1,7 +1,5 @@
 //! A client's bytes are taken, one item at a time, what they make due is worked, and what the session says is written.
-ghost use Rattle.std.specs.Prelude.{◌≡◌, ◌<◌, ◌≤◌, ℕ, List, [], Option, None, length, IsSome, IfOk, IfErr, false};
-ghost use Rattle.wire.specs.Framing.{at_server};
-ghost use Rattle.wire.specs.Reader.{state};
+ghost use Rattle.std.specs.Prelude.{◌≡◌, ◌<◌, ◌≤◌, ℕ, List, Option, None, length, IsSome, IfOk, IfErr, false};
 ghost use Rattle.server.specs.Serving.{Rest, find, feed_at, setting};
 ghost use Rattle.server.specs.Views.{rest_of, Fits};
 ghost use Rattle.serves.specs.Settling.{GrowsOn, IsDueTo, IsLive, LivesOn, Feeds, HoldsAfter, Stands, TakesOne, TakesItems, TakesPiece, rest_after, taken_and_put, told_by};

@@ -35,19 +35,6 @@ row_is v cells r h = list_same r (map (fitted v) (shapes cells.items)) (h ∙ ap
 
 pub ruleset list_shapes = (shape-List)
 
--- one cell more that has one form
-pub one_fitted : (v : Version) (cs : List Cell) (i : ℕ) (c : Cell) → i < length cs → c ≡ get_or cs i c → map (fitted v) (shapes (take i cs)) ≡ shapes (take i cs) → fitted v (shape c) ≡ shape c
-    → map (fitted v) (shapes (take (i + 1) cs)) ≡ shapes (take (i + 1) cs)
-one_fitted v cs i c h is before e = rw add-one (next cs i h is before)
-  where
-    next : (cs : List Cell) (i : ℕ) → i < length cs → c ≡ get_or cs i c → map (fitted v) (shapes (take i cs)) ≡ shapes (take i cs) → map (fitted v) (shapes (take (suc i) cs)) ≡ shapes (take (suc i) cs)
-    next [] i h is before = absurd (omega arith)
-    next (x ∷ cs) zero h is before = let same : x ≡ c = sym is in rw (same, e) refl
-    next (x ∷ cs) (suc i) h is before =
-        let head : fitted v (shape x) ≡ shape x = cc in
-        let tail : map (fitted v) (shapes (take i cs)) ≡ shapes (take i cs) = cc in
-        rw (head, next cs i (omega arith) is tail) refl
-
 -- Rows, as lists of trees.
 pub rows_counted : (r : Remaining) → length (remaining_rows r) ≡ r.count
 rows_counted r = length-rows_in r.width r.count _
@@ -63,10 +50,6 @@ rows_in_fitted v width (suc n) cells =
 -- there are as many of them
 as_many : (v : Version) (xs ys : List Cell) → shapes xs ≡ map (fitted v) (shapes ys) → length xs ≡ length ys
 as_many v xs ys h = sym (length-map xs shape) ∙ ap length h ∙ length-map (shapes ys) (fitted v) ∙ length-map ys shape
-
-pub as_many_of : (v : Version) (r : Result Cells AllocError) (cells : List Cell) → IfOk r (λ x. shapes (cells_in x) ≡ map (fitted v) (shapes cells)) → IfOk r (λ x. length (cells_in x) ≡ length cells)
-as_many_of v (Ok x) cells h = as_many v (cells_in x) cells h
-as_many_of v (Err e) cells h = tt
 
 -- the rows of an answer are few
 pub few_answered : (mode : QueryMode) (a : Answer) → IsAnswer mode (answer_view a) → a.rows.count ≤ 1024

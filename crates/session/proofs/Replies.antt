@@ -53,25 +53,6 @@ pub left_is : (count : Count) (rows : List (List Tree)) (n : ℕ) → n ≡ coun
 left_is counts.All rows n e = ap (λ k. drop k rows) e ∙ drop_all (length rows) rows (omega arith)
 left_is (counts.Of z) rows n e = ap (λ k. drop k rows) e
 
--- the last summary of a result that commits nothing
-pub inside_last : (s : State) (ledger : List EntryView) (left : Open) (tx : Tx) → (s ≡ states.Streaming → ⊥) → Summary Verdict.Success (response_of_summary (Closing None left.mode)) no_result tx None ≡ close_last s ledger left tx
-inside_last states.Streaming ledger left tx other = absurd (other refl)
-inside_last _ ledger left tx other = refl
-
--- A PULL that is owed no row is answered by a summary ..
-is_used : (u : Bool) (n : ℕ) → (not u && not (suc n == 0)) ≡ false → u ≡ true
-is_used true n h = refl
-is_used false n h = absurd (grind (arith, nat_tests))
-
-unowed_rows : (v : Version) (s : State) (ledger : List EntryView) (n : Count) (rows : List (List Tree)) (left : Open) (tx : Tx) → (not (used_up n left.written) && not (length rows == 0)) ≡ false → close s ledger rows left tx ≡ pull v s ledger n rows left tx
-unowed_rows v s ledger n [] left tx h = refl
-unowed_rows v s ledger n (r ∷ rs) left tx h = let u : used_up n left.written ≡ true = is_used (used_up n left.written) (length rs) h in rw u refl
-
-pub pull_unowed : (v : Version) (s : State) (ledger : List EntryView) (n : Count) (left : Open) (tx : Tx) → is_some (row_at v s Kind.Pull Verdict.Success) ≡ true → owes_row s left (RequestView.Pull n) ≡ false → close s ledger left.rows left tx ≡ pull v s ledger n left.rows left tx
-pull_unowed v states.Streaming ledger n left tx row h = unowed_rows v states.Streaming ledger n left.rows left tx h
-pull_unowed v states.TxStreaming ledger n left tx row h = unowed_rows v states.TxStreaming ledger n left.rows left tx h
-pull_unowed v s ledger n left tx row h = absurd cc
-
 -- .. and one that is owed a row, by the first.
 isnt_used : (u e : Bool) → (not u && not e) ≡ true → (u ≡ false) × (e ≡ false)
 isnt_used false false h = (refl, refl)

@@ -14,11 +14,6 @@ use Rattle.session.proofs.Replies.{owed_served, owed_elsewhere, run_served, runs
 pub asked_head : (a b : RequestView) (xs ys : List Arrival) → (Asked a ∷ xs) ≡ (Asked b ∷ ys) → a ≡ b
 asked_head a b xs ys e = cc
 
--- a request waits
-pub serves_is : (xs : List Arrival) → turn_in xs ≡ turn.Serves → (q : RequestView) × (later : List Arrival) × (xs ≡ Asked q ∷ later)
-serves_is (Asked q ∷ later) e = (q, later, refl)
-serves_is _ e = cc
-
 -- what is answered in Interrupted goes by what is kept but for the result and the transaction
 passed_apart : (ledger : List EntryView) (k : Kept) (q : RequestView) (later : List Arrival) (reset : Bool) → replies ledger (record k { state = State.Interrupted }) q later (passed_over reset) ≡ replies ledger (after_interrupt k) q later (passed_over reset)
 passed_apart ledger k q later true = refl

@@ -1,17 +1,15 @@
 //! What the first request is answered, decided before anything is changed.
-ghost use Rattle.std.specs.Prelude.{◌≡◌, ℕ, ◌≤◌, if◌then◌else◌, ◌&&◌, not, true, false, is_some, ◌==◌, List, length, Ok, Result, IfOk, []};
+ghost use Rattle.std.specs.Prelude.{◌≡◌, ℕ, ◌&&◌, not, true, false, is_some, ◌==◌, List, length, Ok, Result, IfOk};
 ghost use Rattle.messages.specs.View.{request_view, auth_view, auth_in};
 ghost use Rattle.messages.specs.Summaries.{response_of_summary};
 ghost use Rattle.machine.specs.Asks.{kind_of, is_goodbye};
 ghost use Rattle.machine.specs.Rows.{row_at};
 ghost use Rattle.engine.specs.declared.answer.Mode.{Mode as QueryMode};
-ghost use Rattle.engine.specs.Laws.{Runs};
 ghost use Rattle.engine.specs.Views.{Token, WriteView, ParameterView, EntryView, AnswerView, QueryFault};
-ghost use Rattle.session.specs.Session.{Open, Tx, serve, perform, greets, reply_to_login, passed_over, query_mode, used_up};
+ghost use Rattle.session.specs.Session.{Open, Tx, serve, perform, greets, reply_to_login, passed_over, used_up};
 ghost use Rattle.session.specs.Rest.{version_of};
 ghost use Rattle.session.specs.Views.{kept_of};
-ghost use Rattle.session.specs.Acts.{reply_of, streams, owes_row, runs, asked_by, token_of, summary_of};
-ghost use Rattle.engine.specs.Limits.{max_rows};
+ghost use Rattle.session.specs.Acts.{reply_of, streams, owes_row, runs, token_of, summary_of};
 
 use crate::acts::{Act, After};
 use crate::agent::Agent;
@@ -19,8 +17,8 @@ use crate::fault::Fault;
 use crate::result_end::{commit_of, committed};
 use crate::session::Session;
 use crate::summary::Summary;
-use crate::words::{count_of, is_halted, is_in_transaction, is_streaming, is_used_up, query_mode};
-use engine::{Answer, Engine, EngineFault, Gate};
+use crate::words::{count_of, is_halted, is_streaming, is_used_up};
+use engine::{Engine, Gate};
 use machine::{Kind, State, Verdict, is_reset, kind, row};
 use messages::{Auth, Count, Request};
 use std::alloc::AllocError;

@@ -8,7 +8,7 @@ ghost use Rattle.packstream.specs.Canon.{canon, canon_all};
 ghost use Rattle.packstream.specs.View.{entries_of, trees_of};
 ghost use Rattle.wire.specs.declared.Version.{Version as AnyVersion};
 ghost use Rattle.engine.specs.Views.{names_view, write_view, writes_view};
-ghost use Rattle.session.specs.Session.{fields_told, fields_said, rows_fitted, result_of_answer, in_transaction, with_write, no_tx};
+ghost use Rattle.session.specs.Session.{fields_told, fields_said, result_of_answer, in_transaction, with_write, no_tx};
 ghost use Rattle.session.specs.Views.{first_of, open_of, tx_of};
 ghost use Rattle.engine.specs.Limits.{max_rows};
 ghost use Rattle.session.specs.Said.{fits};

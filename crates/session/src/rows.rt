@@ -1,5 +1,5 @@
 //! The rows of an open result, spelled one by one where they go out.
-ghost use Rattle.std.specs.Prelude.{◌≡◌, ◌<◌, ◌≤◌, ◌+◌, ◌∷◌, [], ◌++◌, ℕ, List, true, false, length, OnOk, IfOk, IfErr, take, drop};
+ghost use Rattle.std.specs.Prelude.{◌≡◌, ◌<◌, ◌≤◌, ◌+◌, ◌∷◌, ◌++◌, List, true, false, OnOk, IfOk, IfErr};
 ghost use Rattle.packstream.specs.Writing.{whole};
 ghost use Rattle.packstream.specs.Tree.{Tree, list};
 ghost use Rattle.packstream.specs.Canon.{canon};
@@ -9,7 +9,6 @@ ghost use Rattle.cells.specs.Shape.{shapes};
 ghost use Rattle.cells.specs.Writing.{IsWritable};
 ghost use Rattle.structures.specs.Form.{form};
 ghost use Rattle.messages.specs.View.{Record, response_view};
-ghost use Rattle.wire.specs.Texts.{written_run};
 ghost use Rattle.session.specs.Views.{remaining_rows};
 ghost use Rattle.session.specs.Said.{fits};
 ghost use Rattle.session.specs.Acts.{IsBody, IsPut, Refuses};

@@ -1,5 +1,5 @@
 //! The responses of a session but its rows and the SUCCESS of a RUN.
-ghost use Rattle.std.specs.Prelude.{◌≡◌, ◌≤◌, ◌+◌, [], ◌++◌, length, codes, OnOk, Some, IfSome, IsNone, false};
+ghost use Rattle.std.specs.Prelude.{◌≡◌, ◌≤◌, ◌+◌, ◌++◌, length, codes, OnOk, Some, IfSome, IsNone, false};
 ghost use Rattle.std.specs.Fmt.{decimal};
 ghost use Rattle.packstream.specs.Canon.{head, text_bytes, canon, canon_entries};
 ghost use Rattle.packstream.specs.Limits.{max_size};

@@ -145,13 +145,6 @@ text_read (Message m) h =
     (outputs-items fresh (written_run m) refl ∙ ap (λ (x : Seen). arrivals x.items ++ refusal x.rest) e, state-items fresh (written_run m) ∙ ap (λ (x : Seen). x.rest) e)
 text_read TooBig h = absurd h
 
-pub text_some : (x : Item) → CanCome x → 0 < length (item_bytes x)
-text_some x h = go (item_bytes x) (text_read x h).0
-  where
-    go : (bytes : List ℕ) → outputs chunks fresh bytes ≡ x ∷ [] → 0 < length bytes
-    go [] e = cc
-    go (b ∷ bs) e = omega arith
-
 -- the items of a front of items' bytes
 take_none : (n : ℕ) → take {A = ℕ} n [] ≡ []
 take_none zero = refl
