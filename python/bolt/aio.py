@@ -14,11 +14,11 @@ import ssl
 from typing import Any, AsyncIterator, Awaitable, Callable, Iterator, Optional, Union
 
 from .core import Answer, Core, Steps
-from .errors import INTERRUPTED, TIMED_OUT, UNREACHED, BoltError, Broken, NotSent, Request
+from .errors import CLOSED_HERE, INTERRUPTED, TIMED_OUT, UNREACHED, BoltError, Broken, NotSent, Request
 from .library import MESSAGE, NOT_ALLOWED
 from .queries import Pipeline, Queries, Transacting
 from .results import Pulled, Record, Summary, only
-from .retry import STANDS, Known, Tries, pause
+from .retry import Known, Tries, pause
 from .versions import NEWEST
 
 
@@ -105,31 +105,35 @@ class AsyncSession(Core):
         return TimeoutError(TIMED_OUT) if self._is_late else why.with_traceback(None)
 
     async def _steps(self, steps: Steps[Answer]) -> Answer:
-        if self._is_busy:
-            raise NotSent(NOT_ALLOWED, hint="another task has the connection")
-        self._is_busy = True
-        try:
-            with self._in_time():
-                while True:
-                    try:
-                        next(steps)
-                    except StopIteration as done:
-                        answer: Answer = done.value
-                        return answer
+        with self._in_time():
+            while True:
+                try:
+                    next(steps)
+                except StopIteration as done:
+                    answer: Answer = done.value
+                    return answer
+                try:
                     await self._send()
                     self._hear(await self._receive())
-        finally:
-            self._is_busy = False
+                except NotSent:
+                    # (another task closed it)
+                    self._lose(CLOSED_HERE)
 
     async def _do(self, steps: Steps[Answer]) -> Answer:
-        """Does a call step by step; where that is broken off, as by a cancellation, the client ends."""
+        """Does a call step by step; where that is broken off, as by a cancellation, the client ends. Where that is broken off too, nobody has it any more."""
+        if self._is_busy:
+            raise NotSent(NOT_ALLOWED, hint="another task has the connection")
         try:
-            return await self._steps(steps)
+            self._is_busy = True
+            answer = await self._steps(steps)
+            self._is_busy = False
+            return answer
         except BoltError:
+            self._is_busy = False
             raise
         except BaseException:
-            self._is_busy = False
             self._end(INTERRUPTED)
+            self._is_busy = False
             raise
 
     async def _call(self, steps: Steps[Answer]) -> Answer:
@@ -244,19 +248,26 @@ class AsyncConnection(Queries[AsyncSession, AsyncResult]):
     @contextlib.asynccontextmanager
     async def transaction(self, write: bool = True, token: Optional[str] = None) -> AsyncIterator[AsyncTransaction]:
         """A transaction, under the token if there is one. It is committed when the block ends, and rolled back when an exception ends it."""
-        await self.session._call(self._beginning(write, token))
         found = AsyncTransaction(self, token)
         try:
+            await self.session._call(self._beginning(write, found))
             yield found
+            if found.is_open:
+                await found.commit()
         except BaseException:
             if found.is_open:
                 found.is_open = False
-                # (where the connection is gone, or a FAILURE came, nothing is open any more)
-                with contextlib.suppress(BoltError):
-                    await self.reset()
+                await self._drop()
             raise
-        if found.is_open:
-            await found.commit()
+
+    async def _drop(self) -> None:
+        """Ends whatever is open: by a RESET, or with the connection where that can't be."""
+        try:
+            await self.reset()
+        except BaseException as why:
+            self.session._end(CLOSED_HERE)
+            if not isinstance(why, BoltError):
+                raise
 
     @contextlib.asynccontextmanager
     async def pipeline(self) -> AsyncIterator[Pipeline[AsyncResult]]:
@@ -266,10 +277,11 @@ class AsyncConnection(Queries[AsyncSession, AsyncResult]):
         found = Pipeline(self)
         try:
             yield found
+            await self.session._call(found._sending())
         except BaseException:
-            await self.close()
+            if not found.is_sent:
+                await self.close()
             raise
-        await self.session.settle()
         found._fill()
 
     async def reset(self) -> None:
@@ -293,22 +305,23 @@ async def connect(host: str, port: int = 7687, *, auth: Optional[tuple[str, str]
 
 async def until_known(connect: Callable[[], Awaitable[AsyncConnection]], work: Callable[[AsyncTransaction], Awaitable[Any]], token: Optional[str] = None, *,
                       tries: int = 10, within: Optional[float] = None, pause: Callable[[int], float] = pause) -> Known:
-    """Does the work in a transaction under the token until it is known whether it stands, as `bolt.until_known` does. A cancellation ends all; with the token
-    the transaction may be sent again later."""
-    sent = Tries(token, tries, within, pause)
-    while (seconds := sent.pause()) is not None:
-        await asyncio.sleep(seconds)
-        if sent.is_late:
-            break
-        try:
-            async with await connect() as connection:
-                async with connection.transaction(token=sent.token) as found:
-                    value = await work(found)
-                return Known(STANDS, sent.token, value, found.bookmark)
-        except BoltError as why:
-            if known := sent.failed(why):
-                return known
-    return sent.over()
+    """Does the work in a transaction under the token until it is known whether it stands, as `bolt.until_known` does. A cancellation ends all; under
+    its `token` the transaction may be sent again later."""
+    with Tries(token, tries, within, pause) as sent:
+        while (seconds := sent.pause()) is not None:
+            await asyncio.sleep(seconds)
+            if sent.is_late:
+                break
+            value: Any = None
+            try:
+                async with await connect() as connection:
+                    async with connection.transaction(token=sent.token) as found:
+                        value = await work(found)
+                    return sent.ended(found, value)
+            except BoltError as why:
+                if known := sent.failed(why, value):
+                    return known
+        return sent.over()
 
 
 __all__ = ["AsyncConnection", "AsyncResult", "AsyncSession", "AsyncTransaction", "connect", "until_known"]

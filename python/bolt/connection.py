@@ -6,7 +6,7 @@ import logging
 import ssl
 from typing import Any, Iterator, Optional, Union
 
-from .errors import UNREACHED, BoltError, Broken
+from .errors import CLOSED_HERE, BoltError
 from .queries import Deferred, Pipeline, Queries, Transacting
 from .results import Pulled, Record, Summary, only
 from .session import Session
@@ -103,19 +103,26 @@ class Connection(Queries[Session, Result]):
     @contextlib.contextmanager
     def transaction(self, write: bool = True, token: Optional[str] = None) -> Iterator[Transaction]:
         """A transaction, under the token if there is one. It is committed when the block ends, and rolled back when an exception ends it."""
-        self.session._call(self._beginning(write, token))
         found = Transaction(self, token)
         try:
+            self.session._call(self._beginning(write, found))
             yield found
+            if found.is_open:
+                found.commit()
         except BaseException:
             if found.is_open:
                 found.is_open = False
-                # (where the connection is gone, or a FAILURE came, nothing is open any more)
-                with contextlib.suppress(BoltError):
-                    self.reset()
+                self._drop()
             raise
-        if found.is_open:
-            found.commit()
+
+    def _drop(self) -> None:
+        """Ends whatever is open: by a RESET, or with the connection where that can't be."""
+        try:
+            self.reset()
+        except BaseException as why:
+            self.session._end(CLOSED_HERE)
+            if not isinstance(why, BoltError):
+                raise
 
     @contextlib.contextmanager
     def pipeline(self) -> Iterator[Pipeline[Result]]:
@@ -125,10 +132,11 @@ class Connection(Queries[Session, Result]):
         found = Pipeline(self)
         try:
             yield found
+            self.session._call(found._sending())
         except BaseException:
-            self.close()
+            if not found.is_sent:
+                self.close()
             raise
-        self.session.settle()
         found._fill()
 
     def reset(self) -> None:
@@ -148,9 +156,6 @@ def connect(host: str, port: int = 7687, *, auth: Optional[tuple[str, str]] = No
     except BoltError as why:
         LOG.debug("%s:%s: %s", host, port, why)
         raise
-    except OSError as why:
-        LOG.debug("%s:%s: %s", host, port, why)
-        raise Broken([], UNREACHED) from why
     LOG.debug("%s:%s: connected, version %s", host, port, session.version)
     return Connection(session, fetch)
 

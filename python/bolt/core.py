@@ -33,15 +33,22 @@ def fault_of(code: int, asked: Asked) -> NotSent:
 
 
 def ends(call: Callable[..., Answer]) -> Callable[..., Answer]:
-    """A call that ends the client where it is broken off, as by an interrupt: bytes are gone then, and no answer may be taken for another's."""
+    """A call that ends the client where it is broken off, as by an interrupt: bytes are gone then, and no answer may be taken for another's. Where that is broken
+    off too, no call goes on, so that nothing is sent twice."""
     @functools.wraps(call)
     def whole(self: Core, *words: Any) -> Answer:
+        outer = self._is_amid
         try:
-            return call(self, *words)
+            self._is_amid = True
+            answer = call(self, *words)
+            self._is_amid = outer
+            return answer
         except BoltError:
+            self._is_amid = outer
             raise
         except BaseException:
             self._end(INTERRUPTED)
+            self._is_amid = outer
             raise
     return whole
 
@@ -53,6 +60,7 @@ class Core:
     `requests` are those asked since all was settled, in order; they stay until the next is asked."""
 
     _client: Optional[Client] = None
+    _is_amid = False  # whether a call has begun that hasn't ended
 
     def __init__(self, versions: int, timeout: Optional[float]) -> None:
         if type(versions) is not int or versions not in VERSIONS:
@@ -230,14 +238,25 @@ class Core:
             self.ask("LOGON", 0x6A, login)
         yield from self._settling()
 
+    def _awaiting(self) -> Steps[Standing]:
+        """Goes on until no answer is to come, and answers where the client stands then. Of one that was closed meanwhile, as by a signal handler, what became
+        of each request is told."""
+        try:
+            while (state := self._state()).awaits:
+                yield
+        except NotSent:
+            if self._settled:
+                raise
+            self._lose(CLOSED_HERE)
+        return state
+
     def _settling(self) -> Steps[list[Request]]:
-        while self._state().awaits:
-            yield
-        if self._state().has_ended:
+        state = yield from self._awaiting()
+        if state.has_ended:
             self._end(ENDED)
         requests = [] if self._settled else self._all()
         refused = next((it for it in requests if it.outcome == REFUSED), None)
-        if refused and not self._why and PHASES[self._state().phase] == "HALTED":
+        if refused and not self._why and PHASES[state.phase] == "HALTED":
             yield from self._going_on()
             self.requests = requests
         self._settled = True
@@ -254,8 +273,12 @@ class Core:
         except NotSent:
             # (memory ran out)
             self._lose(NO_MEMORY)
-        while self._state().awaits:
-            yield
+        yield from self._awaiting()
+
+    def _first(self) -> None:
+        """Refused where a call has begun that hasn't ended: that of another thread, or one that was broken off."""
+        if self._is_amid:
+            raise NotSent(NOT_ALLOWED, hint="a call before hasn't ended")
 
     def _alone(self) -> None:
         """Refused where something was asked before and isn't settled, which would go out too."""

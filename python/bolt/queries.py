@@ -3,7 +3,7 @@ from __future__ import annotations
 
 from typing import Any, Generic, Iterator, Optional, Type, TypeVar
 
-from .core import Core, Steps, extra
+from .core import PHASES, Core, Steps, extra
 from .errors import Request
 from .results import Pulled, Record
 from .times import stored
@@ -33,6 +33,7 @@ class Queries(Generic[Kind, Found]):
     def __init__(self, session: Kind, fetch: int = 1000) -> None:
         self.session, self.fetch = session, fetch
         self._open_result: Optional[Found] = None
+        self._begun = 0  # how many transactions were
 
     @property
     def version(self) -> int:
@@ -76,8 +77,13 @@ class Queries(Generic[Kind, Found]):
         yield from self._settling_open()
         return (yield from self.session._at_once(self.session._submit, text, message))
 
-    def _beginning(self, write: bool, token: Optional[str]) -> Steps[Request]:
-        return self._asking(*self.session._packed("BEGIN", 0x11, extra(write, token)))
+    def _beginning(self, write: bool, found: Transacting) -> Steps[None]:
+        return self._starting(found, *self.session._packed("BEGIN", 0x11, extra(write, found.token)))
+
+    def _starting(self, found: Transacting, text: str, message: bytes) -> Steps[None]:
+        yield from self._asking(text, message)
+        self._begun += 1
+        found.number, found.is_open = self._begun, True
 
 
 class Pipeline(Generic[Found]):
@@ -85,6 +91,7 @@ class Pipeline(Generic[Found]):
 
     def __init__(self, connection: Queries[Any, Found]) -> None:
         self._connection = connection
+        self.is_sent = False
         self._runs: list[tuple[Deferred[Found], Request, Request]] = []
 
     def begin(self, write: bool = True, token: Optional[str] = None) -> None:
@@ -103,6 +110,10 @@ class Pipeline(Generic[Found]):
     def rollback(self) -> None:
         self._connection.session.ask_rollback()
 
+    def _sending(self) -> Steps[list[Request]]:
+        self.is_sent = True
+        return (yield from self._connection.session._settling())
+
     def _fill(self) -> None:
         for found, run, pull in self._runs:
             found.result = self._connection._made(run, pull, run.text)
@@ -113,12 +124,17 @@ class Transacting:
 
     def __init__(self, connection: Queries[Any, Any], token: Optional[str]) -> None:
         self._connection, self.token = connection, token
-        self.is_open = True
+        self.is_open, self.number = False, 0
         self.outcome: Optional[str] = None
         self.bookmark: Optional[str] = None
 
+    def _is_current(self) -> bool:
+        """Whether what is asked is part of it, or is refused since the connection has ended. A FAILURE ends it, and so does a RESET."""
+        state = self._connection.session._state()
+        return self.number == self._connection._begun and bool(state.has_ended or PHASES[state.phase].startswith("TX"))
+
     def _running(self, text: str, parameters: dict[str, Any]) -> Steps[Any]:
-        if not self.is_open:
+        if not self.is_open or not self._is_current():
             raise ValueError("the transaction has ended")
         return self._connection._running(*self._connection._packed(text, parameters))
 

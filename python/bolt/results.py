@@ -105,8 +105,10 @@ class Pulled:
 
     def _next(self) -> Record:
         """The next record, which is held."""
+        found = Record(self.keys(), [heard(it, self._session.version) for it in self._rows[self._read]])
+        # (last, so that what breaks this off loses no record)
         self._read += 1
-        return Record(self.keys(), [heard(it, self._session.version) for it in self._rows[self._read - 1]])
+        return found
 
     def _held(self) -> Iterator[Record]:
         """The records that are held and weren't read yet."""

@@ -9,7 +9,8 @@ import time
 from typing import Any, Callable, Optional
 
 from .connection import Connection, Transaction
-from .errors import COMMITTED, UNKNOWN, BoltError, Broken, NotSent, Refused
+from .errors import COMMITTED, UNKNOWN, BoltError, NotSent, Refused, Told, committed
+from .queries import Transacting
 
 LOG = logging.getLogger("bolt")
 
@@ -48,6 +49,14 @@ class Tries:
         self._tries, self._pause, self._within, self._begun = tries, pause, within, time.monotonic()
         self._tried, self._is_doubtful, self._error = 0, False, None  # type: int, bool, Optional[Exception]
 
+    def __enter__(self) -> Tries:
+        return self
+
+    def __exit__(self, kind: Any, why: Optional[BaseException], trace: Any) -> None:
+        """Whatever ends the tries, an interrupt too, has the token with it, so that the transaction can be sent again."""
+        if why is not None:
+            setattr(why, "token", self.token)
+
     def pause(self) -> Optional[float]:
         """The seconds to wait before the next try, None where none is left."""
         if self._tried == self._tries:
@@ -59,23 +68,33 @@ class Tries:
     def is_late(self) -> bool:
         return self._within is not None and self._tried > 1 and time.monotonic() - self._begun > self._within
 
-    def failed(self, why: BoltError) -> Optional[Known]:
-        """What is known behind a try that failed so, if that is the end of them."""
+    def failed(self, why: BoltError, value: Any) -> Optional[Known]:
+        """What is known behind a try that failed so, if that is the end of them; what the work answered in it, None where it didn't."""
         LOG.debug("%s, try %s: %s", self.token, self._tried, why)
         self._error = why
-        if isinstance(why, Refused):
-            if why.code == CLASHES:
-                return Known(CLASH, self.token, error=why)
-            if why.code.startswith(FINAL) and not self._is_doubtful:
-                return Known(REFUSED, self.token, error=why)
-        if isinstance(why, Broken):
+        if isinstance(why, Told):
             if why.outcome == COMMITTED:
-                # (what the work asked behind it was lost)
-                return Known(STANDS, self.token)
+                # (what came behind it was lost)
+                bookmarks = [it.metadata.get("bookmark") for it in why.requests if it.outcome == COMMITTED]
+                return Known(STANDS, self.token, value, bookmarks[0])
             self._is_doubtful = self._is_doubtful or why.outcome == UNKNOWN
+            # (a FAILURE counts, whether or not the connection lives on)
+            codes = [why.code] if isinstance(why, Refused) else [it.metadata.get("code", "") for it in why.requests if it.outcome == REFUSED]
+            if CLASHES in codes:
+                return Known(CLASH, self.token, error=why)
+            if any(it.startswith(FINAL) for it in codes) and not self._is_doubtful:
+                return Known(REFUSED, self.token, error=why)
         if isinstance(why, NotSent) and not self._is_doubtful:
             raise why
         return None
+
+    def ended(self, found: Transacting, value: Any) -> Known:
+        """What is known behind a try of which nothing was raised: the work may have ended the transaction by itself."""
+        outcome = found.outcome or committed(found._connection.session.requests)
+        if outcome == COMMITTED:
+            return Known(STANDS, self.token, value, found.bookmark)
+        self._is_doubtful = self._is_doubtful or outcome == UNKNOWN
+        return self.over()
 
     def over(self) -> Known:
         return Known(OPEN if self._is_doubtful else ABSENT, self.token, error=self._error)
@@ -86,19 +105,20 @@ def until_known(connect: Callable[[], Connection], work: Callable[[Transaction],
     """Does the work in a transaction under the token, each time over a new connection, until it is known whether it stands: so many tries at most, and
     none begins after so many seconds. Without a token one is made; it is told in the answer.
 
-    The work has to ask the same each time. An exception of its own ends all, as does `NotSent` before anything is in doubt; with the token the
+    The work has to ask the same each time. An exception of its own ends all, as does `NotSent` before anything is in doubt; under its `token` the
     transaction may be sent again later."""
-    sent = Tries(token, tries, within, pause)
-    while (seconds := sent.pause()) is not None:
-        time.sleep(seconds)
-        if sent.is_late:
-            break
-        try:
-            with connect() as connection:
-                with connection.transaction(token=sent.token) as found:
-                    value = work(found)
-                return Known(STANDS, sent.token, value, found.bookmark)
-        except BoltError as why:
-            if known := sent.failed(why):
-                return known
-    return sent.over()
+    with Tries(token, tries, within, pause) as sent:
+        while (seconds := sent.pause()) is not None:
+            time.sleep(seconds)
+            if sent.is_late:
+                break
+            value: Any = None
+            try:
+                with connect() as connection:
+                    with connection.transaction(token=sent.token) as found:
+                        value = work(found)
+                    return sent.ended(found, value)
+            except BoltError as why:
+                if known := sent.failed(why, value):
+                    return known
+        return sent.over()

@@ -6,7 +6,7 @@ import ssl
 from typing import Any, Optional, Union
 
 from .core import Answer, Core, Steps, ends, extra
-from .errors import TIMED_OUT, Broken, NotSent, Request
+from .errors import CLOSED_HERE, TIMED_OUT, UNREACHED, Broken, NotSent, Request
 from .library import MESSAGE
 from .versions import NEWEST
 
@@ -16,7 +16,7 @@ LATE = 1 << 22
 def own(failed: OSError) -> OSError:
     """The error of a socket's call, without its frames. One that a signal handler raised while the call ran has the handler's frames, and is raised."""
     frames = failed.__traceback__ and failed.__traceback__.tb_next
-    while frames and frames.tb_frame.f_code.co_filename == ssl.__file__:
+    while frames and frames.tb_frame.f_code.co_filename in (socket.__file__, ssl.__file__):
         frames = frames.tb_next
     if frames:
         raise failed
@@ -48,8 +48,12 @@ class Session(Core):
 
     def _connect(self, host: str, port: int) -> None:
         """Connects to the first address of the host that takes it."""
+        try:
+            addresses = socket.getaddrinfo(host, port, type=socket.SOCK_STREAM)
+        except OSError as why:
+            raise Broken([], UNREACHED) from own(why)
         failed = OSError("the host has no address")
-        for *kind, _, address in socket.getaddrinfo(host, port, type=socket.SOCK_STREAM):
+        for *kind, _, address in addresses:
             try:
                 if (left := self._left()) == 0:
                     raise TimeoutError(TIMED_OUT)
@@ -61,10 +65,9 @@ class Session(Core):
                     self._socket = self._tls.wrap_socket(self._socket, server_hostname=host)
                 return
             except OSError as why:
-                failed = why.with_traceback(None)
-                if self._socket:
-                    self._socket.close()
-        raise failed
+                failed = own(why)
+                self._shut()
+        raise Broken([], UNREACHED) from failed
 
     def __enter__(self) -> Session:
         return self
@@ -73,8 +76,12 @@ class Session(Core):
         self.close()
 
     def _shut(self) -> None:
-        if self._socket:
-            self._socket.close()
+        try:
+            if self._socket:
+                self._socket.close()
+        except OSError as why:
+            # (whatever it says, it is closed)
+            own(why)
 
     def _bound(self) -> None:
         super()._bound()
@@ -119,11 +126,16 @@ class Session(Core):
             except StopIteration as done:
                 answer: Answer = done.value
                 return answer
-            self._send()
-            self._hear(self._receive())
+            try:
+                self._send()
+                self._hear(self._receive())
+            except NotSent:
+                # (it was closed meanwhile)
+                self._lose(CLOSED_HERE)
 
     def _call(self, steps: Steps[Answer]) -> Answer:
         """Does a call in its time."""
+        self._first()
         self._bound()
         return self._do(steps)
 

@@ -1,8 +1,9 @@
 """Moments and spans of time, Python's own and those of PackStream, one from the other where nothing is lost."""
 from __future__ import annotations
 
+import dataclasses
 import datetime
-from typing import Any, Optional
+from typing import Any, Callable, Optional
 
 from . import values
 from .versions import V4_4
@@ -40,6 +41,13 @@ def stored_moment(it: datetime.datetime, version: int) -> Any:
     return values.DateTime(utc, it.microsecond * 1000, offset_of(it))
 
 
+def within(value: Any, turn: Callable[[Any], Any]) -> Any:
+    """A structure whose lists and dictionaries are turned: properties, and what a path has."""
+    parts = {name: getattr(value, name) for name in values.names_of(value)}
+    turned = {name: turn(part) for name, part in parts.items() if isinstance(part, (list, tuple, dict))}
+    return dataclasses.replace(value, **turned) if turned else value
+
+
 def stored(value: Any, version: int) -> Any:
     """A value as PackStream has it: Python's moments and spans as structures."""
     if isinstance(value, datetime.datetime):
@@ -54,6 +62,8 @@ def stored(value: Any, version: int) -> Any:
         return [stored(it, version) for it in value]
     if isinstance(value, dict):
         return {key: stored(it, version) for key, it in value.items()}
+    if type(value) in values.STRUCTURES:
+        return within(value, lambda it: stored(it, version))
     return value
 
 
@@ -93,10 +103,9 @@ def heard(value: Any, version: int) -> Any:
         return [heard(it, version) for it in value]
     if isinstance(value, dict):
         return {key: heard(it, version) for key, it in value.items()}
-    if isinstance(value, values.Node):
-        return values.Node(value.id, value.labels, heard(value.properties, version), value.element_id)
     if not isinstance(value, values.Structure):
         return value
+    value = within(value, lambda it: heard(it, version))
     try:
         found = own(value)
         return found if stored(found, version) == value else value

@@ -171,9 +171,10 @@ impl<S: Read + Write> Connection<S> {
                 self.cut = self.stream.flush().err();
                 break;
             }
+            // (before they are, so that a stream that panics sends nothing twice)
             self.went_out = true;
-            self.cut = self.stream.write_all(&self.buffer[..count]).err();
             self.client.sent(count);
+            self.cut = self.stream.write_all(&self.buffer[..count]).err();
         }
     }
 
@@ -250,11 +251,16 @@ impl<S: Read + Write> Connection<S> {
         Error::Broken { why, error, requests: self.requests.clone() }
     }
 
-    /// Sends what was asked, and hears all answers. The first FAILURE is an error, after a RESET where the session still ignores what it is asked.
-    pub fn settle(&mut self) -> Result<&[Request], Error> {
+    fn await_all(&mut self) -> Result<(), Error> {
         while self.client.state().awaits == 1 {
             self.exchange()?;
         }
+        Ok(())
+    }
+
+    /// Sends what was asked, and hears all answers. The first FAILURE is an error, after a RESET where the session still ignores what it is asked.
+    pub fn settle(&mut self) -> Result<&[Request], Error> {
+        self.await_all()?;
         let state = self.client.state();
         if state.has_ended == 1 {
             self.end();
@@ -269,9 +275,9 @@ impl<S: Read + Write> Connection<S> {
             return Ok(&self.requests);
         };
         if state.has_ended == 0 && state.phase == HALTED {
-            self.ask_reset()?;
-            while self.client.state().awaits == 1 {
-                self.exchange()?;
+            // (where the session doesn't live on, all that was asked is answered nonetheless)
+            if self.ask_reset().and_then(|_| self.await_all()).is_err() {
+                self.end();
             }
             self.requests.clone_from(&requests);
         }
@@ -297,21 +303,13 @@ impl<S: Read + Write> Connection<S> {
         Answer { fields, rows: pull.rows.clone(), bookmark: pull.metadata.get("bookmark").and_then(Value::as_text).map(str::to_owned) }
     }
 
-    /// Runs queries in one transaction, as one pipeline, under a token if there is one. Answers the rows of each.
+    /// Runs queries in one transaction, as one pipeline, under a token if there is one. Answers the rows of each. Where it can't be asked as a whole, nothing of it
+    /// goes out, and the session has ended.
     pub fn transact(&mut self, token: Option<&str>, queries: &[Query]) -> Result<Vec<Answer>, Error> {
         self.ask_begin(true, token)?;
-        let mut runs = Vec::new();
-        for query in queries {
-            match self.ask_run(query, true, None) {
-                Ok(run) => runs.push(run),
-                // (nothing of it may go out)
-                Err(refused) => {
-                    self.end();
-                    return Err(refused);
-                }
-            }
-        }
-        self.ask_commit()?;
+        let asked = queries.iter().map(|query| self.ask_run(query, true, None)).collect::<Result<Vec<_>, _>>();
+        // (of a part of it nothing may go out)
+        let runs = asked.and_then(|runs| self.ask_commit().map(|_| runs)).inspect_err(|_| self.end())?;
         self.settle()?;
         Ok(runs.into_iter().map(|run| self.answer(run)).collect())
     }

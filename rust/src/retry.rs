@@ -22,6 +22,11 @@ pub enum Fate {
 const CLASH: &str = "Neo.ClientError.Transaction.TokenClash";
 const FINAL: &str = "Neo.ClientError.";
 
+/// The code of the FAILURE among the requests that an error tells of.
+fn refusal(error: &Error) -> Option<&str> {
+    error.requests().iter().find(|it| it.outcome == Some(Outcome::Refused))?.metadata.get("code")?.as_text()
+}
+
 /// Sends queries as one transaction under a token, each time over a stream of its own, until it is known what became of it, and `tries` times at most.
 /// `connect` opens the streams, waits between two tries as it likes, and answers None where it has none.
 pub fn until_known<S: Read + Write>(mut connect: impl FnMut() -> Option<S>, login: &Login, token: &str, queries: &[Query], tries: u32) -> Fate {
@@ -29,17 +34,16 @@ pub fn until_known<S: Read + Write>(mut connect: impl FnMut() -> Option<S>, logi
     for _ in 0..tries {
         let Some(stream) = connect() else { continue };
         let told = Connection::open(stream, login).and_then(|mut connection| connection.transact(Some(token), queries));
-        match told {
-            Ok(_) => return Fate::Stands,
-            Err(Error::Refused { code, .. }) if code == CLASH => return Fate::Clash,
-            Err(Error::Refused { code, requests, .. }) => {
-                if requests.iter().any(|it| it.outcome == Some(Outcome::Unknown)) {
-                    is_doubtful = true;
-                } else if code.starts_with(FINAL) && !is_doubtful {
-                    return Fate::Refused;
-                }
-            }
-            Err(error) => is_doubtful |= error.is_unknown(),
+        let Err(error) = told else { return Fate::Stands };
+        if error.requests().iter().any(|it| it.outcome == Some(Outcome::Committed)) {
+            return Fate::Stands;
+        }
+        is_doubtful |= error.is_unknown();
+        // (a FAILURE counts, whether or not the connection lives on)
+        match refusal(&error) {
+            Some(CLASH) => return Fate::Clash,
+            Some(code) if code.starts_with(FINAL) && !is_doubtful => return Fate::Refused,
+            _ => {}
         }
     }
     if is_doubtful { Fate::Open } else { Fate::Absent }

@@ -2,8 +2,11 @@
 //! has one client at a time: run with `--test-threads=1`.
 
 use bolt::{until_known, Connection, Error, Fate, Login, Outcome, Query, Value};
+use std::cell::Cell;
+use std::collections::VecDeque;
 use std::io::{self, Read, Write};
 use std::net::TcpStream;
+use std::panic::{catch_unwind, AssertUnwindSafe};
 use std::time::Duration;
 
 fn login() -> Login {
@@ -146,4 +149,104 @@ fn values_come_back() {
         let answer = connection.run(&Query::new("ECHO", [("x", value.clone())])).unwrap();
         assert_eq!(answer.rows, [[value]]);
     }
+}
+
+/// A server's answers, one to a read, behind which the stream ends.
+struct Answers(VecDeque<Vec<u8>>);
+
+impl Read for Answers {
+    fn read(&mut self, into: &mut [u8]) -> io::Result<usize> {
+        let Some(answer) = self.0.pop_front() else { return Ok(0) };
+        into[..answer.len()].copy_from_slice(&answer);
+        Ok(answer.len())
+    }
+}
+
+impl Write for Answers {
+    fn write(&mut self, bytes: &[u8]) -> io::Result<usize> {
+        Ok(bytes.len())
+    }
+
+    fn flush(&mut self) -> io::Result<()> {
+        Ok(())
+    }
+}
+
+const SUCCESS: &[u8] = &[0xB1, 0x70, 0xA0];
+
+/// A FAILURE with a code of 16 to 255 bytes.
+fn failure(code: &str) -> Vec<u8> {
+    [b"\xB1\x7F\xA2\x84code\xD0", [code.len() as u8].as_slice(), code.as_bytes(), b"\x87message\x82no"].concat()
+}
+
+/// Answers to the offer, to HELLO and LOGON, and then these messages at once.
+fn answering(messages: &[&[u8]]) -> Option<Answers> {
+    let framed = |messages: &[&[u8]]| messages.iter().flat_map(|it| [&[0, it.len() as u8], *it, &[0, 0]].concat()).collect();
+    Some(Answers([vec![0, 0, 1, 5], framed(&[SUCCESS; 2]), framed(messages)].into()))
+}
+
+#[test]
+fn an_answer_counts_though_the_stream_ends_behind_it() {
+    let (clash, refused) = (failure("Neo.ClientError.Transaction.TokenClash"), failure("Neo.ClientError.Statement.SyntaxError"));
+    let rows: [(&[&[u8]], Fate); 6] = [
+        // (BEGIN, RUN, PULL, COMMIT, and what nobody asked for)
+        (&[SUCCESS; 4], Fate::Stands),
+        (&[SUCCESS; 5], Fate::Stands),
+        (&[SUCCESS; 3], Fate::Open),
+        (&[SUCCESS, SUCCESS, SUCCESS, &clash], Fate::Clash),
+        (&[SUCCESS, SUCCESS, SUCCESS, &refused], Fate::Refused),
+        (&[SUCCESS, &refused], Fate::Refused),
+    ];
+    for (messages, fate) in rows {
+        assert_eq!(until_known(|| answering(messages), &login(), "t", &[put("a")], 1), fate, "{messages:?}");
+    }
+    let refusal = Connection::open(answering(&[SUCCESS, SUCCESS, SUCCESS, &clash]).unwrap(), &login()).unwrap().transact(None, &[put("a")]);
+    assert!(matches!(refusal, Err(Error::Refused { ref code, .. }) if code.ends_with(".TokenClash")), "{refusal:?}");
+}
+
+#[test]
+fn of_a_transaction_that_cant_be_asked_nothing_goes_out() {
+    // (there is room for all of it but COMMIT)
+    let mut connection = Connection::open(answering(&[SUCCESS; 36]).unwrap(), &login()).unwrap();
+    connection.ask_reset().unwrap();
+    let unsent = connection.transact(None, &vec![put("a"); 15]);
+    assert!(matches!(unsent, Err(Error::NotSent { code: 2, .. })), "{unsent:?}");
+    let ended = connection.run(&put("b"));
+    assert!(matches!(ended, Err(Error::NotSent { code: 4, .. })), "{ended:?}");
+}
+
+/// A stream that keeps what is written, and panics behind a write if it is to.
+struct Panics {
+    answers: Answers,
+    written: Vec<u8>,
+    is_due: Cell<bool>,
+}
+
+impl Read for Panics {
+    fn read(&mut self, into: &mut [u8]) -> io::Result<usize> {
+        self.answers.read(into)
+    }
+}
+
+impl Write for Panics {
+    fn write(&mut self, bytes: &[u8]) -> io::Result<usize> {
+        self.written.extend(bytes);
+        assert!(!self.is_due.take());
+        Ok(bytes.len())
+    }
+
+    fn flush(&mut self) -> io::Result<()> {
+        Ok(())
+    }
+}
+
+#[test]
+fn a_stream_that_panics_sends_nothing_twice() {
+    let stream = Panics { answers: answering(&[SUCCESS; 4]).unwrap(), written: Vec::new(), is_due: Cell::new(false) };
+    let mut connection = Connection::open(stream, &login()).unwrap();
+    connection.stream().is_due.set(true);
+    assert!(catch_unwind(AssertUnwindSafe(|| connection.transact(None, &[put("a")]))).is_err());
+    connection.settle().unwrap();
+    let commit = [0, 2, 0xB0, 0x12, 0, 0];
+    assert_eq!(connection.stream().written.windows(commit.len()).filter(|it| *it == commit).count(), 1);
 }
