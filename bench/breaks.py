@@ -9,6 +9,7 @@ import subprocess
 import sys
 import threading
 import time
+import traceback
 import warnings
 
 import bolt
@@ -28,6 +29,11 @@ def raised(call):
     except Exception as why:
         return why
     return None
+
+
+def is_dropped(why):
+    """Whether Python drops what was raised, as in a finalizer."""
+    return any(it.name == "__del__" for it in traceback.extract_tb(why.__traceback__))
 
 
 def code_of(call):
@@ -127,9 +133,25 @@ class Interrupted:
             self.seen.add(line)
             self.passed += 1
             if self.passed == self.number:
-                self.raised = self.kinds[self.number % len(self.kinds)]()
-                raise self.raised
+                self.come()
         return self
+
+    def come(self):
+        self.raised = self.kinds[self.number % len(self.kinds)]()
+        raise self.raised
+
+
+class Closed(Interrupted):
+    """Closes a connection in the place of an interrupt, as the handler of a signal does."""
+
+    def __init__(self, number, connection):
+        super().__init__(number)
+        self.connection, self.has_come = connection, False
+
+    def come(self):
+        sys.settrace(None)
+        self.has_come = True
+        self.connection.close()
 
 
 def interrupted(port, before, work, key, number):
@@ -151,7 +173,7 @@ def interrupted(port, before, work, key, number):
         is_defined = code_of(lambda: connection.run("ONE")) in (0, bolt.library.NOT_ALLOWED, bolt.library.CLOSED)
     stays = all(it.outcome in bolt.OUTCOMES and before in (None, it.outcome) for it, before in zip(requests, told))
     outcome = {it.text: it.outcome for it in requests}.get("PULL of PUT" if work is alone else "COMMIT")
-    return (outcome, is_defined and stays and came is interrupt.raised) if interrupt.raised else None
+    return (outcome, is_defined and stays and (came is interrupt.raised or is_dropped(interrupt.raised))) if interrupt.raised else None
 
 
 def interrupts(port, before, work):
@@ -169,6 +191,72 @@ def interrupts(port, before, work):
     if wrong:
         print(f"interrupts of {work.__name__} behind {before.__name__}, of {number - 1} lines: {wrong[:9]}")
     return not wrong and number > 50, number - 1
+
+
+def closed(port, key, number):
+    """What became of a COMMIT, and what was raised, where the connection is closed at a line of the call that settles it, by number; None where that has fewer lines."""
+    with bolt.Session("127.0.0.1", port, USER) as connection:
+        ask_all(connection, key)
+        closing = Closed(number, connection)
+        sys.settrace(closing)
+        try:
+            why = raised(connection.settle)
+        finally:
+            sys.settrace(None)
+        return (connection.requests[-1].outcome, why) if closing.has_come else None
+
+
+def closes_meanwhile(port):
+    """Whether of a call in the midst of which its connection is closed it isn't said that nothing was sent where something was; and how many lines there are."""
+    told, number = {}, 1
+    while (held := closed(port, f"closed{number}", number)) is not None:
+        told[f"closed{number}"] = held
+        number += 1
+    with bolt.Session("127.0.0.1", port, USER) as connection:
+        wrong = [f"{key} {outcome} {why!r}" for key, (outcome, why) in told.items()
+                 if not is_right(outcome, connection.run("GET", {"key": key}, write=False) == [[1]]) or isinstance(why, bolt.NotSent) and outcome != bolt.LOST]
+    if wrong:
+        print(f"closed at each of {number - 1} lines:", *wrong[:9], sep="\n")
+    return not wrong and number > 100, number - 1
+
+
+def broken_twice(port, key, number):
+    """What became of a COMMIT whose call is broken off at a line by number, and its client's end too, once it was tried again; None where it has fewer lines."""
+    interrupt = Interrupted(number, (MemoryError,))
+    with bolt.Session("127.0.0.1", port, USER) as connection:
+        ask_all(connection, key)
+        connection._end = lambda _: interrupt.come()
+        sys.settrace(interrupt)
+        try:
+            raised(connection.settle)
+        finally:
+            sys.settrace(None)
+        del connection._end
+        raised(connection.settle)
+    return connection.requests[-1].outcome if interrupt.raised else None
+
+
+def sends_nothing_twice(port):
+    """Whether, where want of memory goes on for as long as a call, nothing is sent twice by the next call; and how many lines there are."""
+    def entry():
+        asked = connection.ask_run("ONE")
+        connection.settle()
+        return int(asked.metadata["bookmark"].split(":")[1])
+
+    with bolt.Session("127.0.0.1", port, USER) as connection:
+        before = entry()
+    told, number = {}, 1
+    while (outcome := broken_twice(port, f"twice{number}", number)) is not None:
+        told[f"twice{number}"] = outcome
+        number += 1
+    with bolt.Session("127.0.0.1", port, USER) as connection:
+        there = {key: connection.run("GET", {"key": key}, write=False) == [[1]] for key in told}
+        made = entry() - before - len(told) - 1 + sum(not stands for stands in there.values())
+    # (the last transaction had fewer lines, and stands)
+    wrong = [f"{key} {outcome}" for key, outcome in told.items() if not is_right(outcome, there[key])]
+    if wrong or made != number:
+        print(f"broken off twice: {wrong[:9]}, {made} entries of {number}")
+    return not wrong and made == number and number > 100, number - 1
 
 
 # Ends of a server: what it sends when it has heard something, and then; what it sends again and again, whether it closes, resets or waits; and what
@@ -249,6 +337,26 @@ def gives_up(port):
     told = str(told), str(after), after.code
     return short == "BEGIN: LOST (out of memory)" and is_raised and told == (
         "RUN ROWS: LOST, PULL of ROWS: UNKNOWN (interrupted)", "the client has ended: interrupted", 4)
+
+
+SHUT = """
+import bolt, os, sys
+with bolt.Session("127.0.0.1", int(sys.argv[1]), ("basic", "user", "pass")) as connection:
+    connection.ask_begin()
+    os.close(connection._socket.fileno())
+    try:
+        connection.settle()
+    except bolt.Broken as broken:
+        print(broken)
+"""
+
+
+def fails_to_close(port):
+    """Whether a socket that can't be closed, as one whose descriptor is, is told as one that failed: by a process of its own, whose descriptors nobody else takes."""
+    environment = {**os.environ, "PYTHONPATH": os.path.dirname(os.path.dirname(bolt.__file__))}
+    words = [sys.executable, "-B", "-c", SHUT, str(port)]
+    told = subprocess.run(words, env=environment, stdout=subprocess.PIPE, stderr=subprocess.DEVNULL, text=True, timeout=60)
+    return told.stdout == f"BEGIN: LOST ({bolt.FAILED})\n"
 
 
 def interrupt():

@@ -164,7 +164,7 @@ def interrupting(number):
             came = why
         finally:
             sys.settrace(None)
-        return came is interrupt.raised if interrupt.raised else None
+        return came is interrupt.raised or breaks.is_dropped(interrupt.raised) if interrupt.raised else None
     return breaking
 
 
@@ -264,6 +264,35 @@ def put(key, value):
     return work
 
 
+async def drops(tx):
+    await tx.run("PUT", key="dropped", value=1)
+    await tx.rollback()
+
+
+def until(port):
+    return asyncio.run(aio.until_known(lambda: connected(port), put("heard", 1), tries=1))
+
+
+async def tells_what_it_heard(_):
+    return await asyncio.to_thread(drives.tells_what_it_heard, None, until)
+
+
+async def closes_meanwhile(port):
+    """Whether a transaction whose connection another task closes as its answer comes is told as broken, with its outcome."""
+    async with await connected(port) as connection:
+        session = connection.session
+        hear = session._receive
+
+        async def receive():
+            piece = await hear()
+            await session.close()
+            return piece
+
+        session._receive = receive
+        why = await raised(in_one(connection, "closed"))
+    return type(why) is bolt.Broken and why.outcome == bolt.UNKNOWN
+
+
 async def tells_fates(port):
     """Whether a transaction is sent until it is known, through cuts of its first attempt, either way; and what is known of one that can't stand."""
     connect, now = lambda: connected(port), lambda _: 0
@@ -271,13 +300,15 @@ async def tells_fates(port):
     clash = await aio.until_known(connect, put("fates", 2), made.token)
     refused = await aio.until_known(connect, lambda tx: tx.run("NOPE"))
     absent = await aio.until_known(lambda: connected(1), put("fates", 3), tries=2, pause=now)
+    dropped = await aio.until_known(connect, drops)
     fates = []
     for way in ("told", "asked"):
         for at in range(0, 400, 19):
             with proxy.Door(port, [{way: at}]) as door:
                 there = door.listener.getsockname()[1]
                 fates.append((await aio.until_known(lambda: connected(there), put(f"{way} {at}", at), pause=now)).fate)
-    return ((made.fate, made.value, clash.fate, refused.fate, absent.fate) == (bolt.STANDS, 1, bolt.CLASH, bolt.REFUSED, bolt.ABSENT)
+    return ((made.fate, made.value, clash.fate, refused.fate, absent.fate, dropped.fate) == (
+                bolt.STANDS, 1, bolt.CLASH, bolt.REFUSED, bolt.ABSENT, bolt.ABSENT)
             and set(fates) == {bolt.STANDS})
 
 
@@ -294,4 +325,4 @@ async def encrypts(port):
     return (len(said), type(stranger), type(stranger.__cause__)) == (1024, bolt.Broken, ssl.SSLCertVerificationError)
 
 
-DRIVES = (reads_rows, transacts, keeps_to_a_task, tells_errors, tells_fates, encrypts)
+DRIVES = (reads_rows, transacts, keeps_to_a_task, tells_errors, tells_fates, tells_what_it_heard, closes_meanwhile, encrypts)

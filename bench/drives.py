@@ -16,6 +16,7 @@ import zipfile
 
 import bolt
 import breaks
+import odd_servers
 import proxy
 
 USER = ("user", "pass")
@@ -55,6 +56,34 @@ def reads_rows(port):
                 and isinstance(breaks.raised(lambda: first["j"]), KeyError) and connection.run("ROWS", n=0).values() == [])
 
 
+def loses_no_record(port):
+    """Whether, where an interrupt comes at a line of the reading of a record that is held, that record is read next."""
+    number, wrong = 1, []
+    with connected(port) as connection:
+        while True:
+            records, interrupt, came = connection.run("ECHO", x=[datetime.date(2000, 1, 1)]), breaks.Interrupted(number), None
+            sys.settrace(interrupt)
+            try:
+                next(records)
+            except breaks.INTERRUPTS as why:
+                came = why
+            finally:
+                sys.settrace(None)
+            if not interrupt.raised:
+                # (at the last line the record is read)
+                return wrong == [number - 1] and number > 10
+            wrong += [] if came is interrupt.raised and records.values() == [[[datetime.date(2000, 1, 1)]]] else [number]
+            number += 1
+
+
+def goes_on(connection):
+    """Whether what is run next is committed by itself, or the connection has ended."""
+    try:
+        return connection.run("ONE").summary.outcome == bolt.COMMITTED
+    except bolt.NotSent as why:
+        return why.code in (bolt.library.CLOSED, bolt.library.NO_CLIENT)
+
+
 def transacts(port):
     """Whether a transaction commits at the block's end, and not where an exception or a FAILURE ends it; the connection goes on each time."""
     with connected(port) as connection:
@@ -76,8 +105,17 @@ def transacts(port):
             why = breaks.raised(lambda: tx.run("PUT", key="goes", value=1))
             is_refused = isinstance(why, bolt.Refused) and why.code.endswith("ReadOnly")
             tx.is_open = False
-        goes_on = connection.run("ONE").single() == [1]
-    return is_kept and is_over and is_refused and goes_on and (value_of(port, "stays"), value_of(port, "goes")) == ([1], [])
+        for end in (lambda: tx.run("NOPE"), connection.reset):
+            with contextlib.suppress(bolt.NotSent), connection.transaction() as tx:
+                breaks.raised(end)
+                is_over = is_over and isinstance(breaks.raised(lambda: tx.run("PUT", key="goes", value=1)), ValueError)
+        is_free = goes_on(connection)
+        # (what isn't settled can't be reset)
+        with contextlib.suppress(KeyError), connection.transaction() as tx:
+            connection.session.ask_run("PUT", {"key": "goes", "value": 1})
+            raise KeyError
+        is_free = is_free and goes_on(connection)
+    return is_kept and is_over and is_refused and is_free and (value_of(port, "stays"), value_of(port, "goes")) == ([1], [])
 
 
 def pipes(port):
@@ -103,13 +141,16 @@ OWN = (datetime.date(2021, 2, 3), datetime.date(1, 1, 1), datetime.datetime(2021
 OURS = (bolt.Date(10 ** 9), bolt.LocalTime(1), bolt.Time(1, 0), bolt.LocalDateTime(0, 1), bolt.DateTime(10 ** 15, 0, 0), bolt.Duration(1, 0, 0, 0),
         bolt.Duration(0, 0, 86_400, 0), bolt.Point2D(7203, 1.0, 2.0), bolt.Node(1, ["A"], {"p": 1}, "1"))
 
+NODE, THERE = bolt.Node(1, ["A"], {"d": datetime.date(2000, 1, 1)}, "1"), bolt.UnboundRelationship(2, "TO", {"d": [datetime.timedelta(1)]}, "2")
+GRAPH = (NODE, THERE, bolt.Relationship(2, 1, 1, "TO", {"d": datetime.date(2000, 1, 1)}, "2", "1", "1"), bolt.Path([NODE], [THERE], [1, 0]))
+
 
 def keeps_moments(port):
     """Whether Python's moments and spans come back as they were, at each version, and structures that have none of Python's as they are."""
     wrong = []
     for version in (44, 50, 51):
         with connected(port, versions=version) as connection:
-            for value in OWN + OURS:
+            for value in OWN + OURS + (GRAPH if version > 44 else ()):
                 said = connection.run("ECHO", x=value).single()["x"]
                 wanted = bolt.Node(1, ["A"], {"p": 1}) if version == 44 and isinstance(value, bolt.Node) else value
                 if said != wanted:
@@ -164,6 +205,24 @@ def settles(port):
     return not wrong and len(cuts) > 300, len(cuts)
 
 
+def keeps_the_token(connect):
+    """Whether a transaction of whose token nobody was told before an interrupt is sent again under that of the interrupt, and stands as it stood."""
+    stood = []
+
+    def stops(tx):
+        tx.run("PUT", key="stopped", value=1)
+        tx.commit()
+        stood.append(tx.bookmark)
+        raise KeyboardInterrupt
+
+    try:
+        bolt.until_known(connect, stops)
+    except KeyboardInterrupt as why:
+        again = bolt.until_known(connect, put("stopped", 1), why.token)
+        return again.stands and [again.bookmark] == stood
+    return False
+
+
 def tells_fates(port):
     """Whether other writes under a token, a refusal, and a server that isn't there are told as such."""
     connect = lambda: connected(port)
@@ -174,38 +233,102 @@ def tells_fates(port):
     absent = bolt.until_known(lambda: connected(1), put("fates", 3), tries=2, pause=lambda _: 0)
     late = bolt.until_known(lambda: connected(1), put("fates", 3), tries=9, within=0, pause=lambda _: 0.01)
     own = breaks.raised(lambda: bolt.until_known(connect, lambda tx: tx.run("PUT", key={1}, value=1)))
+    dropped = bolt.until_known(connect, lambda tx: (tx.run("PUT", key="fates", value=3), tx.rollback()))
+    by_itself = bolt.until_known(connect, lambda tx: (tx.run("PUT", key="alone", value=1), tx.commit()))
     return ((made.fate, clash.fate, again.fate, refused.fate, absent.fate, late.fate) == (bolt.STANDS, bolt.CLASH, bolt.STANDS, bolt.REFUSED, bolt.ABSENT, bolt.ABSENT)
             and made.bookmark == again.bookmark and len(made.token) == 32 and isinstance(own, TypeError) and isinstance(refused.error, bolt.Refused)
-            and value_of(port, "fates") == [1])
+            and keeps_the_token(connect) and len(own.token) == 32
+            and value_of(port, "fates") == [1] and dropped.fate == bolt.ABSENT and by_itself.stands and by_itself.bookmark.startswith("bk:"))
 
 
-def interrupted(port, key, number):
-    """What became of the COMMIT of a transaction in which an interrupt comes at a line of the package, by number; None where it has fewer lines."""
+# What a server answers to a login, BEGIN, a RUN with its PULL, and COMMIT, before it closes, and what is known then by one attempt.
+DONE, BEFORE = odd_servers.DONE, (odd_servers.V51, odd_servers.told(*[odd_servers.DONE] * 2), odd_servers.told(odd_servers.DONE))
+HEARD = (
+    ((odd_servers.told(DONE, DONE), odd_servers.told(DONE)), bolt.STANDS),
+    ((odd_servers.told(DONE, DONE), odd_servers.told(DONE, DONE)), bolt.STANDS),
+    ((odd_servers.told(DONE, DONE), odd_servers.CLOSED), bolt.OPEN),
+    ((odd_servers.told(DONE, DONE), odd_servers.told(odd_servers.failure(odd_servers.CLASH))), bolt.CLASH),
+    ((odd_servers.told(DONE, DONE), odd_servers.told(odd_servers.failure(odd_servers.REFUSED))), bolt.REFUSED),
+    ((odd_servers.told(odd_servers.failure(odd_servers.REFUSED)),), bolt.REFUSED),
+    ((odd_servers.told(odd_servers.failure(odd_servers.BUSY)),), bolt.ABSENT),
+)
+
+
+def tells_what_it_heard(_, until=lambda port: bolt.until_known(lambda: connected(port), put("heard", 1), tries=1)):
+    """Whether what a server answered counts, though it closes behind that or says more than it may."""
+    wrong = []
+    for said, fate in HEARD:
+        with odd_servers.Server([(*BEFORE, *said)]) as server:
+            known = until(server.port)
+        if (known.fate, known.value) != (fate, 1 if fate == bolt.STANDS else None):
+            wrong.append(f"{fate}: {known}")
+    if wrong:
+        print("what was heard:", *wrong, sep="\n")
+    return not wrong
+
+
+def breaks_off_connecting(port):
+    """Whether what the handler of a signal raises while a connection is made or closed is raised as it is, though it is an OSError. Python drops what is raised in
+    a finalizer."""
+    number, wrong = 1, []
+    while True:
+        interrupt, came = breaks.Interrupted(number, (TimeoutError,)), None
+        sys.settrace(interrupt)
+        try:
+            connected(port).close()
+        except (OSError, bolt.BoltError) as why:
+            came = why
+        finally:
+            sys.settrace(None)
+        if not interrupt.raised:
+            return not wrong and number > 100
+        wrong += [] if came is interrupt.raised or breaks.is_dropped(interrupt.raised) else [number]
+        number += 1
+
+
+def by_steps(connection, key):
+    with connection.transaction() as tx:
+        tx.run("PUT", key=key, value=1)
+
+
+def in_one(connection, key):
+    with connection.pipeline() as asked:
+        asked.begin()
+        asked.run("PUT", key=key, value=1)
+        asked.commit()
+
+
+def interrupted(port, work, key, number):
+    """What became of the COMMIT of a transaction in which an interrupt comes at a line of the package, by number, and whether it is raised, and the connection goes on
+    or has ended; None where it has fewer lines."""
     interrupt, came = breaks.Interrupted(number), None
     with connected(port) as connection:
         sys.settrace(interrupt)
         try:
-            with connection.transaction() as tx:
-                tx.run("PUT", key=key, value=1)
+            work(connection, key)
         except (*breaks.INTERRUPTS, bolt.BoltError) as why:
             came = why
         finally:
             sys.settrace(None)
         requests = list(connection.session.requests)
-    return ({it.text: it.outcome for it in requests}.get("COMMIT"), came is interrupt.raised) if interrupt.raised else None
+        is_told = came is interrupt.raised and goes_on(connection)
+    return ({it.text: it.outcome for it in requests}.get("COMMIT"), is_told) if interrupt.raised else None
 
 
 def keeps_accounts(port):
-    """Whether an interrupt at each line of a transaction is raised, and leaves a true account of it; and how many lines there are."""
-    told, number = {}, 1
-    while (held := interrupted(port, f"line{number}", number)) is not None:
-        told[f"line{number}"] = held
-        number += 1
-    wrong = [f"{key} {outcome}" for key, (outcome, is_raised) in told.items()
-             if not (is_raised and breaks.is_right(outcome, value_of(port, key) == [1]))]
+    """Whether an interrupt at each line of a transaction is raised, and leaves a true account of it, and nothing open; and how many lines there are."""
+    told = {}
+    for work in (by_steps, in_one):
+        number = 1
+        while (held := interrupted(port, work, f"{work.__name__}{number}", number)) is not None:
+            told[f"{work.__name__}{number}"] = held
+            number += 1
+    with connected(port) as connection:
+        wrong = [f"{key} {outcome} {is_told}" for key, (outcome, is_told) in told.items()
+                 if not (is_told and breaks.is_right(outcome, connection.read("GET", key=key).values() == [[1]]))]
     if wrong:
-        print(f"interrupts of a transaction, of {number - 1} lines:", *wrong[:9])
-    return not wrong and number > 100, number - 1
+        print(f"interrupts of transactions, of {len(told)} lines:", *wrong[:9])
+    return not wrong and len(told) > 200, len(told)
 
 
 class Tunnel:
@@ -272,4 +395,4 @@ def installs(port):
     return bool(wanted) and said == "".join(f"{line.strip()}\n" for line in wanted.split("\n"))
 
 
-WORKS = (reads_rows, transacts, pipes, keeps_moments, tells_errors, tells_fates, encrypts, installs)
+WORKS = (reads_rows, loses_no_record, transacts, tells_what_it_heard, breaks_off_connecting, pipes, keeps_moments, tells_errors, tells_fates, encrypts, installs)
