@@ -4,6 +4,7 @@ use crate::error::{Error, Outcome, Request};
 use crate::ffi::{Client, CLOSED, FULL, HALTED, MEMORY, MESSAGE, PIPELINE};
 use crate::value::{dict, put, Reading, Value};
 use std::io::{self, Read, Write};
+use std::panic::{catch_unwind, resume_unwind, AssertUnwindSafe};
 
 /// How a client logs in: its name, and who it is.
 #[derive(Clone, Debug)]
@@ -38,7 +39,7 @@ pub struct Answer {
 /// A session of a server over a stream. A stream's own times bound its reads and writes.
 ///
 /// Requests are asked, and go out as one pipeline when they are settled. [`requests`](Connection::requests) are those asked since all was settled, each
-/// with what became of it, after each call, also one that failed.
+/// with what became of it, after each call, also one that failed. Where a call of the stream panics, so does the connection's, and it has ended.
 pub struct Connection<S> {
     stream: S,
     client: Client,
@@ -52,6 +53,8 @@ pub struct Connection<S> {
     went_out: bool,
     /// Why nothing more is sent.
     cut: Option<io::Error>,
+    /// Why the client has ended.
+    why: Option<&'static str>,
 }
 
 fn message(tag: u8, fields: Vec<Value>) -> Vec<u8> {
@@ -86,6 +89,7 @@ impl<S: Read + Write> Connection<S> {
             is_settled: true,
             went_out: false,
             cut: None,
+            why: None,
         };
         while connection.client.state().version == 0 {
             connection.exchange()?;
@@ -171,10 +175,9 @@ impl<S: Read + Write> Connection<S> {
                 self.cut = self.stream.flush().err();
                 break;
             }
-            // (before they are, so that a stream that panics sends nothing twice)
             self.went_out = true;
-            self.client.sent(count);
             self.cut = self.stream.write_all(&self.buffer[..count]).err();
+            self.client.sent(count);
         }
     }
 
@@ -216,9 +219,17 @@ impl<S: Read + Write> Connection<S> {
 
     /// Sends what waits, and hears a piece of the server's bytes.
     fn exchange(&mut self) -> Result<(), Error> {
-        self.send();
         let mut piece = [0; 4096];
-        let (count, error) = match self.stream.read(&mut piece) {
+        let read = catch_unwind(AssertUnwindSafe(|| {
+            self.send();
+            self.stream.read(&mut piece)
+        }));
+        // (where the stream panics bytes are gone, and no answer may be taken for another's)
+        let read = read.unwrap_or_else(|panic| {
+            self.end("the stream panicked");
+            resume_unwind(panic)
+        });
+        let (count, error) = match read {
             Ok(count) => (count, None),
             Err(error) if error.kind() == io::ErrorKind::Interrupted => return Ok(()),
             Err(error) => (0, Some(error)),
@@ -236,7 +247,8 @@ impl<S: Read + Write> Connection<S> {
     }
 
     /// Nothing is heard any more: the account has what became of each request.
-    fn end(&mut self) {
+    fn end(&mut self, why: &'static str) {
+        self.why.get_or_insert(why);
         self.client.lose();
         for (request, ordinal) in self.requests.iter_mut().zip(self.first..) {
             let told = self.client.outcome(ordinal);
@@ -247,7 +259,7 @@ impl<S: Read + Write> Connection<S> {
     }
 
     fn lose(&mut self, why: &'static str, error: Option<io::Error>) -> Error {
-        self.end();
+        self.end(why);
         Error::Broken { why, error, requests: self.requests.clone() }
     }
 
@@ -263,21 +275,21 @@ impl<S: Read + Write> Connection<S> {
         self.await_all()?;
         let state = self.client.state();
         if state.has_ended == 1 {
-            self.end();
+            self.end("a summary ended the session");
         }
         let requests = self.requests.clone();
         let refused = requests.iter().find(|it| it.outcome == Some(Outcome::Refused));
         let Some(refused) = refused else {
             self.is_settled = true;
             if requests.iter().any(|it| matches!(it.outcome, Some(Outcome::Lost | Outcome::Unknown))) {
-                return Err(Error::Broken { why: "a summary ended the session", error: None, requests });
+                return Err(Error::Broken { why: self.why.unwrap_or_default(), error: None, requests });
             }
             return Ok(&self.requests);
         };
         if state.has_ended == 0 && state.phase == HALTED {
             // (where the session doesn't live on, all that was asked is answered nonetheless)
             if self.ask_reset().and_then(|_| self.await_all()).is_err() {
-                self.end();
+                self.end("out of memory");
             }
             self.requests.clone_from(&requests);
         }
@@ -309,7 +321,7 @@ impl<S: Read + Write> Connection<S> {
         self.ask_begin(true, token)?;
         let asked = queries.iter().map(|query| self.ask_run(query, true, None)).collect::<Result<Vec<_>, _>>();
         // (of a part of it nothing may go out)
-        let runs = asked.and_then(|runs| self.ask_commit().map(|_| runs)).inspect_err(|_| self.end())?;
+        let runs = asked.and_then(|runs| self.ask_commit().map(|_| runs)).inspect_err(|_| self.end("not all of a transaction was asked"))?;
         self.settle()?;
         Ok(runs.into_iter().map(|run| self.answer(run)).collect())
     }

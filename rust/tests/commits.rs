@@ -215,23 +215,41 @@ fn of_a_transaction_that_cant_be_asked_nothing_goes_out() {
     assert!(matches!(ended, Err(Error::NotSent { code: 4, .. })), "{ended:?}");
 }
 
-/// A stream that keeps what is written, and panics behind a write if it is to.
+#[derive(Clone, Copy, Debug, Default, PartialEq)]
+enum Panic {
+    #[default]
+    Nowhere,
+    BeforeWrite,
+    BehindWrite,
+    BehindRead,
+}
+
+/// A stream that keeps what is written, and panics where it is to.
 struct Panics {
     answers: Answers,
     written: Vec<u8>,
-    is_due: Cell<bool>,
+    due: Cell<Panic>,
+}
+
+impl Panics {
+    fn panic(&self, at: Panic) {
+        assert!(self.due.get() != at, "{at:?}");
+    }
 }
 
 impl Read for Panics {
     fn read(&mut self, into: &mut [u8]) -> io::Result<usize> {
-        self.answers.read(into)
+        let count = self.answers.read(into)?;
+        self.panic(Panic::BehindRead);
+        Ok(count)
     }
 }
 
 impl Write for Panics {
     fn write(&mut self, bytes: &[u8]) -> io::Result<usize> {
+        self.panic(Panic::BeforeWrite);
         self.written.extend(bytes);
-        assert!(!self.is_due.take());
+        self.panic(Panic::BehindWrite);
         Ok(bytes.len())
     }
 
@@ -241,12 +259,20 @@ impl Write for Panics {
 }
 
 #[test]
-fn a_stream_that_panics_sends_nothing_twice() {
-    let stream = Panics { answers: answering(&[SUCCESS; 4]).unwrap(), written: Vec::new(), is_due: Cell::new(false) };
-    let mut connection = Connection::open(stream, &login()).unwrap();
-    connection.stream().is_due.set(true);
-    assert!(catch_unwind(AssertUnwindSafe(|| connection.transact(None, &[put("a")]))).is_err());
-    connection.settle().unwrap();
-    let commit = [0, 2, 0xB0, 0x12, 0, 0];
-    assert_eq!(connection.stream().written.windows(commit.len()).filter(|it| *it == commit).count(), 1);
+fn behind_a_panic_of_the_stream_nothing_is_sent_or_heard() {
+    for (due, times) in [(Panic::BeforeWrite, 0), (Panic::BehindWrite, 1), (Panic::BehindRead, 1)] {
+        let stream = Panics { answers: answering(&[SUCCESS; 8]).unwrap(), written: Vec::new(), due: Cell::default() };
+        let mut connection = Connection::open(stream, &login()).unwrap();
+        connection.stream().due.set(due);
+        assert!(catch_unwind(AssertUnwindSafe(|| connection.transact(None, &[put("a")]))).is_err());
+        connection.stream().due.take();
+        // (an answer to this would be taken for that of the first)
+        let again = connection.transact(None, &[put("b")]);
+        assert!(matches!(again, Err(Error::NotSent { code: 4, .. })), "{due:?}: {again:?}");
+        let broken = connection.settle().map(<[_]>::len);
+        assert!(matches!(&broken, Err(Error::Broken { why: "the stream panicked", .. })), "{due:?}: {broken:?}");
+        assert_eq!(connection.requests().last().unwrap().outcome, Some(Outcome::Unknown), "{due:?}");
+        let commit = [0, 2, 0xB0, 0x12, 0, 0];
+        assert_eq!(connection.stream().written.windows(commit.len()).filter(|it| *it == commit).count(), times, "{due:?}");
+    }
 }
