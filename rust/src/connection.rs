@@ -1,7 +1,7 @@
 //! A connection over any stream.
 
 use crate::error::{Error, Outcome, Request};
-use crate::ffi::{Client, CLOSED, FULL, HALTED, MEMORY, MESSAGE, PIPELINE};
+use crate::ffi::{Client, CLOSED, FULL, HALTED, MEMORY, MESSAGE, NOT_ALLOWED, PIPELINE};
 use crate::value::{dict, put, Reading, Value};
 use std::io::{self, Read, Write};
 use std::panic::{catch_unwind, resume_unwind, AssertUnwindSafe};
@@ -298,8 +298,15 @@ impl<S: Read + Write> Connection<S> {
         Err(Error::Refused { code: told("code"), message: told("message"), requests: requests.clone() })
     }
 
-    /// Runs a query and answers its rows: in the transaction that is open, or of its own, which is committed with its last row.
+    /// Refused where something was asked before and isn't settled, which would go out too.
+    fn alone(&self) -> Result<(), Error> {
+        if self.is_settled || self.requests.is_empty() { Ok(()) } else { Err(refusal(NOT_ALLOWED)) }
+    }
+
+    /// Runs a query and answers its rows: in the transaction that is open, or of its own, which is committed with its last row. Refused where something was
+    /// asked before and isn't settled.
     pub fn run(&mut self, query: &Query) -> Result<Answer, Error> {
+        self.alone()?;
         let run = self.ask_run(query, true, None)?;
         self.settle()?;
         Ok(self.answer(run))
@@ -315,9 +322,10 @@ impl<S: Read + Write> Connection<S> {
         Answer { fields, rows: pull.rows.clone(), bookmark: pull.metadata.get("bookmark").and_then(Value::as_text).map(str::to_owned) }
     }
 
-    /// Runs queries in one transaction, as one pipeline, under a token if there is one. Answers the rows of each. Where it can't be asked as a whole, nothing of it
-    /// goes out, and the session has ended.
+    /// Runs queries in one transaction, as one pipeline, under a token if there is one. Answers the rows of each. Refused where something was asked before and
+    /// isn't settled. Where it can't be asked as a whole, as of more than 15 queries, nothing of it goes out, and the session has ended.
     pub fn transact(&mut self, token: Option<&str>, queries: &[Query]) -> Result<Vec<Answer>, Error> {
+        self.alone()?;
         self.ask_begin(true, token)?;
         let asked = queries.iter().map(|query| self.ask_run(query, true, None)).collect::<Result<Vec<_>, _>>();
         // (of a part of it nothing may go out)

@@ -31,6 +31,7 @@ pub(crate) struct Standing {
 /// How many requests may wait.
 pub(crate) const PIPELINE: usize = 32;
 pub(crate) const MESSAGE: usize = 65_536;
+pub(crate) const NOT_ALLOWED: u32 = 1;
 pub(crate) const FULL: u32 = 2;
 pub(crate) const CLOSED: u32 = 4;
 pub(crate) const MEMORY: u32 = 5;

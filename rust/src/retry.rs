@@ -27,8 +27,8 @@ fn refusal(error: &Error) -> Option<&str> {
     error.requests().iter().find(|it| it.outcome == Some(Outcome::Refused))?.metadata.get("code")?.as_text()
 }
 
-/// Sends queries as one transaction under a token, each time over a stream of its own, until it is known what became of it, and `tries` times at most.
-/// `connect` opens the streams, waits between two tries as it likes, and answers None where it has none.
+/// Sends queries, 15 at most, as one transaction under a token, each time over a stream of its own, until it is known what became of it, and `tries` times at
+/// most. `connect` opens the streams, waits between two tries as it likes, and answers None where it has none.
 pub fn until_known<S: Read + Write>(mut connect: impl FnMut() -> Option<S>, login: &Login, token: &str, queries: &[Query], tries: u32) -> Fate {
     let mut is_doubtful = false;
     for _ in 0..tries {

@@ -206,13 +206,22 @@ fn an_answer_counts_though_the_stream_ends_behind_it() {
 
 #[test]
 fn of_a_transaction_that_cant_be_asked_nothing_goes_out() {
-    // (there is room for all of it but COMMIT)
+    // (there is room for its first 31 requests)
     let mut connection = Connection::open(answering(&[SUCCESS; 36]).unwrap(), &login()).unwrap();
-    connection.ask_reset().unwrap();
-    let unsent = connection.transact(None, &vec![put("a"); 15]);
+    let unsent = connection.transact(None, &vec![put("a"); 16]);
     assert!(matches!(unsent, Err(Error::NotSent { code: 2, .. })), "{unsent:?}");
     let ended = connection.run(&put("b"));
     assert!(matches!(ended, Err(Error::NotSent { code: 4, .. })), "{ended:?}");
+}
+
+#[test]
+fn what_was_asked_goes_out_where_it_is_settled() {
+    let mut connection = Connection::open(answering(&[SUCCESS; 4]).unwrap(), &login()).unwrap();
+    connection.ask_run(&put("a"), true, None).unwrap();
+    let (run, transacted) = (connection.run(&put("b")), connection.transact(None, &[put("b")]));
+    assert!(matches!(run, Err(Error::NotSent { code: 1, .. })), "{run:?}");
+    assert!(matches!(transacted, Err(Error::NotSent { code: 1, .. })), "{transacted:?}");
+    assert_eq!(connection.requests().iter().map(|it| it.outcome).collect::<Vec<_>>(), [None, None]);
 }
 
 #[derive(Clone, Copy, Debug, Default, PartialEq)]
