@@ -120,6 +120,10 @@ impl<S: Read + Write> Connection<S> {
 
     /// Submits a request; it goes out when it is settled. Answers its place among the requests.
     fn ask(&mut self, text: &str, tag: u8, fields: Vec<Value>) -> Result<usize, Error> {
+        if self.cut.is_some() {
+            // (it would wait for its answer without an end)
+            self.end("the stream failed");
+        }
         let state = self.client.state();
         if self.is_settled && state.has_ended == 0 {
             self.client.settle();

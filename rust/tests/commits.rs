@@ -224,6 +224,45 @@ fn what_was_asked_goes_out_where_it_is_settled() {
     assert_eq!(connection.requests().iter().map(|it| it.outcome).collect::<Vec<_>>(), [None, None]);
 }
 
+/// A stream whose flushes fail if they are to.
+struct Unflushed {
+    answers: Answers,
+    fails: Cell<bool>,
+}
+
+impl Read for Unflushed {
+    fn read(&mut self, into: &mut [u8]) -> io::Result<usize> {
+        self.answers.read(into)
+    }
+}
+
+impl Write for Unflushed {
+    fn write(&mut self, bytes: &[u8]) -> io::Result<usize> {
+        Ok(bytes.len())
+    }
+
+    fn flush(&mut self) -> io::Result<()> {
+        if self.fails.get() { Err(io::ErrorKind::TimedOut.into()) } else { Ok(()) }
+    }
+}
+
+#[test]
+fn nothing_is_asked_of_a_stream_that_takes_no_more() {
+    let refused = failure("Neo.ClientError.Statement.SyntaxError");
+    let ignored = [0xB0, 0x7E];
+    // (behind the refusal an answer to a RESET would come)
+    let rows: [&[&[u8]]; 2] = [&[SUCCESS; 4], &[&refused, &ignored, &ignored, &ignored]];
+    for messages in rows {
+        let mut connection = Connection::open(Unflushed { answers: answering(messages).unwrap(), fails: Cell::new(false) }, &login()).unwrap();
+        connection.stream().fails.set(true);
+        let told = connection.transact(None, &[put("a")]);
+        assert_eq!(told.is_ok(), messages[0] == SUCCESS, "{told:?}");
+        assert!(!matches!(told, Err(Error::Broken { .. })), "{told:?}");
+        let again = connection.run(&put("b"));
+        assert!(matches!(again, Err(Error::NotSent { code: 4, .. })), "{again:?}");
+    }
+}
+
 #[derive(Clone, Copy, Debug, Default, PartialEq)]
 enum Panic {
     #[default]
