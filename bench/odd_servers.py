@@ -81,10 +81,10 @@ QUERIES = [
 
 class Server(proxy.Listening):
     """Tells each connection what stands for it, the last of these over and over, and keeps what it was asked behind the offer of versions. What it tells is the
-    version, and then, in parts, what answers the requests that come."""
+    version, and then, in parts, what answers the requests that come; then it ends its side, if it does."""
 
-    def __init__(self, answers):
-        self.answers, self.asked = answers, []
+    def __init__(self, answers, ends=True):
+        self.answers, self.ends, self.asked = answers, ends, []
         super().__init__()
         self.port = self.listener.getsockname()[1]
 
@@ -99,7 +99,8 @@ class Server(proxy.Listening):
             for part in parts:
                 self.asked[-1] += client.recv(65536)
                 client.sendall(part)
-            client.shutdown(socket.SHUT_WR)
+            if self.ends:
+                client.shutdown(socket.SHUT_WR)
             while part := client.recv(65536):
                 self.asked[-1] += part
 
