@@ -8,14 +8,14 @@
  *     if (bolt_open(&c, BOLT_NEWEST, 1000) != BOLT_OK) ..;
  *     if (bolt_ask(&c, message, length, &asked) != BOLT_OK) ..;        (once bolt_state tells a version)
  *     while (bolt_unsent(&c, buffer, sizeof buffer, &n) == BOLT_OK && n) {
- *         ssize_t went = send(fd, buffer, n < sizeof buffer ? n : sizeof buffer, 0);
+ *         ssize_t went = send(fd, buffer, n < sizeof buffer ? n : sizeof buffer, MSG_NOSIGNAL);
  *         if (went < 0) ..; else bolt_sent(&c, (size_t)went);          (one that failed has sent nothing)
  *     }
  *     size_t got = (size_t)recv(fd, buffer, sizeof buffer, 0) ..;      (at its end, or if it fails: bolt_lose)
  *     if (bolt_feed(&c, buffer, got, &used) != BOLT_OK) bolt_lose(&c);
  *     bolt_outcome(&c, asked.ordinal, &outcome);                       (BOLT_WAITS, BOLT_COMMITTED, ..)
  *     for (uint64_t i = 0; bolt_row(&c, ordinal, i, row, sizeof row, &n) == BOLT_OK; i++)
- *         for (size_t at = 0; bolt_value_at(row, n, &at, &value) == BOLT_OK;) ..;
+ *         for (size_t at = 0; bolt_value_at(row, n, &at, &value) == BOLT_OK;) ..;     (row has BOLT_MESSAGE bytes)
  *     bolt_drop_rows(&c, ordinal);                                     (if used < got, feed the rest now)
  *     bolt_close(&c);
  *
