@@ -32,11 +32,12 @@ impl Query {
 pub struct Answer {
     pub fields: Vec<String>,
     pub rows: Vec<Vec<Value>>,
-    /// That of the entry that was committed, if one was.
+    /// That of the entry that the query committed, if it did: in a transaction COMMIT has it.
     pub bookmark: Option<String>,
 }
 
-/// A session of a server over a stream. A stream's own times bound its reads and writes.
+/// A session of a server over a stream. A stream's own times bound its reads and writes: one without them may wait without an end, also where what is asked at
+/// once and what answers it are both more than the sockets hold.
 ///
 /// Requests are asked, and go out as one pipeline when they are settled. [`requests`](Connection::requests) are those asked since all was settled, each
 /// with what became of it, after each call, also one that failed. Where a call of the stream panics, so does the connection's, and it has ended.
