@@ -9,6 +9,7 @@ import sys
 
 import breaks
 import drives
+import odd_servers
 
 HERE = pathlib.Path(__file__).resolve().parent.parent
 
@@ -29,6 +30,18 @@ def starves(program, port, folder, most):
     others = [refused(program, port, number, folder)[0] for number in range(1, count + 1)]
     others += [refused(watched, port, number, folder)[0] for number in range(0, count + 1, count // most + 1)]
     return status == 0 and count > 0 and set(others) <= {0, 3} and 3 in others, count
+
+
+def says_why(program, most):
+    """Whether an example says what its server refused, or that memory ran out, with all allocations of the library refused behind a number, each number in turn,
+    at a server that refuses the login and says something behind it."""
+    said, code = set(), odd_servers.REFUSED
+    with odd_servers.Server([(odd_servers.V51, odd_servers.told(odd_servers.failure(code), odd_servers.IGNORED))]) as server:
+        for after in range(most):
+            words = [*program, "127.0.0.1", str(server.port), "why"]
+            done = subprocess.run(words, env={**os.environ, "ODDS": "1", "AFTER": str(after)}, stdout=subprocess.PIPE, text=True, timeout=60)
+            said.add(done.stdout.partition("\n")[0])
+    return said == {"not sent (5)", "out of memory", f"{code}: no"}
 
 
 def python(port, folder, most=40):

@@ -213,7 +213,7 @@ impl<S: Read + Write> Connection<S> {
         let fed = self.client.feed(piece);
         let taken = self.take();
         let state = self.client.state();
-        match fed.and(taken) {
+        match taken.and(fed) {
             Ok(()) | Err(CLOSED) if state.version == 0 && state.has_ended == 1 => Err(self.lose("the server took no version", None)),
             Ok(()) | Err(CLOSED) => Ok(()),
             Err(MEMORY) => Err(self.lose("out of memory", None)),
