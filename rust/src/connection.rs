@@ -121,10 +121,6 @@ impl<S: Read + Write> Connection<S> {
 
     /// Submits a request; it goes out when it is settled. Answers its place among the requests.
     fn ask(&mut self, text: &str, tag: u8, fields: Vec<Value>) -> Result<usize, Error> {
-        if self.cut.is_some() {
-            // (it would wait for its answer without an end)
-            self.end("the stream failed");
-        }
         let state = self.client.state();
         if self.is_settled && state.has_ended == 0 {
             self.client.settle();
@@ -133,6 +129,10 @@ impl<S: Read + Write> Connection<S> {
             self.told = 0;
             self.is_settled = false;
             self.went_out = false;
+        }
+        if let (0, Some(error)) = (state.has_ended, self.cut.take()) {
+            // (it would wait for its answer without an end)
+            return Err(self.lose("the stream failed", Some(error)));
         }
         self.client.ask(&message(tag, fields)).map_err(|(code, told)| {
             let rule: String = if told.rule == 0 { String::new() } else { [(told.rule >> 8) as u8 as char, told.rule as u8 as char].iter().collect() };

@@ -250,7 +250,6 @@ impl Write for Unflushed {
 fn nothing_is_asked_of_a_stream_that_takes_no_more() {
     let refused = failure("Neo.ClientError.Statement.SyntaxError");
     let ignored = [0xB0, 0x7E];
-    // (behind the refusal an answer to a RESET would come)
     let rows: [&[&[u8]]; 2] = [&[SUCCESS; 4], &[&refused, &ignored, &ignored, &ignored]];
     for messages in rows {
         let mut connection = Connection::open(Unflushed { answers: answering(messages).unwrap(), fails: Cell::new(false) }, &login()).unwrap();
@@ -259,7 +258,16 @@ fn nothing_is_asked_of_a_stream_that_takes_no_more() {
         assert_eq!(told.is_ok(), messages[0] == SUCCESS, "{told:?}");
         assert!(!matches!(told, Err(Error::Broken { .. })), "{told:?}");
         let again = connection.run(&put("b"));
-        assert!(matches!(again, Err(Error::NotSent { code: 4, .. })), "{again:?}");
+        // (to be reset it was asked already)
+        assert!(
+            match &again {
+                Err(Error::Broken { why: "the stream failed", error: Some(_), requests }) => told.is_ok() && requests.is_empty(),
+                Err(Error::NotSent { code: 4, .. }) => told.is_err(),
+                _ => false,
+            },
+            "{again:?}"
+        );
+        assert!(matches!(connection.run(&put("c")), Err(Error::NotSent { code: 4, .. })));
     }
 }
 
