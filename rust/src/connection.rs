@@ -275,8 +275,12 @@ impl<S: Read + Write> Connection<S> {
         Ok(())
     }
 
-    /// Sends what was asked, and hears all answers. The first FAILURE is an error, after a RESET where the session still ignores what it is asked.
+    /// Sends what was asked, and hears all answers. The first FAILURE is an error, after a RESET where the session still ignores what it is asked. Answers the
+    /// requests asked since all was settled, none where there are none.
     pub fn settle(&mut self) -> Result<&[Request], Error> {
+        if self.is_settled && self.why.is_none() {
+            return Ok(&[]);
+        }
         self.await_all()?;
         let state = self.client.state();
         if state.has_ended == 1 {

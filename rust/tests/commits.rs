@@ -124,6 +124,8 @@ fn what_is_refused_is_told() {
     let mut connection = open();
     let refused = connection.run(&Query::new("NOPE", []));
     assert!(matches!(refused, Err(Error::Refused { ref code, .. }) if code == "Neo.ClientError.Statement.UnknownText"));
+    // (it isn't told again of what is asked behind it)
+    assert_eq!(connection.settle().unwrap(), []);
     let unsent = connection.run(&Query::new("ECHO", [("x", Value::Structure(0x44, vec!["no".into()]))]));
     assert!(matches!(unsent, Err(Error::NotSent { ref rule, place: 0, .. }) if rule == "S3"));
     let answer = connection.run(&Query::new("ROWS", [("n", 3.into())])).unwrap();
