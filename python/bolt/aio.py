@@ -14,8 +14,8 @@ import ssl
 from typing import Any, AsyncIterator, Awaitable, Callable, Iterator, Optional, Union
 
 from .core import Answer, Core, Steps
-from .errors import CLOSED_HERE, INTERRUPTED, TIMED_OUT, UNREACHED, BoltError, Broken, NotSent, Request
-from .library import MESSAGE, NOT_ALLOWED
+from .errors import CLOSED_HERE, TIMED_OUT, UNREACHED, BoltError, Broken, NotSent, Request
+from .library import MESSAGE
 from .queries import Pipeline, Queries, Transacting
 from .results import Pulled, Record, Summary, only
 from .retry import Known, Tries, pause
@@ -27,12 +27,12 @@ class AsyncSession(Core):
 
     _reader: Optional[asyncio.StreamReader] = None
     _writer: Optional[asyncio.StreamWriter] = None
-    _is_late = _is_busy = False
+    _is_late = False
 
     async def _open_at(self, host: str, port: int, tls: Optional[ssl.SSLContext], agent: str, auth: tuple[str, str, str]) -> None:
         try:
             await self._connect(host, port, tls)
-            await self._do(self._opening(agent, dict(zip(("scheme", "principal", "credentials"), auth))))
+            await self._do(self._opening(agent, dict(zip(("scheme", "principal", "credentials"), auth))), self._until)
         except BaseException:
             self._free()
             raise
@@ -57,7 +57,8 @@ class AsyncSession(Core):
     def _shut(self) -> None:
         # (the loop may be closed already)
         with contextlib.suppress(RuntimeError):
-            if self._writer:
+            # (a process that was forked shares what the loop waits with)
+            if self._writer and self._is_ours():
                 self._writer.transport.abort()
 
     def _give_up(self) -> None:
@@ -119,27 +120,23 @@ class AsyncSession(Core):
                     # (another task closed it)
                     self._lose(CLOSED_HERE)
 
-    async def _do(self, steps: Steps[Answer]) -> Answer:
-        """Does a call step by step; where that is broken off, as by a cancellation, the client ends. Where that is broken off too, nobody has it any more."""
-        if self._is_busy:
-            raise NotSent(NOT_ALLOWED, hint="another task has the connection")
+    async def _do(self, steps: Steps[Answer], until: Optional[float]) -> Answer:
+        """Does a call step by step, which has to be done by then; where that is broken off, as by a cancellation, the client ends. Where that is broken
+        off too, nobody has it any more."""
+        mine = object()
         try:
-            self._is_busy = True
+            self._begin(mine)
+            self._until = until
             answer = await self._steps(steps)
-            self._is_busy = False
+            self._amid.clear()
             return answer
-        except BoltError:
-            self._is_busy = False
-            raise
-        except BaseException:
-            self._end(INTERRUPTED)
-            self._is_busy = False
+        except BaseException as why:
+            self._broken_off(mine, why)
             raise
 
     async def _call(self, steps: Steps[Answer]) -> Answer:
         """Does a call in its time."""
-        self._bound()
-        return await self._do(steps)
+        return await self._do(steps, self._by())
 
     async def settle(self) -> list[Request]:
         """Sends what was asked and hears all answers, and answers the requests asked since all was settled. The first FAILURE is raised, after a
@@ -149,7 +146,7 @@ class AsyncSession(Core):
     async def close(self) -> None:
         """Says goodbye where nothing waits, and frees the client. What was asked and isn't settled isn't sent any more. A second close does nothing."""
         try:
-            self._bound()
+            self._until = self._by()
             if self._writer and self._says_goodbye():
                 with self._in_time():
                     await self._send()

@@ -3,6 +3,7 @@ keeps the protocol and the account; `session` and `aio` have the sockets."""
 from __future__ import annotations
 
 import functools
+import os
 import time
 import warnings
 from typing import Any, Callable, Generator, NoReturn, Optional, TypeVar
@@ -33,22 +34,18 @@ def fault_of(code: int, asked: Asked) -> NotSent:
 
 
 def ends(call: Callable[..., Answer]) -> Callable[..., Answer]:
-    """A call that ends the client where it is broken off, as by an interrupt: bytes are gone then, and no answer may be taken for another's. Where that is broken
-    off too, no call goes on, so that nothing is sent twice."""
+    """A call that has the client alone, and ends it where it is broken off, as by an interrupt: bytes are gone then, and no answer may be taken for another's.
+    Where that is broken off too, no call goes on, so that nothing is sent twice."""
     @functools.wraps(call)
     def whole(self: Core, *words: Any) -> Answer:
-        outer = self._is_amid
+        mine = object()
         try:
-            self._is_amid = True
+            self._begin(mine)
             answer = call(self, *words)
-            self._is_amid = outer
+            self._amid.clear()
             return answer
-        except BoltError:
-            self._is_amid = outer
-            raise
-        except BaseException:
-            self._end(INTERRUPTED)
-            self._is_amid = outer
+        except BaseException as why:
+            self._broken_off(mine, why)
             raise
     return whole
 
@@ -60,23 +57,24 @@ class Core:
     `requests` are those asked since all was settled, in order; they stay until the next is asked."""
 
     _client: Optional[Client] = None
-    _is_amid = False  # whether a call has begun that hasn't ended
 
     def __init__(self, versions: int, timeout: Optional[float]) -> None:
         if type(versions) is not int or versions not in VERSIONS:
             raise ValueError("versions is NEWEST, V4_4, V5_0 or V5_1")
         self.version, self.timeout = V5_1, timeout
+        self._amid: dict[str, object] = {}  # the call that has begun and hasn't ended, if there is one
+        self._process = os.getpid()
         self.requests: list[Request] = []
         self._told = 0  # how many of them have what their summary holds
         self._settled = True  # whether all of them are, and were told
         self._cut: Optional[OSError] = None  # why nothing more is sent
         self._why: Optional[str] = None  # why the client has ended
         self._client = Client(versions, self)
-        self._bound()
+        self._until = self._by()
 
-    def _bound(self) -> None:
-        """A call begins: by when it has to be done."""
-        self._until = None if self.timeout is None else time.monotonic() + self.timeout
+    def _by(self) -> Optional[float]:
+        """By when a call has to be done that begins now."""
+        return None if self.timeout is None else time.monotonic() + self.timeout
 
     def _left(self) -> Optional[float]:
         """The seconds that are left for the call, None where it has no end."""
@@ -84,8 +82,11 @@ class Core:
 
     def __del__(self) -> None:
         if self._client and self._client.handle.at:
-            warnings.warn("a connection was dropped that wasn't closed", ResourceWarning, source=self)
-            self._free()
+            try:
+                warnings.warn("a connection was dropped that wasn't closed", ResourceWarning, source=self)
+            finally:
+                # (also where warnings are raised)
+                self._free()
 
     @property
     def _open(self) -> Client:
@@ -100,12 +101,35 @@ class Core:
         """Closes the socket, where there is one."""
         raise NotImplementedError
 
+    def _is_ours(self) -> bool:
+        """Whether this process made the connection. One that was forked meanwhile sends nothing, and ends nothing of its parent's."""
+        return self._process == os.getpid()
+
+    def _begin(self, mine: object) -> None:
+        """A call begins, unless one has that hasn't ended: that of another thread or task, or one that was broken off."""
+        # (in one step of the interpreter's, so that one of two threads has it)
+        if self._amid.setdefault("call", mine) is not mine:
+            raise NotSent(NOT_ALLOWED, hint="another call has the connection, or was broken off")
+        if not self._is_ours():
+            raise NotSent(NOT_ALLOWED, hint="another process has the connection")
+
+    def _broken_off(self, mine: object, why: BaseException) -> None:
+        """A call ends by what was raised."""
+        if self._amid.get("call") is mine:
+            if not isinstance(why, BoltError):
+                self._end(INTERRUPTED)
+            self._amid.clear()
+
     # What is asked.
 
     def ask(self, text: str, tag: int, *fields: Any) -> Request:
         """Asks a request, by its tag and its fields, and answers it: it goes out when it is settled, and not before. `text` is what it is called
         where it is told of."""
-        return self._submit(*self._packed(text, tag, *fields))
+        return self._asking(self._submit, *self._packed(text, tag, *fields))
+
+    @ends
+    def _asking(self, submit: Callable[..., Request], *packed: Any) -> Request:
+        return submit(*packed)
 
     def _packed(self, text: str, tag: int, *fields: Any) -> tuple[str, bytes]:
         return text, pack_structure(tag, fields, self.version)
@@ -116,7 +140,6 @@ class Core:
         check(LIBRARY.bolt_settle(self._open.handle))
         self.requests, self._told, self._open.went, self._settled = [], 0, False, False
 
-    @ends
     def _submit(self, text: str, message: bytes) -> Request:
         state, asked, client = self._state(), Asked(), self._open
         if self._settled and not state.has_ended:
@@ -133,7 +156,6 @@ class Core:
         """A BEGIN: of a transaction to write unless `write` is False, under the token if there is one."""
         return self.ask("BEGIN", 0x11, extra(write, token))
 
-    @ends
     def _submit_both(self, text: str, run: bytes, pull: bytes) -> Request:
         if self._state().pending > PIPELINE - 2:
             raise NotSent(FULL)
@@ -146,7 +168,7 @@ class Core:
 
     def ask_run(self, text: str, parameters: Optional[dict[str, Any]] = None, write: bool = True, token: Optional[str] = None, count: int = -1) -> Request:
         """A RUN and a PULL of so many of its rows, of all with -1, both or neither: the latter, which has the rows and the outcome."""
-        return self._submit_both(*self._run(text, parameters, write, token, count))
+        return self._asking(self._submit_both, *self._run(text, parameters, write, token, count))
 
     def _run(self, text: str, parameters: Optional[dict[str, Any]], write: bool, token: Optional[str], count: int = -1) -> tuple[str, bytes, bytes]:
         run = pack_structure(0x10, (text, {} if parameters is None else parameters, extra(write, token)), self.version)
@@ -154,7 +176,10 @@ class Core:
 
     def ask_pull(self, text: str, count: int = -1) -> Request:
         """A PULL of so many more rows of the result that is open, of all with -1."""
-        return self.ask(f"PULL of {text}", 0x3F, {"n": count})
+        return self._asking(self._submit, *self._pull(text, count))
+
+    def _pull(self, text: str, count: int) -> tuple[str, bytes]:
+        return self._packed(f"PULL of {text}", 0x3F, {"n": count})
 
     def ask_commit(self) -> Request:
         return self.ask("COMMIT", 0x12)
@@ -197,7 +222,8 @@ class Core:
         """Nothing is heard any more: the account has what became of each request. This may be broken off and done again."""
         if self._client and self._client.handle.at:
             self._why = self._why or why
-            check(LIBRARY.bolt_lose(self._client.handle))
+            # (of one that another thread closes meanwhile nothing is left to lose)
+            LIBRARY.bolt_lose(self._client.handle)
         self._shut()
 
     def _lose(self, why: str) -> NoReturn:
@@ -215,7 +241,7 @@ class Core:
     def _says_goodbye(self) -> bool:
         """Whether a GOODBYE is asked, which is where nothing waits."""
         state, (_, message) = self._state(), self._packed("GOODBYE", 0x02)
-        if state.has_ended or state.pending:
+        if state.has_ended or state.pending or not self._is_ours():
             return False
         check(LIBRARY.bolt_ask(self._open.handle, message, len(message), Asked()))
         return True
@@ -233,9 +259,9 @@ class Core:
         while not self._state().version:
             yield
         self.version = self._state().version
-        self.ask("HELLO", 0x01, {"user_agent": agent, **({} if self.version >= V5_1 else login)})
+        self._submit(*self._packed("HELLO", 0x01, {"user_agent": agent, **({} if self.version >= V5_1 else login)}))
         if self.version >= V5_1:
-            self.ask("LOGON", 0x6A, login)
+            self._submit(*self._packed("LOGON", 0x6A, login))
         yield from self._settling()
 
     def _awaiting(self) -> Steps[Standing]:
@@ -269,16 +295,11 @@ class Core:
     def _going_on(self) -> Steps[None]:
         """Resets the session; where that can't be, the connection is gone."""
         try:
-            self.ask_reset()
+            self._submit(*self._packed("RESET", 0x0F))
         except NotSent:
             # (memory ran out)
             self._lose(NO_MEMORY)
         yield from self._awaiting()
-
-    def _first(self) -> None:
-        """Refused where a call has begun that hasn't ended: that of another thread, or one that was broken off."""
-        if self._is_amid:
-            raise NotSent(NOT_ALLOWED, hint="a call before hasn't ended")
 
     def _alone(self) -> None:
         """Refused where something was asked before and isn't settled, which would go out too."""

@@ -42,7 +42,8 @@ class Request:
     @property
     def outcome(self) -> Optional[str]:
         """One of OUTCOMES, None as long as it isn't known."""
-        if self._account is not None and (told := self._account.outcome(self.ordinal)):
+        account = self._account
+        if account is not None and (told := account.outcome(self.ordinal)):
             # (the last word, for which the client isn't needed any more)
             self._outcome, self._account = told, None
         return self._outcome

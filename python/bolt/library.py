@@ -53,6 +53,8 @@ class Client:
     """A client of the library. The account of its requests is in it, which no interrupt of Python's can break off; a request asks it until its outcome
     is known. The session that owns it feeds it: once that is gone, nothing is heard any more."""
 
+    handle = Handle()  # (null, where none was opened)
+
     def __init__(self, versions: int, owner: object) -> None:
         self.handle, self._owner = Handle(), weakref.ref(owner)
         self.went = False  # whether bytes of the requests of the account may have gone out
@@ -84,13 +86,13 @@ class Client:
         return int(LIBRARY.bolt_feed(self.handle, piece, len(piece), self._length))
 
     def outcome(self, ordinal: int) -> Optional[str]:
-        """What became of a request, None as long as it waits."""
-        told = ctypes.c_uint32()
+        """What became of a request, None as long as it waits, and of a client that was closed meanwhile: whoever closed it has asked before."""
+        told, state = ctypes.c_uint32(), Standing()
         if self._owner() is None:
-            check(LIBRARY.bolt_lose(self.handle))
-        check(LIBRARY.bolt_outcome(self.handle, ordinal, told))
+            LIBRARY.bolt_lose(self.handle)
+        if LIBRARY.bolt_outcome(self.handle, ordinal, told) or told.value == WAITS and LIBRARY.bolt_state(self.handle, state):
+            return None
         if told.value == WAITS:
-            state = self.state()
             # (behind the end none waits: the library never took it)
             return LOST if state.has_ended and not state.pending else None
         # (nothing was committed by what no byte of has gone out)

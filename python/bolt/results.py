@@ -84,7 +84,7 @@ class Pulled:
 
     def _more(self, count: int) -> Steps[None]:
         """Pulls so many more, all with -1."""
-        self._last = self._session.ask_pull(self._text, count)
+        self._last = self._session._submit(*self._session._pull(self._text, count))
         yield from self._session._settling()
         self._rows += self._last.rows
 

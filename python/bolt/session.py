@@ -41,7 +41,7 @@ class Session(Core):
         super().__init__(versions, timeout)
         try:
             self._connect(host, port)
-            self._do(self._opening(agent, dict(zip(("scheme", "principal", "credentials"), auth))))
+            self._do(self._opening(agent, dict(zip(("scheme", "principal", "credentials"), auth))), self._until)
         except BaseException:
             self.close()
             raise
@@ -77,15 +77,17 @@ class Session(Core):
 
     def _shut(self) -> None:
         try:
+            # (a call of another thread that waits hears the end by this)
+            if self._socket and self._amid and self._is_ours():
+                self._socket.shutdown(socket.SHUT_RDWR)
+        except OSError as why:
+            own(why)
+        try:
             if self._socket:
                 self._socket.close()
         except OSError as why:
             # (whatever it says, it is closed)
             own(why)
-
-    def _bound(self) -> None:
-        super()._bound()
-        self._is_late = False
 
     def _send(self) -> None:
         """Sends what waits. Where the server takes no more, what it has said may still be heard."""
@@ -118,8 +120,9 @@ class Session(Core):
             return b""
 
     @ends
-    def _do(self, steps: Steps[Answer]) -> Answer:
-        """Does a call step by step."""
+    def _do(self, steps: Steps[Answer], until: Optional[float]) -> Answer:
+        """Does a call step by step, which has to be done by then."""
+        self._until, self._is_late = until, False
         while True:
             try:
                 next(steps)
@@ -135,9 +138,7 @@ class Session(Core):
 
     def _call(self, steps: Steps[Answer]) -> Answer:
         """Does a call in its time."""
-        self._first()
-        self._bound()
-        return self._do(steps)
+        return self._do(steps, self._by())
 
     def settle(self) -> list[Request]:
         """Sends what was asked and hears all answers, and answers the requests asked since all was settled. The first FAILURE is raised, after a
@@ -166,7 +167,7 @@ class Session(Core):
     def close(self) -> None:
         """Says goodbye where nothing waits, and frees the client. What was asked and isn't settled isn't sent any more. A second close does nothing."""
         try:
-            self._bound()
+            self._until = self._by()
             if self._socket and self._says_goodbye():
                 self._send()
         except (NotSent, Broken):
