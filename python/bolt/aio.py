@@ -236,11 +236,11 @@ class AsyncConnection(Queries[AsyncSession, AsyncResult]):
 
     async def run(self, text: str, /, **parameters: Any) -> AsyncResult:
         """Runs a query of its own, which is committed with its last record."""
-        return await self.session._call(self._running(*self._packed(text, parameters)))
+        return await self.session._call(self._own(text, parameters))
 
     async def read(self, text: str, /, **parameters: Any) -> AsyncResult:
         """Runs a query that may not write."""
-        return await self.session._call(self._running(*self._packed(text, parameters, False)))
+        return await self.session._call(self._own(text, parameters, False))
 
     @contextlib.asynccontextmanager
     async def transaction(self, write: bool = True, token: Optional[str] = None) -> AsyncIterator[AsyncTransaction]:
@@ -283,9 +283,9 @@ class AsyncConnection(Queries[AsyncSession, AsyncResult]):
 
     async def reset(self) -> None:
         """Ends whatever is open: a result, and a transaction, which is dropped."""
-        self._open_result = None
         session = self.session
         await session._call(session._at_once(session._submit, *session._packed("RESET", 0x0F)))
+        self._open_result = None
 
 
 async def connect(host: str, port: int = 7687, *, auth: Optional[tuple[str, str]] = None, tls: Union[None, bool, ssl.SSLContext] = None,

@@ -94,11 +94,11 @@ class Connection(Queries[Session, Result]):
 
     def run(self, text: str, /, **parameters: Any) -> Result:
         """Runs a query of its own, which is committed with its last record."""
-        return self.session._call(self._running(*self._packed(text, parameters)))
+        return self.session._call(self._own(text, parameters))
 
     def read(self, text: str, /, **parameters: Any) -> Result:
         """Runs a query that may not write."""
-        return self.session._call(self._running(*self._packed(text, parameters, False)))
+        return self.session._call(self._own(text, parameters, False))
 
     @contextlib.contextmanager
     def transaction(self, write: bool = True, token: Optional[str] = None) -> Iterator[Transaction]:
@@ -141,8 +141,8 @@ class Connection(Queries[Session, Result]):
 
     def reset(self) -> None:
         """Ends whatever is open: a result, and a transaction, which is dropped."""
-        self._open_result = None
         self.session.reset()
+        self._open_result = None
 
 
 def connect(host: str, port: int = 7687, *, auth: Optional[tuple[str, str]] = None, tls: Union[None, bool, ssl.SSLContext] = None,

@@ -1,15 +1,22 @@
 """What a connection does for who runs queries, step by step: the blocking one of `connection`, and that of `aio`."""
 from __future__ import annotations
 
-from typing import Any, Generic, Iterator, Optional, Type, TypeVar
+from typing import Any, Callable, Generic, Iterator, Optional, Type, TypeVar
 
 from .core import PHASES, Core, Steps, extra
-from .errors import Request
+from .errors import NotSent, Request
+from .library import NOT_ALLOWED
 from .results import Pulled, Record
 from .times import stored
 
 Found = TypeVar("Found", bound=Pulled)
 Kind = TypeVar("Kind", bound=Core)
+
+
+def is_in_transaction(session: Core) -> bool:
+    """Whether a transaction is open, as far as answers tell. Of a session that has ended none is."""
+    state = session._state()
+    return not state.has_ended and PHASES[state.phase].startswith("TX")
 
 
 class Deferred(Generic[Found]):
@@ -59,11 +66,21 @@ class Queries(Generic[Kind, Found]):
 
     def _settling_open(self) -> Steps[None]:
         """Pulls what is left of the result that is open: only then may something else be asked."""
-        found, self._open_result = self._open_result, None
-        if found:
-            yield from found._finish()
+        if self._open_result and self._open_result._is_open():
+            yield from self._open_result._finish()
+        self._open_result = None
 
-    def _running(self, text: str, run: bytes, pull: bytes) -> Steps[Found]:
+    def _own(self, text: str, parameters: dict[str, Any], write: bool = True) -> Steps[Found]:
+        """A query of its own."""
+        return self._running(self._free, *self._packed(text, parameters, write))
+
+    def _free(self) -> None:
+        """Refused where a transaction is open, which would keep a query of its own from being committed."""
+        if is_in_transaction(self.session):
+            raise NotSent(NOT_ALLOWED, hint="a transaction is open")
+
+    def _running(self, allow: Callable[[], None], text: str, run: bytes, pull: bytes) -> Steps[Found]:
+        allow()
         self.session._alone()
         yield from self._settling_open()
         last = self.session._submit_both(text, run, pull)
@@ -96,6 +113,7 @@ class Pipeline(Generic[Found]):
 
     def begin(self, write: bool = True, token: Optional[str] = None) -> None:
         self._connection.session.ask_begin(write, token)
+        self._connection._begun += 1
 
     def run(self, text: str, /, **parameters: Any) -> Deferred[Found]:
         """Asks a query and all its records."""
@@ -130,19 +148,37 @@ class Transacting:
 
     def _is_current(self) -> bool:
         """Whether what is asked is part of it, or is refused since the connection has ended. A FAILURE ends it, and so does a RESET."""
-        state = self._connection.session._state()
-        return self.number == self._connection._begun and bool(state.has_ended or PHASES[state.phase].startswith("TX"))
+        session = self._connection.session
+        return self.number == self._connection._begun and (is_in_transaction(session) or bool(session._state().has_ended))
 
     def _running(self, text: str, parameters: dict[str, Any]) -> Steps[Any]:
         if not self.is_open or not self._is_current():
             raise ValueError("the transaction has ended")
-        return self._connection._running(*self._connection._packed(text, parameters))
+        return self._connection._running(self._goes_on, *self._connection._packed(text, parameters))
+
+    def _goes_on(self) -> None:
+        """Refused where it has ended meanwhile, as by a signal handler: what is run then would be committed by itself."""
+        if not self._is_current():
+            raise NotSent(NOT_ALLOWED, hint="the transaction has ended")
 
     def _committing(self) -> Steps[None]:
-        self.is_open = False
-        asked = yield from self._connection._asking(*self._connection.session._packed("COMMIT", 0x12))
-        self.outcome, self.bookmark = asked.outcome, asked.metadata.get("bookmark")
+        return self._ending("COMMIT", 0x12)
 
     def _rolling_back(self) -> Steps[None]:
+        return self._ending("ROLLBACK", 0x13)
+
+    def _ending(self, text: str, tag: int) -> Steps[None]:
+        return self._ends(*self._connection.session._packed(text, tag))
+
+    def _ends(self, text: str, message: bytes) -> Steps[None]:
+        """Ends it, once: what ends one that has ended would end another that began since."""
+        if not self.is_open or self.number != self._connection._begun:
+            raise NotSent(NOT_ALLOWED, hint="the transaction has ended")
         self.is_open = False
-        self.outcome = (yield from self._connection._asking(*self._connection.session._packed("ROLLBACK", 0x13))).outcome
+        try:
+            asked = yield from self._connection._asking(text, message)
+        except NotSent:
+            # (nothing has changed, and it may be open)
+            self.is_open = True
+            raise
+        self.outcome, self.bookmark = asked.outcome, asked.metadata.get("bookmark")

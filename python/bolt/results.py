@@ -5,7 +5,8 @@ import dataclasses
 from typing import Any, Iterator, Mapping, Optional, Sequence, Union
 
 from .core import Core, Steps
-from .errors import LOST, Request
+from .errors import COMMITTED, DONE, GONE, LOST, REFUSED, Broken, NotSent, Refused, Request
+from .library import NOT_ALLOWED
 from .times import heard
 
 
@@ -82,8 +83,14 @@ class Pulled:
     def _has_more(self) -> bool:
         return bool(self._last.metadata.get("has_more"))
 
+    def _is_open(self) -> bool:
+        """Whether nothing else was asked since: what is pulled then is its own."""
+        return any(it is self._last for it in self._session.requests[-1:])
+
     def _more(self, count: int) -> Steps[None]:
         """Pulls so many more, all with -1."""
+        if not self._is_open():
+            raise NotSent(NOT_ALLOWED, hint="the result isn't open any more")
         self._last = self._session._submit(*self._session._pull(self._text, count))
         yield from self._session._settling()
         self._rows += self._last.rows
@@ -94,7 +101,11 @@ class Pulled:
             yield from self._more(-1)
 
     def _refill(self) -> Steps[None]:
-        """Pulls more once all that is held was read, which isn't kept twice."""
+        """Pulls more once all that is held was read, which isn't kept twice. What ended it too early is raised each time."""
+        if self._last.outcome == REFUSED:
+            raise Refused(self._last.metadata.get("code", ""), self._last.metadata.get("message", ""), [self._last])
+        if self._last.outcome not in (DONE, COMMITTED):
+            raise Broken([self._last], self._session._why or GONE)
         while self._is_read and self._has_more:
             self._rows, self._read = [], 0
             yield from self._more(self._fetch)
