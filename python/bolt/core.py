@@ -141,7 +141,7 @@ class Core:
         self.requests, self._told, self._open.went, self._settled = [], 0, False, False
 
     def _submit(self, text: str, message: bytes) -> Request:
-        state, asked, client = self._state(), Asked(), self._open
+        state, asked, client, before = self._state(), Asked(), self._open, self.requests
         if self._settled and not state.has_ended:
             self._forget()
         # (noted before the library has it: an exception may come between any two steps)
@@ -149,6 +149,8 @@ class Core:
         code = LIBRARY.bolt_ask(client.handle, message, len(message), asked)
         if code:
             self.requests.pop()
+            if self.requests is not before:
+                self.requests, self._told, self._settled = before, len(before), True
             raise fault_of(code, asked) if code != CLOSED else NotSent(code, hint=self._why or "")
         return request
 
@@ -171,6 +173,8 @@ class Core:
         return self._asking(self._submit_both, *self._run(text, parameters, write, token, count))
 
     def _run(self, text: str, parameters: Optional[dict[str, Any]], write: bool, token: Optional[str], count: int = -1) -> tuple[str, bytes, bytes]:
+        if type(count) is not int or count < 1 and count != -1:
+            raise ValueError("so many rows are pulled as are at least 1, or all by -1")
         run = pack_structure(0x10, (text, {} if parameters is None else parameters, extra(write, token)), self.version)
         return text, run, pack_structure(0x3F, ({"n": count},), self.version)
 
