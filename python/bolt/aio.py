@@ -304,21 +304,25 @@ async def until_known(connect: Callable[[], Awaitable[AsyncConnection]], work: C
                       tries: int = 10, within: Optional[float] = None, pause: Callable[[int], float] = pause) -> Known:
     """Does the work in a transaction under the token until it is known whether it stands, as `bolt.until_known` does. A cancellation ends all; under
     its `token` the transaction may be sent again later."""
-    with Tries(token, tries, within, pause) as sent:
+    sent = Tries(token, tries, within, pause)
+    try:
         while (seconds := sent.pause()) is not None:
             await asyncio.sleep(seconds)
             if sent.is_late:
                 break
-            value: Any = None
+            found, value = None, None  # type: Optional[AsyncTransaction], Any
             try:
                 async with await connect() as connection:
                     async with connection.transaction(token=sent.token) as found:
                         value = await work(found)
                     return sent.ended(found, value)
             except BoltError as why:
-                if known := sent.failed(why, value):
+                if known := sent.failed(why, found, value):
                     return known
         return sent.over()
+    except BaseException as why:
+        sent.ends_by(why)
+        raise
 
 
 __all__ = ["AsyncConnection", "AsyncResult", "AsyncSession", "AsyncTransaction", "connect", "until_known"]

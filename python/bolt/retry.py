@@ -49,13 +49,9 @@ class Tries:
         self._tries, self._pause, self._within, self._begun = tries, pause, within, time.monotonic()
         self._tried, self._is_doubtful, self._error = 0, False, None  # type: int, bool, Optional[Exception]
 
-    def __enter__(self) -> Tries:
-        return self
-
-    def __exit__(self, kind: Any, why: Optional[BaseException], trace: Any) -> None:
+    def ends_by(self, why: BaseException) -> None:
         """Whatever ends the tries, an interrupt too, has the token with it, so that the transaction can be sent again."""
-        if why is not None:
-            setattr(why, "token", self.token)
+        setattr(why, "token", self.token)
 
     def pause(self) -> Optional[float]:
         """The seconds to wait before the next try, None where none is left."""
@@ -68,10 +64,13 @@ class Tries:
     def is_late(self) -> bool:
         return self._within is not None and self._tried > 1 and time.monotonic() - self._begun > self._within
 
-    def failed(self, why: BoltError, value: Any) -> Optional[Known]:
-        """What is known behind a try that failed so, if that is the end of them; what the work answered in it, None where it didn't."""
+    def failed(self, why: BoltError, found: Optional[Transacting], value: Any) -> Optional[Known]:
+        """What is known behind a try that failed so, if that is the end of them; its transaction, and what the work answered in it, None where it didn't."""
         LOG.debug("%s, try %s: %s", self.token, self._tried, why)
         self._error = why
+        if found and found.outcome == COMMITTED:
+            # (the work committed by itself, and failed behind that)
+            return Known(STANDS, self.token, value, found.bookmark, why)
         if isinstance(why, Told):
             if why.outcome == COMMITTED:
                 # (what came behind it was lost)
@@ -107,18 +106,22 @@ def until_known(connect: Callable[[], Connection], work: Callable[[Transaction],
 
     The work has to ask the same each time. An exception of its own ends all, as does `NotSent` before anything is in doubt; under its `token` the
     transaction may be sent again later."""
-    with Tries(token, tries, within, pause) as sent:
+    sent = Tries(token, tries, within, pause)
+    try:
         while (seconds := sent.pause()) is not None:
             time.sleep(seconds)
             if sent.is_late:
                 break
-            value: Any = None
+            found, value = None, None  # type: Optional[Transaction], Any
             try:
                 with connect() as connection:
                     with connection.transaction(token=sent.token) as found:
                         value = work(found)
                     return sent.ended(found, value)
             except BoltError as why:
-                if known := sent.failed(why, value):
+                if known := sent.failed(why, found, value):
                     return known
         return sent.over()
+    except BaseException as why:
+        sent.ends_by(why)
+        raise
