@@ -76,8 +76,8 @@ class AsyncSession(Core):
             if timer:
                 timer.cancel()
 
-    async def _send(self) -> None:
-        """Sends what waits. Where the server takes no more, what it has said may still be heard."""
+    def _send(self) -> None:
+        """Hands on what waits, which goes out while answers are heard: what comes while nobody waits for it is forgotten where the connection is reset."""
         while not self._cut and (piece := self._open.unsent()):
             try:
                 if self._is_late or self._left() == 0:
@@ -86,7 +86,6 @@ class AsyncSession(Core):
                 self._open.went = True
                 self._writer.write(piece)
                 self._open.sent(len(piece))
-                await self._writer.drain()
             except OSError as why:
                 self._cut = self._failed(why)
 
@@ -114,7 +113,7 @@ class AsyncSession(Core):
                     answer: Answer = done.value
                     return answer
                 try:
-                    await self._send()
+                    self._send()
                     self._hear(await self._receive())
                 except NotSent:
                     # (another task closed it)
@@ -149,7 +148,7 @@ class AsyncSession(Core):
             self._until = self._by()
             if self._writer and self._says_goodbye():
                 with self._in_time():
-                    await self._send()
+                    self._send()
                     self._writer.close()
                     await self._writer.wait_closed()
         except (NotSent, OSError):
