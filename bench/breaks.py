@@ -1,6 +1,7 @@
 """What the package of python/bolt does where a call of it is broken off or can't be: rows that `bench/languages` tries, each against a server of its own."""
 import contextlib
 import gc
+import inspect
 import os
 import pickle
 import socket
@@ -32,8 +33,9 @@ def raised(call):
 
 
 def is_dropped(why):
-    """Whether Python drops what was raised, as in a finalizer."""
-    return any(it.name == "__del__" for it in traceback.extract_tb(why.__traceback__))
+    """Whether Python drops what was raised, as in a finalizer, and where it closes a generator that nobody has any more."""
+    frames = [frame for frame, _ in traceback.walk_tb(why.__traceback__)]
+    return any(it.f_code.co_name == "__del__" for it in frames) or bool(frames[0].f_code.co_flags & inspect.CO_GENERATOR)
 
 
 def code_of(call):
@@ -220,6 +222,24 @@ def closes_meanwhile(port):
     return not wrong and number > 100, number - 1
 
 
+def tells_outcomes(port):
+    """Whether an outcome can be asked for where the connection is closed at each line of that, and is known then."""
+    number, held = 1, []
+    while True:
+        with bolt.Session("127.0.0.1", port, USER) as connection:
+            asked = connection.ask_begin()
+            closing = Closed(number, connection)
+            sys.settrace(closing)
+            try:
+                held.append(asked.outcome)
+            finally:
+                sys.settrace(None)
+        if not closing.has_come:
+            return number > 5 and held.pop() is None and set(held) <= {None, bolt.LOST}
+        held.append(asked.outcome)
+        number += 1
+
+
 def broken_twice(port, key, number):
     """What became of a COMMIT whose call is broken off at a line by number, and its client's end too, once it was tried again; None where it has fewer lines."""
     interrupt = Interrupted(number, (MemoryError,))
@@ -359,6 +379,123 @@ def fails_to_close(port):
     return told.stdout == f"BEGIN: LOST ({bolt.FAILED})\n"
 
 
+class Waits:
+    """A thread that does a call of a session, and waits before it hears the server, until it may go on."""
+
+    def __init__(self, session, call):
+        self.is_there, self.may_go_on, self.hear, self.call, self.told = threading.Event(), threading.Event(), session._receive, call, []
+        session._receive = self.receive
+        self.thread = threading.Thread(target=self.work, daemon=True)
+        self.thread.start()
+        # (where it waits, or was refused)
+        self.is_there.wait(60)
+
+    def work(self):
+        self.told.append(raised(self.call))
+        self.is_there.set()
+
+    def receive(self):
+        if threading.current_thread() is self.thread:
+            self.is_there.set()
+            self.may_go_on.wait(60)
+        return self.hear()
+
+    def end(self):
+        """What was raised by the call, None where it answered; no item where it doesn't end."""
+        self.may_go_on.set()
+        self.thread.join(20)
+        return self.told
+
+
+def has_one_call(port):
+    """Whether, as long as a thread is in a call, whatever another asks is refused, and doesn't go out with it."""
+    with bolt.Session("127.0.0.1", port, USER) as connection:
+        first = Waits(connection, lambda: connection.run("ONE"))
+        put = lambda call: code_of(lambda: call("PUT", {"key": "second", "value": 1}))
+        codes = [put(connection.ask_run), put(connection.run), code_of(connection.ask_begin), code_of(connection.settle)]
+        held = first.end() == [None] and codes == [bolt.library.NOT_ALLOWED] * 4
+        return held and connection.run("GET", {"key": "second"}, write=False) == []
+
+
+class Meanwhile(Interrupted):
+    """Has another thread run a query in the place of an interrupt, and wait for its answer."""
+
+    def __init__(self, number, session):
+        super().__init__(number)
+        self.session, self.waits = session, None
+
+    def come(self):
+        sys.settrace(None)
+        self.waits = Waits(self.session, lambda: self.session.run("ONE"))
+
+
+def begins_once(port):
+    """Whether of two threads one has a session, where the one begins a call at each line of another's beginning."""
+    number = 1
+    while True:
+        with bolt.Session("127.0.0.1", port, USER, timeout=4) as connection:
+            meanwhile = Meanwhile(number, connection)
+            sys.settrace(meanwhile)
+            try:
+                first = raised(connection.settle)
+            finally:
+                sys.settrace(None)
+            if not meanwhile.waits:
+                return number > 10
+            told = [first, *meanwhile.waits.end()]
+            if sum(isinstance(it, bolt.NotSent) for it in told) > 1 or {type(it) for it in told} - {type(None), bolt.NotSent} or len(told) < 2:
+                print(f"two calls begin at line {number}: {told}")
+                return False
+        number += 1
+
+
+def wakes(_):
+    """Whether a call that waits for a server without a bound hears that another thread closes its connection, and tells its outcome."""
+    with socket.create_server(("127.0.0.1", 0)) as listener:
+        threading.Thread(target=ending, args=(listener, (TOOK, SUCCESS * 2), b"", "waits"), daemon=True).start()
+        with bolt.Session("127.0.0.1", listener.getsockname()[1], USER, timeout=None) as connection:
+            waiting = Waits(connection, lambda: connection.run("ONE"))
+            waiting.may_go_on.set()
+            # (so that it waits in the socket's call, mostly)
+            time.sleep(0.2)
+            connection.close()
+            return [str(it) for it in waiting.end()] == ["RUN ONE: LOST, PULL of ONE: UNKNOWN (closed)"]
+
+
+FORKS = """
+import bolt, os, sys
+
+def forked(call):
+    child = os.fork()
+    if child == 0:
+        try:
+            call()
+        except bolt.NotSent as unsent:
+            print(unsent, flush=True)
+        finally:
+            os._exit(0)
+    os.waitpid(child, 0)
+
+with bolt.connect("127.0.0.1", int(sys.argv[1]), auth=("user", "pass")) as connection:
+    forked(connection.close)
+    with connection.transaction() as tx:
+        tx.run("PUT", key="forked", value=1)
+        forked(tx.commit)
+        forked(tx.rollback)
+        forked(lambda: connection.session.ask_reset())
+    print(tx.outcome)
+"""
+
+
+def forks(port):
+    """Whether the child of a fork neither ends nor goes on with what its parent has open: by a process of its own, which has one thread."""
+    environment = {**os.environ, "PYTHONPATH": os.path.dirname(os.path.dirname(bolt.__file__))}
+    words = [sys.executable, "-B", "-c", FORKS, str(port)]
+    told = subprocess.run(words, env=environment, stdout=subprocess.PIPE, text=True, timeout=60)
+    refused = "the request isn't allowed here: another process has the connection\n"
+    return told.stdout == f"{refused * 3}{bolt.COMMITTED}\n"
+
+
 def interrupt():
     raise Interrupt
 
@@ -380,6 +517,7 @@ MISTAKEN = (
     (44, lambda c: c.ask_run("ECHO", {"x": bolt.ZonedUtc(7, 8, "UTC")}), f"{NONE}: S6 at 0"),
     *((51, lambda c, it=it: c.ask_run(*it), f"{NONE}: M4") for it in ((None,), (5,), ("ONE", [1]), ("ONE", "x"), ("ONE", []))),
     *((51, lambda c, it=it: c.ask_begin(token=it), f"{NONE}: M5") for it in (5, "", "x" * 65)),
+    *((51, lambda c, it=it: c.ask_run("ONE", count=it), "so many rows are pulled as are at least 1, or all by -1") for it in (0, -2, True, 1.0, None)),
     (51, lambda c: c.ask("NONE", 0x7E), f"{NONE}: M3"),
     (51, lambda c: c.ask_begin(write="r"), "write is True or False"),
     (51, lambda c: c.ask_run("ONE", write=0), "write is True or False"),
@@ -395,9 +533,11 @@ def names_mistakes(port):
     for version in (44, 51):
         with bolt.Session("127.0.0.1", port, USER, versions=version) as connection:
             connection.port = port
+            asked = connection.run("ONE") and connection.requests
             for _, call, text in (it for it in MISTAKEN if it[0] == version):
                 why = raised(lambda: call(connection))
                 wrong += [] if str(why) == text and isinstance(why, (bolt.NotSent, TypeError, ValueError)) else [f"{why!r} for {text}"]
+                wrong += [] if connection.requests is asked and connection.settle() == [] else [f"{text}: {connection.requests}"]
             wrong += [] if connection.run("ONE") == [[1]] else ["it doesn't go on"]
     if wrong:
         print("mistakes:", *wrong, sep="\n")

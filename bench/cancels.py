@@ -1,14 +1,18 @@
 """What `bolt.aio` does through cuts, cancellations and interrupts, and for who runs queries: rows that `bench/languages` tries, each against a server of its own."""
 import asyncio
 import contextlib
+import socket
 import ssl
+import struct
 import sys
 import tempfile
+import time
 import warnings
 
 import bolt
 import breaks
 import drives
+import odd_servers
 import proxy
 from bolt import aio
 
@@ -238,6 +242,7 @@ async def keeps_to_a_task(port):
     await asyncio.sleep(0)
     # (its frames hold the connection)
     second = (await raised(connection.run("ONE"))).with_traceback(None)
+    third = getattr(breaks.raised(connection.session.ask_reset), "code", 0)
     rows = await (await first).values()
     # (the loop holds what it called last)
     await asyncio.sleep(0)
@@ -245,7 +250,8 @@ async def keeps_to_a_task(port):
     with warnings.catch_warnings(record=True) as told:
         warnings.simplefilter("always")
         del connection, first
-    return (type(second), second.code, rows, asked.outcome) == (bolt.NotSent, 1, [[1], [2], [3]], bolt.LOST) and any(it.category is ResourceWarning for it in told)
+    return ((type(second), second.code, third, rows, asked.outcome) == (bolt.NotSent, 1, 1, [[1], [2], [3]], bolt.LOST)
+            and any(it.category is ResourceWarning for it in told))
 
 
 async def tells_errors(port):
@@ -293,6 +299,45 @@ async def closes_meanwhile(port):
     return type(why) is bolt.Broken and why.outcome == bolt.UNKNOWN
 
 
+async def tells_failed_pulls(port):
+    """Whether a result whose PULL is cancelled says so when it is read again."""
+    async with await connected(port, fetch=2) as connection:
+        records = await connection.run("ROWS", n=5)
+        read = [(await records.__anext__())["i"] for _ in range(2)]
+        pulling = asyncio.ensure_future(records.__anext__())
+        await asyncio.sleep(0)
+        pulling.cancel()
+        await asyncio.wait({pulling})
+        told = [str(await raised(records.values())) for _ in range(2)]
+    return read == [1, 2] and pulling.cancelled() and told == [f"PULL of ROWS: UNKNOWN ({bolt.INTERRUPTED})"] * 2
+
+
+class Resets(odd_servers.Server):
+    """Answers the first of many requests, takes no more of them, and resets the connection."""
+
+    def answer(self, client):
+        with client, contextlib.suppress(OSError):
+            client.recv(20, socket.MSG_WAITALL)
+            for said in (odd_servers.V51, odd_servers.told(odd_servers.DONE, odd_servers.DONE)):
+                client.sendall(said)
+                client.recv(200)
+            client.sendall(odd_servers.told(odd_servers.DONE, odd_servers.DONE))
+            # (so that what was answered comes first, mostly)
+            time.sleep(0.2)
+            client.setsockopt(socket.SOL_SOCKET, socket.SO_LINGER, struct.pack("ii", 1, 0))
+
+
+async def hears_before_a_reset(_):
+    """Whether what a server answered counts, though it takes no more of what is sent, and resets the connection."""
+    with Resets([]) as server:
+        async with await connected(server.port) as connection:
+            connection.session._writer.get_extra_info("socket").setsockopt(socket.SOL_SOCKET, socket.SO_SNDBUF, 4096)
+            first = connection.session.ask_run("PUT", {"key": "k", "value": 1})
+            last = [connection.session.ask_run("PUT", {"key": "k", "value": bytes(65000)}) for _ in range(15)][-1]
+            why = await raised(connection.session.settle())
+    return (type(why), why.why, first.outcome, last.outcome) == (bolt.Broken, bolt.GONE, bolt.COMMITTED, bolt.UNKNOWN)
+
+
 async def tells_fates(port):
     """Whether a transaction is sent until it is known, through cuts of its first attempt, either way; and what is known of one that can't stand."""
     connect, now = lambda: connected(port), lambda _: 0
@@ -325,4 +370,5 @@ async def encrypts(port):
     return (len(said), type(stranger), type(stranger.__cause__)) == (1024, bolt.Broken, ssl.SSLCertVerificationError)
 
 
-DRIVES = (reads_rows, transacts, keeps_to_a_task, tells_errors, tells_fates, tells_what_it_heard, closes_meanwhile, encrypts)
+DRIVES = (reads_rows, transacts, keeps_to_a_task, tells_errors, tells_failed_pulls, hears_before_a_reset, tells_fates, tells_what_it_heard, closes_meanwhile,
+          encrypts)

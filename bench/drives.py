@@ -72,8 +72,41 @@ def loses_no_record(port):
             if not interrupt.raised:
                 # (at the last line the record is read)
                 return wrong == [number - 1] and number > 10
-            wrong += [] if came is interrupt.raised and records.values() == [[[datetime.date(2000, 1, 1)]]] else [number]
+            if came or not breaks.is_dropped(interrupt.raised):
+                wrong += [] if came is interrupt.raised and records.values() == [[[datetime.date(2000, 1, 1)]]] else [number]
             number += 1
+
+
+def keeps_results_apart(port):
+    """Whether a result that a RESET ended takes no rows of another, and one whose PULL failed says so each time that it is read."""
+    def rolled_back():
+        with contextlib.suppress(KeyError), connection.transaction() as tx:
+            left = tx.run("ROWS", n=5)
+            raise KeyError
+        return left
+
+    def reset():
+        left = connection.run("ROWS", n=5)
+        connection.reset()
+        return left
+
+    with connected(port, fetch=2) as connection:
+        told = []
+        for end in (reset, rolled_back):
+            left = end()
+            other = connection.run("ROWS", n=5)
+            told.append([next(left)[0], next(left)[0], *(breaks.code_of(call) for call in (lambda: next(left), lambda: left.summary)), len(other.values())])
+    is_apart = told == [[1, 2, bolt.library.NOT_ALLOWED, bolt.library.NOT_ALLOWED, 5]] * 2
+    more, row = bytes.fromhex("B170A1") + odd_servers.text("has_more") + b"\xC3", odd_servers.ROW
+    begun = (odd_servers.V51, odd_servers.told(DONE, DONE), odd_servers.told(DONE, row, more))
+    said = []
+    # (the last answer is that of a RESET)
+    for ends in ((odd_servers.told(row),), (odd_servers.told(row, odd_servers.failure(odd_servers.REFUSED)), odd_servers.told(DONE))):
+        with odd_servers.Server([(*begun, *ends)]) as server, connected(server.port, fetch=1) as connection:
+            left = connection.run("ROWS", n=3)
+            said += [next(left)[0], *(str(breaks.raised(lambda: list(left))) for _ in range(3)), left.summary.outcome]
+    broken, refused = f"PULL of ROWS: UNKNOWN ({bolt.GONE})", f"{odd_servers.REFUSED}: no"
+    return is_apart and said == [1, *[broken] * 3, bolt.UNKNOWN, 1, *[refused] * 3, bolt.REFUSED]
 
 
 def goes_on(connection):
@@ -115,7 +148,61 @@ def transacts(port):
             connection.session.ask_run("PUT", {"key": "goes", "value": 1})
             raise KeyError
         is_free = is_free and goes_on(connection)
+    with connected(port) as connection:
+        # (it can't be committed, and isn't left open)
+        with contextlib.suppress(bolt.NotSent), connection.transaction() as tx:
+            tx.run("PUT", key="goes", value=1)
+            connection.session.ask_run("ONE")
+        is_free = is_free and goes_on(connection)
+    with connected(port) as connection:
+        # (nor does it commit another, that began since)
+        with contextlib.suppress(bolt.NotSent), connection.transaction() as tx:
+            breaks.raised(lambda: tx.run("NOPE"))
+            with connection.pipeline() as asked:
+                asked.begin()
+                asked.run("PUT", key="goes", value=1)
+        is_free = is_free and goes_on(connection)
+        with connection.transaction() as over:
+            over.run("ONE")
+        with contextlib.suppress(KeyError), connection.transaction() as tx:
+            tx.run("PUT", key="goes", value=1)
+            # (what would end another, or wouldn't be committed by itself)
+            alone = [lambda call=call: call("PUT", key="goes", value=1) for call in (connection.run, connection.read)]
+            codes = [breaks.code_of(call) for call in (over.commit, over.rollback, *alone)]
+            raise KeyError
+        is_free = is_free and codes == [bolt.library.NOT_ALLOWED] * 4 and goes_on(connection)
     return is_kept and is_over and is_refused and is_free and (value_of(port, "stays"), value_of(port, "goes")) == ([1], [])
+
+
+class Reset(breaks.Closed):
+    """Resets a connection, where that is allowed, in the place of an interrupt."""
+
+    def come(self):
+        sys.settrace(None)
+        self.has_come = True
+        with contextlib.suppress(bolt.NotSent):
+            self.connection.reset()
+
+
+def commits_nothing_by_itself(port):
+    """Whether a query of a transaction that a RESET ends at a line of its call isn't committed by itself, and a COMMIT says what it did."""
+    number, wrong = 1, []
+    while True:
+        for at, call in enumerate((lambda: tx.run("PUT", key=f"{number} 0", value=1), lambda: tx.commit())):
+            with connected(port) as connection:
+                reset = Reset(number, connection)
+                with contextlib.suppress(bolt.BoltError, ValueError), connection.transaction() as tx:
+                    if at:
+                        tx.run("PUT", key=f"{number} 1", value=1)
+                    sys.settrace(reset)
+                    try:
+                        call()
+                    finally:
+                        sys.settrace(None)
+            wrong += [] if (value_of(port, f"{number} {at}") == [1]) == (tx.outcome == bolt.COMMITTED) else [f"{number} {at}"]
+            if not reset.has_come:
+                return wrong == [] and number > 50
+        number += 1
 
 
 def pipes(port):
@@ -223,6 +310,34 @@ def keeps_the_token(connect):
     return False
 
 
+class Retried(breaks.Interrupted):
+    """An interrupt at a line of until_known itself: how many these are doesn't depend on how answers come."""
+
+    def __call__(self, frame, event, word):
+        return super().__call__(frame, event, word) if os.path.basename(frame.f_code.co_filename) == "retry.py" else None
+
+
+def keeps_tokens(port):
+    """Whether an interrupt at each line of until_known has the token, under which the transaction is sent again and stands once; without one nothing stands."""
+    connect, number, told = lambda: connected(port), 1, []
+    while True:
+        interrupt, token, known = Retried(number), None, None
+        sys.settrace(interrupt)
+        try:
+            known = bolt.until_known(connect, put(f"line{number}", 1))
+        except breaks.INTERRUPTS as why:
+            token = getattr(why, "token", None)
+        finally:
+            sys.settrace(None)
+        if not interrupt.raised:
+            break
+        # (its frames hold the connection)
+        interrupt.raised.__traceback__ = None
+        told.append(bolt.until_known(connect, put(f"line{number}", 1), token))
+        number += 1
+    return number > 20 and known.stands and all(it.stands for it in told) and length(port) == number + 1
+
+
 def tells_fates(port):
     """Whether other writes under a token, a refusal, and a server that isn't there are told as such."""
     connect = lambda: connected(port)
@@ -234,10 +349,16 @@ def tells_fates(port):
     late = bolt.until_known(lambda: connected(1), put("fates", 3), tries=9, within=0, pause=lambda _: 0.01)
     own = breaks.raised(lambda: bolt.until_known(connect, lambda tx: tx.run("PUT", key={1}, value=1)))
     dropped = bolt.until_known(connect, lambda tx: (tx.run("PUT", key="fates", value=3), tx.rollback()))
+    def goes_wrong(tx):
+        tx.run("PUT", key="behind", value=1)
+        tx.commit()
+        tx._connection.read("NOPE")
+
+    behind = bolt.until_known(connect, goes_wrong, tries=1)
     by_itself = bolt.until_known(connect, lambda tx: (tx.run("PUT", key="alone", value=1), tx.commit()))
     return ((made.fate, clash.fate, again.fate, refused.fate, absent.fate, late.fate) == (bolt.STANDS, bolt.CLASH, bolt.STANDS, bolt.REFUSED, bolt.ABSENT, bolt.ABSENT)
             and made.bookmark == again.bookmark and len(made.token) == 32 and isinstance(own, TypeError) and isinstance(refused.error, bolt.Refused)
-            and keeps_the_token(connect) and len(own.token) == 32
+            and keeps_the_token(connect) and len(own.token) == 32 and behind.stands and isinstance(behind.error, bolt.Refused)
             and value_of(port, "fates") == [1] and dropped.fate == bolt.ABSENT and by_itself.stands and by_itself.bookmark.startswith("bk:"))
 
 
@@ -311,7 +432,7 @@ def interrupted(port, work, key, number):
         finally:
             sys.settrace(None)
         requests = list(connection.session.requests)
-        is_told = came is interrupt.raised and goes_on(connection)
+        is_told = goes_on(connection) and (came is interrupt.raised or came is None and breaks.is_dropped(interrupt.raised))
     return ({it.text: it.outcome for it in requests}.get("COMMIT"), is_told) if interrupt.raised else None
 
 
@@ -395,4 +516,5 @@ def installs(port):
     return bool(wanted) and said == "".join(f"{line.strip()}\n" for line in wanted.split("\n"))
 
 
-WORKS = (reads_rows, loses_no_record, transacts, tells_what_it_heard, breaks_off_connecting, pipes, keeps_moments, tells_errors, tells_fates, encrypts, installs)
+WORKS = (reads_rows, loses_no_record, keeps_results_apart, transacts, commits_nothing_by_itself, tells_what_it_heard, breaks_off_connecting, pipes,
+         keeps_moments, tells_errors, keeps_tokens, tells_fates, encrypts, installs)
