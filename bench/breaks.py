@@ -16,6 +16,8 @@ import warnings
 import bolt
 
 USER = ("basic", "user", "pass")
+# Held by who keeps or drops warnings, which the whole process has in common.
+WARNINGS = threading.Lock()
 
 
 def is_right(outcome, is_there):
@@ -300,8 +302,12 @@ ENDS = (
 )
 
 
+# How many seconds a client waits whose time is to run out, and any other; and those in which the first is given up, and for which it is sent something.
+SHORT, LONG, SOON, ON_AND_ON = 2, 60, 20, 30
+
+
 def ending(listener, said, again, how):
-    """Answers one connection so; what it sends again it sends for six seconds."""
+    """Answers one connection so; what it sends again it sends on and on."""
     peer, _ = listener.accept()
     with peer, contextlib.suppress(OSError):
         peer.recv(20, socket.MSG_WAITALL)
@@ -309,7 +315,7 @@ def ending(listener, said, again, how):
             peer.sendall(piece)
             if place < len(said) - 1:
                 peer.recv(4096)
-        over = time.monotonic() + 6
+        over = time.monotonic() + ON_AND_ON
         while again and time.monotonic() < over:
             peer.sendall(again)
             time.sleep(0.02)
@@ -319,8 +325,8 @@ def ending(listener, said, again, how):
             pass
 
 
-def blocking(port):
-    bolt.Session("127.0.0.1", port, USER, timeout=0.4)
+def blocking(port, timeout):
+    bolt.Session("127.0.0.1", port, USER, timeout=timeout)
 
 
 def ends(_, connect=blocking):
@@ -331,10 +337,10 @@ def ends(_, connect=blocking):
             server = threading.Thread(target=ending, args=(listener, said, again, how), daemon=True)
             server.start()
             began = time.monotonic()
-            why = raised(lambda: connect(listener.getsockname()[1]))
+            why = raised(lambda: connect(listener.getsockname()[1], SHORT if bolt.TIMED_OUT in text else LONG))
             took = time.monotonic() - began
             server.join()
-        if not (isinstance(why, bolt.Broken) and str(why) == text and text.endswith(f"({why.why})") and took < 4):
+        if not (isinstance(why, bolt.Broken) and str(why) == text and text.endswith(f"({why.why})") and took < SOON):
             wrong.append(f"{why!r} for {text}, after {took:.1f} s")
         elif type(why.__cause__) is not (type(None) if cause is None else cause):
             wrong.append(f"{text}: its cause is {why.__cause__!r}")
@@ -588,7 +594,7 @@ def frees(port):
     connection = bolt.Session("127.0.0.1", port, USER)
     client, other = connection._client, connection._socket
     asked = connection.ask_begin()
-    with warnings.catch_warnings(record=True) as told:
+    with WARNINGS, warnings.catch_warnings(record=True) as told:
         warnings.simplefilter("always")
         del connection
         gc.collect()
@@ -617,7 +623,7 @@ def dropped(port, number):
     asked = [connection.ask_begin(), connection.ask_run("PUT", {"key": f"dropped{number}", "value": 1}), connection.ask_commit()]
     if number % 2 == 0:
         connection._send()
-    with warnings.catch_warnings():
+    with WARNINGS, warnings.catch_warnings():
         warnings.simplefilter("ignore")
         sys.settrace(interrupt)
         try:

@@ -177,8 +177,8 @@ def interrupts(port):
     return all_broken_off(port, "interrupted", (51,), (interrupting,), 3)
 
 
-def connecting(port):
-    asyncio.run(aio.connect("127.0.0.1", port, auth=drives.USER, timeout=0.4))
+def connecting(port, timeout):
+    asyncio.run(aio.connect("127.0.0.1", port, auth=drives.USER, timeout=timeout))
 
 
 def ends(port):
@@ -247,7 +247,7 @@ async def keeps_to_a_task(port):
     # (the loop holds what it called last)
     await asyncio.sleep(0)
     asked = connection.session.ask_begin()
-    with warnings.catch_warnings(record=True) as told:
+    with breaks.WARNINGS, warnings.catch_warnings(record=True) as told:
         warnings.simplefilter("always")
         del connection, first
     return ((type(second), second.code, third, rows, asked.outcome) == (bolt.NotSent, 1, 1, [[1], [2], [3]], bolt.LOST)
