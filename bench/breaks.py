@@ -85,10 +85,23 @@ def refused(connection, key):
     ask_all(connection, key, "NOPE")
 
 
+class Deaf:
+    """A socket from which no more is heard. (One that is shut down for reading still gives what comes.)"""
+
+    def __init__(self, whole):
+        self.whole = whole
+
+    def __getattr__(self, name):
+        return getattr(self.whole, name)
+
+    def recv(self, _):
+        return b""
+
+
 def deaf(connection, key):
     """All will go out, and no answer comes."""
     ask_all(connection, key)
-    connection._socket.shutdown(socket.SHUT_RD)
+    connection._socket = Deaf(connection._socket)
 
 
 def mute(connection, key):
