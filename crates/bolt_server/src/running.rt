@@ -57,6 +57,14 @@ fn serve_asked(rt: &HostRuntime, asked: &Asked<'_>) -> u8 {
             return put_unread(alloc, asked.password_file.unwrap_or(""), &error, &mut err);
         }
     };
+    // Whoever gives none would be let in.
+    if password.is_empty() {
+        let _told = write_all(
+            &mut err,
+            b"error: the first line of --password-file is empty\n",
+        );
+        return 2;
+    }
     let (Ok(gate), Ok(agent)) = (
         OneUser::new(alloc, asked.user, password.as_str()),
         String::from_str(alloc, asked.agent),
@@ -83,6 +91,18 @@ fn words_of(rt: &HostRuntime) -> io::Result<Vec<String>> {
     Ok(std::env::args(rt)?.collect(rt.alloc())?)
 }
 
+/// Says what there is to say of the words: that they aren't taken, on standard error, or help. It answers the exit status.
+fn say(rt: &HostRuntime, error: &clap::Error) -> u8 {
+    let said = error.print(rt);
+    if error.use_stderr() {
+        return 2;
+    }
+    match said {
+        Ok(()) => 0,
+        Err(_) => put_fault(StreamFault::WriteFailed, &mut Over::new(rt.stderr())),
+    }
+}
+
 /// Does what the words of the command line ask for. It answers the exit status: 0 of help, 2 of words that aren't taken, 1 and 3 as
 /// `put_reason`.
 pub(crate) fn run(rt: &HostRuntime) -> u8 {
@@ -99,9 +119,6 @@ pub(crate) fn run(rt: &HostRuntime) -> u8 {
         Err(error) if error.kind() == clap::error::ErrorKind::OutOfMemory => {
             put_fault(StreamFault::Memory, &mut Over::new(rt.stderr()))
         }
-        Err(error) => {
-            let _told = error.print(rt);
-            if error.use_stderr() { 2 } else { 0 }
-        }
+        Err(error) => say(rt, &error),
     }
 }
