@@ -8,6 +8,8 @@ HELLO = bytes.fromhex("B101A18A757365725F6167656E7483742F31")
 LOGON = bytes.fromhex("B16AA386736368656D65856261736963897072696E636970616C84757365728B63726564656E7469616C738470617373")
 PULL, COMMIT, RESET, GOODBYE = [bytes.fromhex(it) for it in ("B13FA1816EFF", "B012", "B00F", "B002")]
 CLASH = "a clash"
+# How many seconds a busy machine may take for what comes at once.
+LONGEST = 60
 
 
 def text(it):
@@ -32,7 +34,7 @@ class Client:
     """A connection that is logged on."""
 
     def __init__(self, port, logon=LOGON):
-        self.socket = socket.create_connection(("127.0.0.1", port), timeout=15)
+        self.socket = socket.create_connection(("127.0.0.1", port), timeout=LONGEST)
         self.socket.setsockopt(socket.IPPROTO_TCP, socket.TCP_NODELAY, 1)
         self.file = self.socket.makefile("rb")
         try:

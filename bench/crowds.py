@@ -11,7 +11,7 @@ import threading
 import time
 
 import proxy
-from caller import CLASH, HANDSHAKE, HELLO, LOGON, PULL, Client, begin, framed, put, text
+from caller import CLASH, HANDSHAKE, HELLO, LOGON, LONGEST, PULL, Client, begin, framed, put, text
 
 OPENING = HANDSHAKE + framed(HELLO) + framed(LOGON)
 ONE = framed(bytes.fromhex("B310834F4E45A0A0")) + framed(PULL)
@@ -45,7 +45,7 @@ class Server:
         self.program.stdout.close()
         self.program.stderr.close()
 
-    def told(self, count, within=20):
+    def told(self, count, within=LONGEST):
         """What is wrong with the lines of so many connections, of which each has to be told once."""
         until = time.monotonic() + within
         while len(self.lines) < count and time.monotonic() < until:
@@ -68,7 +68,7 @@ class Server:
 
 
 def connect(server):
-    return socket.create_connection(("127.0.0.1", server.port), timeout=15)
+    return socket.create_connection(("127.0.0.1", server.port), timeout=LONGEST)
 
 
 def rest(stream):
@@ -93,7 +93,7 @@ def at_once(count, call):
     threads = [threading.Thread(target=one, args=(number,), daemon=True) for number in range(count)]
     for it in threads:
         it.start()
-    until = time.monotonic() + 60
+    until = time.monotonic() + 5 * LONGEST
     for it in threads:
         it.join(timeout=max(0, until - time.monotonic()))
     return wrong + ["one doesn't end" for it in threads if it.is_alive()]
