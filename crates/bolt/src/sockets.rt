@@ -28,6 +28,9 @@ pub(crate) const SILENCE: u64 = 60;
 /// How many seconds each read waits for what a peer still sends after the end.
 const LAST_WAIT: u64 = 1;
 
+/// How many connections behind one another are passed over that fail as they are accepted. Behind these none comes, as where no descriptor is free.
+const MOST_GONE: u32 = 64;
+
 /// A client at a shell, with the server at this port of the host: `fault I1` if it can't be reached, and on the next line why. Where it
 /// can, that is said on standard error. A stream that fails then is told with the system's reason too, a server that says nothing for too
 /// long with that.
@@ -87,6 +90,18 @@ pub(crate) fn serve_on(rt: &HostRuntime, port: u16, count: u32) -> u8 {
     }
 }
 
+/// The next connection, past those that fail before they begin; or I1, where too many do.
+fn accept(listener: &TcpListener) -> Result<TcpStream, StreamFault>
+    ensures { IfErr result (λ e. e ≡ StreamFault.ReadFailed) }
+{
+    for _ in 0..=MOST_GONE {
+        if let Ok((stream, _)) = listener.accept() {
+            return Ok(stream);
+        }
+    }
+    Err(StreamFault::ReadFailed)
+}
+
 /// Serves so many connections of a listener: I1 if it gives none, I2 if standard output fails.
 fn serve_count<O: Sink>(
     alloc: Global,
@@ -102,9 +117,7 @@ fn serve_count<O: Sink>(
     let mut server = server_of(alloc)?;
     put_listening(alloc, port, out)?;
     for _ in 0..count {
-        let Ok((stream, _)) = listener.accept() else {
-            return Err(StreamFault::ReadFailed);
-        };
+        let stream = accept(listener)?;
         send_at_once(&stream);
         wait_at_most(&stream, SILENCE);
         let mut streams = ServerStreams {
