@@ -2,6 +2,7 @@
 import contextlib
 import gc
 import inspect
+import itertools
 import os
 import pickle
 import socket
@@ -18,6 +19,9 @@ import bolt
 USER = ("basic", "user", "pass")
 # Held by who keeps or drops warnings, which the whole process has in common.
 WARNINGS = threading.Lock()
+# What one thread drops in a cycle is finalized by any, and an interrupt that comes in that is dropped by Python: so garbage is collected between two interrupts alone.
+gc.disable()
+MADE = itertools.count(1)
 
 
 def is_right(outcome, is_there):
@@ -141,6 +145,8 @@ class Interrupted:
 
     def __init__(self, number, kinds=INTERRUPTS, skipped="__del__"):
         self.number, self.kinds, self.skipped, self.passed, self.seen, self.raised = number, kinds, skipped, 0, set(), None
+        if next(MADE) % 50 == 0:
+            gc.collect()
 
     def __call__(self, frame, event, _):
         if os.path.dirname(frame.f_code.co_filename) != os.path.dirname(bolt.__file__) or frame.f_code.co_name == self.skipped:
