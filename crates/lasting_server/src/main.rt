@@ -4,6 +4,7 @@
 use keeping::serve_file;
 use prints::fill_closed;
 use std::io;
+use std::io::ErrorKind;
 use std::process::ExitCode;
 
 /// The port and the file that the words of the command line name.
@@ -15,9 +16,20 @@ fn named(words: &[String]) -> Option<(u16, &str)> {
     Some((port, file.as_str()))
 }
 
+/// The program's name and the words after it.
+fn words_of(rt: &HostRuntime) -> io::Result<Vec<String>> {
+    Ok(std::env::args(rt)?.collect(rt.alloc())?)
+}
+
 /// Serves as the words of the command line say.
 fn run(rt: &HostRuntime) -> io::Result<()> {
-    let words: Vec<String> = std::env::args(rt)?.collect(rt.alloc())?;
+    let words = match words_of(rt) {
+        Ok(words) => words,
+        Err(error) if error.kind() == ErrorKind::InvalidData => {
+            return eprintln!(rt; "error: a word is not UTF-8");
+        }
+        Err(error) => return Err(error),
+    };
     let Some((port, file)) = named(words.as_slice()) else {
         return eprintln!(rt; "usage: lasting_server PORT FILE");
     };
