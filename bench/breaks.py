@@ -368,6 +368,10 @@ def ends(_, connect=blocking):
     return not wrong, len(ENDS)
 
 
+def wants_memory(_):
+    raise bolt.NotSent(bolt.library.MEMORY)
+
+
 def gives_up(port):
     """Whether an interrupt and want of memory are told as such, and behind the end too."""
     with bolt.Session("127.0.0.1", port, USER) as connection:
@@ -375,12 +379,19 @@ def gives_up(port):
         connection._client.feed = lambda _: bolt.library.MEMORY
         short = str(raised(connection.settle))
     with bolt.Session("127.0.0.1", port, USER) as connection:
+        # (a FAILURE that ends the session, something behind it, and no memory for what it says)
+        connection.ask("LOGOFF", 0x6B)
+        connection.ask("LOGON", 0x6A, {"scheme": "basic", "principal": "user", "credentials": "bad"})
+        feed, connection._client.response = connection._client.feed, wants_memory
+        connection._client.feed = lambda piece: feed(piece) or bolt.library.CLOSED
+        unsaid = str(raised(connection.settle))
+    with bolt.Session("127.0.0.1", port, USER) as connection:
         asked = connection.ask_run("ROWS", {"n": 2})
         connection._client.feed = lambda _: interrupt()
         is_raised = isinstance(raised(connection.settle), Interrupt) and asked.outcome == bolt.UNKNOWN
         told, after = raised(connection.settle), raised(connection.begin)
     told = str(told), str(after), after.code
-    return short == "BEGIN: LOST (out of memory)" and is_raised and told == (
+    return short == "BEGIN: LOST (out of memory)" and unsaid == "LOGOFF: DONE, LOGON: REFUSED (out of memory)" and is_raised and told == (
         "RUN ROWS: LOST, PULL of ROWS: UNKNOWN (interrupted)", "the client has ended: interrupted", 4)
 
 

@@ -215,7 +215,7 @@ class Core:
         try:
             self._take()
         except NotSent as why:
-            code = code or why.code
+            code = why.code if code in (OK, CLOSED) else code
         state = self._state()
         if code not in (OK, CLOSED):
             self._lose(NO_MEMORY if code == MEMORY else BAD_ANSWER if state.version else NOT_BOLT)
