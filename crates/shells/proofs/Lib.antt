@@ -1,7 +1,6 @@
-pub mod Stops
+pub mod Words
 pub mod Moved
 pub mod Printed
-pub mod Lined
 pub mod Heard
 pub mod Followed
 pub mod Accounted

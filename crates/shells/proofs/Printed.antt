@@ -1,89 +1,98 @@
 -- Notes that are printed, one piece after another.
-use Rattle.std.proofs.Common.{◌≡◌, refl, sym, ap, subst, ◌∙◌, ℕ, List, [], ◌∷◌, ◌++◌, append_assoc, append-nil, Option, Some, None, map}
 use Rattle.std.proofs.lemmas.Grind.{flat_map-append}
-use Rattle.wire.specs.declared.Version.{Version}
-use Rattle.client.specs.Prelude.{Note, Rest}
-use Rattle.streams.specs.declared.fault.StreamFault.{StreamFault}
-use Rattle.shells.specs.Prelude.{IsBegun, IsCut, Log, Moves, Printed, Streams, TellsMore, explained, printed_text, said, summaries_text, summary_line, texts_of, version_after, versions_after, PrintsNotes, Place, place_after}
-use Rattle.shells.proofs.Moved.{moves_none, moves_then, moves_told}
-use Rattle.std.proofs.lemmas.List.{map-append}
-use Rattle.asks.specs.Prelude.{Tale, hears_all, after_all}
-use Rattle.asks.proofs.Tales.{hears_all-append, after_all-append}
+use Rattle.shells.proofs.Words.{◌≡◌, refl, sym, ap, ◌∙◌, ℕ, Bool, List, [], ◌∷◌, ◌++◌, append_assoc, append-nil, Option, Some, None, map, Result, Ok, Err}
+use Rattle.shells.proofs.Words.{Appends-nil, Appends-trans, map-append, Version, Note, Rest, StreamFault, Tale, hears_all, after_all, hears_all-append}
+use Rattle.shells.proofs.Words.{after_all-append, Gets, PutsLine, note_text, gets_none, gets_then, Place, Prints, PutsNotes, all_of, cut_at, explained}
+use Rattle.shells.proofs.Words.{explained_all, place_after, summaries_text, summary_line, texts_of, version_after, versions_after, IsCut, IsFront, in_line}
+use Rattle.shells.proofs.Words.{Appends, result_err, ReadFailed, WriteFailed, Memory, AppendsFront, StaysSound}
 
 pub versions_more : (v : Version) (ns ms : List Note) → versions_after v (ns ++ ms) ≡ versions_after (versions_after v ns) ms
 versions_more v [] ms = refl
 versions_more v (n ∷ ns) ms = versions_more (version_after v n) ns ms
 
-pub texts_more : (text : Version → Note → List ℕ) (v : Version) (ns ms : List Note) → texts_of text v (ns ++ ms) ≡ texts_of text v ns ++ texts_of text (versions_after v ns) ms
+pub texts_more : (text : Version → Note → List ℕ) (v : Version) (ns ms : List Note)
+    → texts_of text v (ns ++ ms) ≡ texts_of text v ns ++ texts_of text (versions_after v ns) ms
 texts_more text v [] ms = refl
 texts_more text v (n ∷ ns) ms = simp (texts_more text (version_after v n) ns ms, append_assoc)
 
-pub version_next : {X : Type 0} (v : Version) (see : X → Note) (xs : List X) (x : X) (w u : Version) → w ≡ versions_after v (map see xs) → u ≡ version_after w (see x) → u ≡ versions_after v (map see (xs ++ x ∷ []))
+pub version_next : {X : Type 0} (v : Version) (see : X → Note) (xs : List X) (x : X) (w u : Version) → w ≡ versions_after v (map see xs)
+    → u ≡ version_after w (see x) → u ≡ versions_after v (map see (xs ++ x ∷ []))
 version_next v see xs x w u e f =
-    f ∙ ap (λ (z : Version). version_after z (see x)) e ∙ sym (versions_more v (map see xs) (see x ∷ [])) ∙ ap (versions_after v) (sym (map-append see xs (x ∷ [])))
+    f ∙ ap (λ z. version_after z (see x)) e ∙ sym (versions_more v (map see xs) (see x ∷ [])) ∙ ap (versions_after v) (sym (map-append see xs (x ∷ [])))
 
 -- one piece after another
 pub place_more : (p : Place) (a b : List ℕ) → place_after p (a ++ b) ≡ place_after (place_after p a) b
 place_more p a b =
-    ap (λ (v : Version). record p { rest = after_all p.rest (a ++ b); version = v }) (ap (λ (t : Tale). versions_after p.version t.notes) (hears_all-append p.rest a b) ∙ versions_more p.version (hears_all p.rest a).notes (hears_all (after_all p.rest a) b).notes)
-    ∙ ap (λ (r : Rest). record p { rest = r; version = versions_after (versions_after p.version (hears_all p.rest a).notes) (hears_all (after_all p.rest a) b).notes }) (after_all-append p.rest a b)
+    let q = place_after p a in
+    ap (λ (r : Rest). record p { rest = r; version = versions_after p.version (hears_all p.rest (a ++ b)).notes }) (after_all-append p.rest a b)
+    ∙ ap (λ (v : Version). record p { rest = after_all q.rest b; version = v })
+    (ap (λ (t : Tale). versions_after p.version t.notes) (hears_all-append p.rest a b)
+    ∙ versions_more p.version (hears_all p.rest a).notes (hears_all q.rest b).notes)
 
-summaries_more : (ns : List Note) (n : Note) → summaries_text (ns ++ n ∷ []) ≡ summaries_text ns ++ summary_line n
-summaries_more ns n = flat_map-append summary_line ns (n ∷ []) ∙ ap (λ (z : List ℕ). summaries_text ns ++ z) (append-nil (summary_line n))
+pub prints_then : {v : Version} {ns ms : List Note} {fault : Option StreamFault} {p q t u : List ℕ} → Prints v None ns p t
+    → Prints (versions_after v ns) fault ms q u → Prints v fault (ns ++ ms) (p ++ q) (t ++ u)
+prints_then {v = v} (all_of ns) (all_of ms) = rw (← texts_more explained v ns ms) (all_of (ns ++ ms))
+prints_then {v = v} (all_of ns) (cut_at f shown n rest part told c) =
+    let e = append_assoc (explained_all v ns) (explained_all (versions_after v ns) shown) part in
+    rw (← append_assoc ns shown (n ∷ rest), ← e, ← texts_more explained v ns shown) (cut_at f (ns ++ shown) n rest part told (rw (versions_more v ns shown) c))
 
-begun_more : (f : StreamFault) (v : Version) (ns : List Note) (n : Note) (begun told : List ℕ) → IsBegun (Some f) v ns begun told → IsBegun (Some f) v (ns ++ n ∷ []) begun (told ++ summary_line n)
-begun_more f v [] n begun told h = absurd h
-begun_more f v (m ∷ ms) n begun told h = (h.0, h.1, rw (h.2, summaries_more ms n) (append_assoc h.0 (summaries_text ms) (summary_line n)))
+-- one note more after a fault
+prints_told : {v : Version} {ns : List Note} {f : StreamFault} {p t : List ℕ} (n : Note) → Prints v (Some f) ns p t
+    → Prints v (Some f) (ns ++ n ∷ []) p (t ++ summary_line n)
+prints_told n (cut_at f shown m rest part told c) =
+    let e : summaries_text (rest ++ n ∷ []) ≡ summaries_text rest ++ summary_line n = simp (flat_map-append, append-nil) in
+    rw (append_assoc shown (m ∷ rest) (n ∷ []), append_assoc told (summaries_text rest) (summary_line n), ← e) (cut_at f shown m (rest ++ n ∷ []) part told c)
 
--- none, or one whole, or one cut
-abbrev pub printed_none : (v : Version) → Printed v [] None
-printed_none v = record { shown = []; unshown = []; begun = []; told = []; parts = refl; next = (refl, refl, refl) }
+module _ {v : Version} {ns : List Note} {a b x y z : Option (List ℕ)} {d e f i j : Bool} where
+  pub notes_then : {ms : List Note} {fault : Option StreamFault} {c : Option (List ℕ)} {k : Bool} → PutsNotes v ns None a b i j d e x y
+      → PutsNotes (versions_after v ns) ms fault b c j k e f y z → PutsNotes v (ns ++ ms) fault a c i k d f x z
+  notes_then {c = c} h m =
+      let took = Appends-trans a b c h.printed m.printed h.took m.took in
+      let got = gets_then d e f x y z h.told m.told h.got m.got in
+      record { printed = _; told = _; prints = prints_then h.prints m.prints; took = took; sound = λ n s. h.sound (λ q. cc) (m.sound n s); got = got }
 
-abbrev pub printed_whole : (v : Version) (n : Note) → Printed v (n ∷ []) None
-printed_whole v n = record { shown = n ∷ []; unshown = []; begun = []; told = []; parts = refl; next = (refl, refl, refl) }
+  -- one note is told after a fault
+  pub told_next : {fault : StreamFault} (n : Note) → PutsNotes v ns (Some fault) a b i j d e x y → Gets e f y z (summary_line n)
+      → PutsNotes v (ns ++ n ∷ []) (Some fault) a b i j d f x z
+  told_next n h g =
+      let got = gets_then d e f x y z h.told (summary_line n) h.got g in
+      record { printed = h.printed; told = h.told ++ summary_line n; prints = prints_told n h.prints; took = h.took; sound = h.sound; got = got }
 
-abbrev pub printed_cut : {v : Version} {n : Note} (f : StreamFault) (begun told : List ℕ) → IsCut (version_after v n) n f begun told → Printed v (n ∷ []) (Some f)
-printed_cut {n = n} f begun told h = record { shown = []; unshown = n ∷ []; begun = begun; told = told; parts = refl; next = (told, h, sym (append-nil told)) }
+-- nothing is printed
+pub notes_none : (v : Version) (out err : Option (List ℕ)) (had deaf : Bool) → PutsNotes v [] None out out had had deaf deaf err err
+notes_none v out err had deaf = record { printed = []; told = []; prints = all_of []; took = Appends-nil out; sound = λ _ s. s; got = gets_none deaf err }
 
--- where no fault comes all are printed
-pub printed_all : {v : Version} {ns : List Note} {broken : Option StreamFault} (x : Printed v ns broken) → broken ≡ None → (x.shown ≡ ns) × (x.begun ≡ []) × (x.told ≡ []) × (x.unshown ≡ [])
-printed_all {v = v} x e =
-    let k = subst (λ (f : Option StreamFault). IsBegun f (versions_after v x.shown) x.unshown x.begun x.told) e x.next in
-    (sym (x.parts ∙ ap (λ (z : List Note). x.shown ++ z) k.0 ∙ append-nil x.shown), k.1, k.2, k.0)
+module _ {v : Version} {n : Note} {out : Option (List ℕ)} {had deaf : Bool} {err : Option (List ℕ)} where
+  whole : {now : Option (List ℕ)} {has : Bool} → Appends out now (explained (version_after v n) n) → StaysSound had has
+      → PutsNotes v (n ∷ []) None out now had has deaf deaf err err
+  whole {now = now} h s =
+      let text = explained (version_after v n) n in
+      record { printed = text ++ []; told = []; prints = all_of (n ∷ []); took = rw append-nil h; sound = λ _. s; got = gets_none deaf err }
 
--- one piece after another
-module _ {v : Version} {ns ms : List Note} {quiet broken : Option StreamFault} (x : Printed v ns quiet) (e : quiet ≡ None) (y : Printed (versions_after v ns) ms broken) where
-  abbrev pub printed_then : {all : List Note} → all ≡ ns ++ ms → Printed v all broken
-  printed_then same = record {
-    shown = ns ++ y.shown;
-    unshown = y.unshown;
-    begun = y.begun;
-    told = y.told;
-    parts = same ∙ simp (y.parts, append_assoc);
-    next = subst (λ (w : Version). IsBegun broken w y.unshown y.begun y.told) (sym (versions_more v ns y.shown)) y.next;
-  }
+  cut : {f : StreamFault} {now err_now : Option (List ℕ)} {has deaf_now : Bool} {part told : List ℕ} → IsCut (version_after v n) n f part told
+      → Appends out now part → ((Some f ≡ Some WriteFailed → ⊥) → StaysSound had has) → Gets deaf deaf_now err err_now told
+      → PutsNotes v (n ∷ []) (Some f) out now had has deaf deaf_now err err_now
+  cut {f = f} {part = part} {told = told} c h s g =
+      record { printed = part; told = told ++ []; prints = cut_at f [] n [] part told c; took = h; sound = s; got = rw append-nil g }
 
-  pub logs_then : (a b : List ℕ) → ◌≡◌ {A = Log} (record { sent = a; read = b; printed = printed_text x ++ printed_text y; told = x.told ++ y.told })
-      (record { sent = a; read = b; printed = texts_of explained v (ns ++ y.shown) ++ y.begun; told = y.told })
-  logs_then a b = let q = printed_all x e in rw (q.0, q.1, q.2, texts_more explained v ns y.shown) (simp (append_assoc, append-nil))
+  -- nothing is printed of a note that tells nothing
+  pub nothing_printed : explained (version_after v n) n ≡ [] → PutsNotes v (n ∷ []) None out out had had deaf deaf err err
+  nothing_printed e = whole (rw e (Appends-nil out)) (λ s. s)
 
-pub notes_then : {v : Version} {ns ms : List Note} {broken : Option StreamFault} {a b c : Streams} → PrintsNotes v ns None a b → PrintsNotes (versions_after v ns) ms broken b c → PrintsNotes v (ns ++ ms) broken a c
-notes_then {broken = broken} {a = a} {c = c} x y =
-    record { done = printed_then x.done refl y.done refl; moves = subst (Moves broken a c) (logs_then x.done refl y.done [] []) (moves_then x.moves y.moves) }
+  -- a note of which a line is put out behind a text: it is printed whole, or cut
+  pub note_line : (text line : List ℕ) (mid : Option (List ℕ)) {now : Option (List ℕ)} {has : Bool} (r : Result (Unit {0}) StreamFault) → Appends out mid text
+      → PutsLine line mid now r → ((result_err r ≡ Some WriteFailed → ⊥) → StaysSound had has) → text ++ line ≡ explained (version_after v n) n
+      → ((front : List ℕ) → IsFront front line → IsCut (version_after v n) n WriteFailed (text ++ front) [])
+      → IsCut (version_after v n) n Memory (text ++ []) [] → PutsNotes v (n ∷ []) (result_err r) out now had has deaf deaf err err
+  note_line text line mid {now = now} (Ok u) h k s same front none = whole (rw (← same) (Appends-trans out mid now text line h k)) (s (λ e. cc))
+  note_line text line mid {now = now} (Err WriteFailed) h k s same front none =
+      cut (front k.0 (k.1, k.2)) (Appends-trans out mid now text k.0 h k.3) s (gets_none deaf err)
+  note_line text line mid {now = now} (Err Memory) h k s same front none =
+      cut none (Appends-trans out mid now text [] h (rw k (Appends-nil mid))) s (gets_none deaf err)
+  note_line text line mid (Err ReadFailed) h k s same front none = absurd k
 
--- nothing is printed, or one note is told after a fault
-pub notes_none : (v : Version) (a : Streams) → PrintsNotes v [] None a a
-notes_none v a = record { done = printed_none v; moves = moves_none a }
-
-pub told_next : {v : Version} {ns : List Note} {f : StreamFault} {a b c : Streams} (n : Note) → PrintsNotes v ns (Some f) a b → TellsMore b c (summary_line n) → PrintsNotes v (ns ++ n ∷ []) (Some f) a c
-told_next {v = v} {ns = ns} {f = f} {a = a} {b = b} {c = c} n x h =
-    let p = x.done in
-    let done : Printed v (ns ++ n ∷ []) (Some f) = record {
-      shown = p.shown;
-      unshown = p.unshown ++ n ∷ [];
-      begun = p.begun;
-      told = p.told ++ summary_line n;
-      parts = simp (p.parts, append_assoc);
-      next = begun_more f (versions_after v p.shown) p.unshown n p.begun p.told p.next;
-    } in
-    record { done = done; moves = subst (λ (z : Streams). Moves (Some f) a z (said (printed_text p) (p.told ++ summary_line n))) (sym h.only) (moves_told c.told c.deaf (summary_line n) x.moves h.got) }
+  -- a summary whose line is cut is told
+  pub summary_cut : {line : List ℕ} {now err_now : Option (List ℕ)} {has deaf_now : Bool} {f : StreamFault} → f ≡ WriteFailed
+      → note_text (version_after v n) n ≡ line → summary_line n ≡ line → AppendsFront out now line → Gets deaf deaf_now err err_now line
+      → PutsNotes v (n ∷ []) (Some f) out now had has deaf deaf_now err err_now
+  summary_cut e text same h g = rw e (cut (rw (← same) (in_line h.0 (h.1, h.2 ∙ sym text))) h.3 (λ n. absurd (n refl)) g)

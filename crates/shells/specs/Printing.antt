@@ -69,10 +69,11 @@ pub data IsCut (v : Version) (n : Note) : StreamFault → List ℕ → List ℕ 
   behind_line : (fault : StreamFault) (front : List ℕ) → IsFront front (failure_told n)
       → IsCut v n fault (note_text v n ++ front) []
 
--- Of the notes that aren't printed whole: none, or the first was cut; each summary behind it is told on standard error.
-abbrev pub IsBegun : Option StreamFault → Version → List Note → List ℕ → List ℕ → Type 0
-IsBegun None v notes begun told = (notes ≡ []) × (begun ≡ []) × (told ≡ [])
-IsBegun (Some fault) v [] begun told = ⊥
-IsBegun (Some fault) v (n ∷ ns) begun told =
-    (first : List ℕ) × IsCut (version_after v n) n fault begun first
-    × (told ≡ first ++ summaries_text ns)
+-- Notes are printed, all of them; or a fault comes at one: those before it are printed, and of it what is cut so, and each summary behind it is
+-- told on standard error.
+pub data Prints (v : Version) : Option StreamFault → List Note → List ℕ → List ℕ → Type 0 where
+  all_of : (notes : List Note) → Prints v None notes (explained_all v notes) []
+  cut_at : (fault : StreamFault) (shown : List Note) (n : Note) (rest : List Note)
+      (part told : List ℕ) → IsCut (version_after (versions_after v shown) n) n fault part told
+      → Prints v (Some fault) (shown ++ n ∷ rest) (explained_all v shown ++ part)
+      (told ++ summaries_text rest)

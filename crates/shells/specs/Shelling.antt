@@ -7,9 +7,10 @@ use Rattle.messages.specs.View.{RequestView}
 use Rattle.client.specs.declared.SubmitFault.{SubmitFault}
 use Rattle.client.specs.Rest.{Note, awaits, refuses}
 use Rattle.streams.specs.declared.fault.StreamFault.{StreamFault}
+use Rattle.streams.specs.declared.fault.StreamFault.TheVariants.{WriteFailed}
 use Rattle.streams.specs.Failing.{StaysSound}
 use Rattle.streams.specs.Fronts.{AppendsFront}
-use Rattle.asks.specs.Asking.{hears_all, IsAwaited, IsTurn}
+use Rattle.asks.specs.Asking.{IsAwaited, IsTurn}
 use Rattle.scripts.specs.Views.{Text}
 use Rattle.scripts.specs.Words.{is_empty}
 use Rattle.scripts.specs.Script.{lines, filled_from, filled_lines}
@@ -21,61 +22,51 @@ use Rattle.prints.specs.declared.stop.StopReason.TheVariants.{Unreadable, Broken
 use Rattle.prints.specs.Names.{refusal_code}
 use Rattle.prints.specs.Stopping.{Gets, IsStopOf, ends_with, said_of}
 use Rattle.prints.specs.Telling.{refused_line}
-use Rattle.shells.specs.Talking.{FailsToPut, Place, IsAt, submitted, sent_out, said, Printed, printed_text, HeardUpTo, heard_log, Log, Exchanges, IsServersTurn, Moves, IsUsedUp, Stands, Anywhere, place_after}
+use Rattle.shells.specs.Printing.{Prints}
+use Rattle.shells.specs.Talking.{FailsToPut, Place, IsAt, submitted, sent_out, heard_log, heard_place, HeardUpTo, Exchanges, IsServersTurn, Moves, parted, Talked}
 use Rattle.shells.specs.Streams.{Streams}
 
--- These notes are printed, or a fault came while one was.
-pub record PrintsNotes (v : Version) (notes : List Note) (broken : Option StreamFault)
-    (before after : Streams) : Type 0 where
-  pub done : Printed v notes broken
-  pub moves : Moves broken before after (said (printed_text done) done.told)
-
--- what is seen of a server's answers
-pub record ServerSide : Type 0 where
-  pub left : Option (List ℕ)
-  pub reads : ℕ
-  pub failed : Bool
-
-abbrev pub server_side : Streams → ServerSide
-server_side s = record { left = s.left; reads = s.reads; failed = s.read_failed }
-
--- This was told, and nothing else.
-pub record TellsMore (before after : Streams) (text : List ℕ) : Type 0 where
-  pub only : after ≡ record before { told = after.told; deaf = after.deaf }
-  pub got : Gets before.deaf after.deaf before.told after.told text
+-- These notes are printed, or a fault came while one was: what standard output took of them, which is sound unless it is told, and what standard
+-- error got.
+pub record PutsNotes (v : Version) (notes : List Note) (fault : Option StreamFault)
+    (out out_now : Option (List ℕ)) (had has deaf deaf_now : Bool) (err err_now : Option (List ℕ))
+    : Type 0 where
+  pub printed : List ℕ
+  pub told : List ℕ
+  pub prints : Prints v fault notes printed told
+  pub took : Appends out out_now printed
+  pub sound : (fault ≡ Some WriteFailed → ⊥) → StaysSound had has
+  pub got : Gets deaf deaf_now err err_now told
 
 -- Bytes were read and fed, and what they tell was printed, up to a fault.
 pub record Hears (fault : Option StreamFault) (p : Place) (before after : Streams) (c : Caller)
     : Type 0 where
   pub heard : HeardUpTo fault p
   pub moves : Moves fault before after (heard_log [] heard)
-  pub at : IsAt c (place_after p heard.fed)
+  pub at : IsAt c (heard_place heard)
 
 -- Bytes were read, fed and printed until no answer was still to come, the input had ended, or a fault came.
 pub record HearsAll (fault : Option StreamFault) (p : Place) (before after : Streams) (c : Caller)
     : Type 0 where
   pub hears : Hears fault p before after c
   pub ends : fault ≡ None
-      → IsAtEnd after.left ⊎ (awaits (hears_all p.rest hears.heard.fed).knows ≡ false)
+      → IsAtEnd after.left ⊎ (awaits (heard_place hears.heard).rest.knows ≡ false)
 
--- What waited to be sent, or some of it, of which so many bytes were taken out, was written; then bytes were heard as `HearsAll` has it.
+-- What waited to be sent, or some of it, was written; then bytes were heard as `HearsAll` has it.
 pub record Converses (fault : Option StreamFault) (p : Place) (before after : Streams) (c : Caller)
     : Type 0 where
   pub out : ℕ
-  pub heard : HeardUpTo fault p
+  pub heard : HeardUpTo fault (sent_out p out)
   pub moves : Moves fault before after (heard_log p.rest.unsent heard)
-  pub at : IsAt c (place_after (sent_out p out) heard.fed)
+  pub at : IsAt c (heard_place heard)
   pub ends : fault ≡ None → (drop out p.rest.unsent ≡ [])
-      × (IsAtEnd after.left ⊎ (awaits (hears_all p.rest heard.fed).knows ≡ false))
+      × (IsAtEnd after.left ⊎ (awaits (heard_place heard).rest.knows ≡ false))
 
 -- An exchange was made, up to a fault.
-pub record Asks (fault : Option StreamFault) (p : Place) (before after : Streams)
-    (Now : Place → Type 0) : Type 0 where
-  pub log : Log
-  pub place : Place
-  pub exchange : Exchanges (IsUsedUp before.left after.left) fault p log place
-  pub moves : Moves fault before after log
-  pub at : Now place
+pub record Asks (fault : Option StreamFault) (p : Place) (before after : Streams) (c : Caller)
+    : Type 0 where
+  pub exchange : Exchanges fault p before after
+  pub at : IsAt c (parted exchange.heard)
 
 -- A request was submitted; or it is refused, which was printed; or a fault came: nothing was printed, or a beginning of it.
 abbrev pub Submits : Place → RequestView → ℕ → Option (List ℕ) → Option (List ℕ)
@@ -94,10 +85,16 @@ Submits p q number before after Now (Err fault) =
 abbrev pub if_filled : ℕ → Text → List (ℕ × Text)
 if_filled n line = if is_empty line then [] else (n, line) ∷ []
 
+-- These lines were done, and a client stands where they lead.
+pub record Reaches (start now : Streams) (lines : List (ℕ × Text)) (c : Caller) : Type 0 where
+  pub place : Place
+  pub talked : Talked start None lines now place
+  pub at : IsAt c place
+
 -- Of these bytes of the input each line that has ended is done, and the last is begun: whatever follows, its lines follow those.
 pub record Progress (start now : Streams) (script : List ℕ) (c : Conversation) : Type 0 where
   pub done : List (ℕ × Text)
-  pub stands : Stands None start now done (IsAt c.caller)
+  pub reaches : Reaches start now done c.caller
   pub begun : All (λ b. (b == 10) ≡ false) c.begun.items
   pub follow : (more : List ℕ) → filled_lines (script ++ more)
       ≡ done ++ filled_from c.number (lines (c.begun.items ++ more))
@@ -116,29 +113,34 @@ AreDone (Some (Unreadable n)) all done =
     × (request_line_of line ≡ None)
 AreDone (Some (Broken fault)) all done = (rest : List (ℕ × Text)) × (all ≡ done ++ rest)
 
--- Of these lines, behind others that were done, as many are done as a stop leaves.
-pub record Does (stop : Option StopReason) (start now : Streams) (before all : List (ℕ × Text))
-    (Now : Place → Type 0) : Type 0 where
+-- Of these lines as many were done as a stop leaves.
+pub record Does (stop : Option StopReason) (start now : Streams) (all : List (ℕ × Text)) : Type 0 where
   pub done : List (ℕ × Text)
   pub lines : AreDone stop all done
-  pub stands : Stands (fault_in stop) start now (before ++ done) Now
+  pub place : Place
+  pub talked : Talked start (fault_in stop) done now place
 
--- the same of all lines of a script
-abbrev pub DoesAll : Option StopReason → Streams → Streams → List ℕ → Type 0
-DoesAll stop start now script = Does stop start now [] (filled_lines script) Anywhere
+-- these lines were done, and a client stands where they lead; or as many of them as a stop leaves
+abbrev pub DoesMore : Option StopReason → Streams → Streams → List (ℕ × Text) → Caller → Type 0
+DoesMore None start now all c = Reaches start now all c
+DoesMore (Some stop) start now all c = Does (Some stop) start now all
+
+-- the same of all lines of a script, at a stop
+abbrev pub StopsIn : StopReason → Streams → Streams → List ℕ → Type 0
+StopsIn stop start now script = Does (Some stop) start now (filled_lines script)
 
 -- A byte more of the input was done; or it stopped at it, before the bytes after it were looked at.
 abbrev pub TakesByte : Streams → Streams → List ℕ → ℕ → Conversation → Result (Unit {0}) StopReason
     → Type 0
 TakesByte start now script byte c (Ok x) = Progress start now (script ++ byte ∷ []) c
 TakesByte start now script byte c (Err stop) =
-    (more : List ℕ) → DoesAll (Some stop) start now (script ++ byte ∷ more)
+    (more : List ℕ) → StopsIn stop start now (script ++ byte ∷ more)
 
 -- a piece more of the input was done, or it stopped in it
 abbrev pub Takes : Streams → Streams → List ℕ → List ℕ → Conversation → Result (Unit {0}) StopReason
     → Type 0
 Takes start now script piece c (Ok x) = Progress start now (script ++ piece) c
-Takes start now script piece c (Err stop) = DoesAll (Some stop) start now (script ++ piece)
+Takes start now script piece c (Err stop) = StopsIn stop start now (script ++ piece)
 
 -- the input was read, to its end if nothing stops before, and its lines were done
 pub record Runs (stop : Option StopReason) (before after : Option (List ℕ)) (start now : Streams)
@@ -146,7 +148,7 @@ pub record Runs (stop : Option StopReason) (before after : Option (List ℕ)) (s
   pub script : List ℕ
   pub read : Consumes before after script
   pub end : stop ≡ None → IsAtEnd after
-  pub does : DoesAll stop start now script
+  pub does : Does stop start now (filled_lines script)
 
 -- How a shell went. Its status says whether it stopped, and why; standard error has why at last. Its lines are those of the bytes of the input
 -- that were read: all of them to the end; or those before the first that can't be read, which has the number that is told. The streams moved
@@ -180,7 +182,7 @@ IsHeard now c left taken =
 -- the same after any conversation that leaves the streams and the client so
 abbrev pub IsTurnAfter : Streams → Caller → Option (List ℕ) → Option (List ℕ) → Type 0
 IsTurnAfter now c left taken =
-    (start : Streams) (done : List (ℕ × Text)) → Stands None start now done (IsAt c)
+    (start : Streams) (done : List (ℕ × Text)) → Reaches start now done c
     → IsServersTurn start left taken
 
 -- the same after any beginning of an input

@@ -16,7 +16,7 @@ use Rattle.streams.specs.declared.fault.StreamFault.{StreamFault}
 use Rattle.streams.specs.declared.fault.StreamFault.TheVariants.{ReadFailed, WriteFailed, Memory}
 use Rattle.streams.specs.Failing.{StaysSound}
 use Rattle.streams.specs.Fronts.{AppendsFront}
-use Rattle.asks.specs.Asking.{hears_all, after_all, IsNeeded, given_up, losses_then}
+use Rattle.asks.specs.Asking.{hears_all, after_all, IsNeeded, IsTurn, given_up, losses_then}
 use Rattle.scripts.specs.Views.{Text, ScriptRequestView}
 use Rattle.scripts.specs.Meant.{meant}
 use Rattle.scripts.specs.Rows.{request_line_of}
@@ -24,7 +24,7 @@ use Rattle.shells.specs.declared.caller.Caller.{Caller}
 use Rattle.prints.specs.Names.{refusal_code, version_name}
 use Rattle.prints.specs.Stopping.{Gets}
 use Rattle.prints.specs.Telling.{lost_line, refused_line}
-use Rattle.shells.specs.Printing.{IsBegun, IsFront, explained_all, versions_after, notes_text}
+use Rattle.shells.specs.Printing.{IsFront, Prints, versions_after, notes_text}
 use Rattle.shells.specs.Streams.{Streams}
 
 -- where a client stands, and the version at which rows are printed and requests are made
@@ -77,6 +77,11 @@ is_printed (Some ReadFailed) = true
 is_printed (Some WriteFailed) = false
 is_printed (Some Memory) = false
 
+-- notes are printed, all of them unless such a fault came while one was
+abbrev pub PrintsUpTo : Option StreamFault → Version → List Note → List ℕ → List ℕ → Type 0
+PrintsUpTo fault v notes printed told = Prints v None notes printed told
+    ⊎ ((is_printed fault ≡ false) × Prints v fault notes printed told)
+
 -- no answer is still to come, and the client goes on: nothing but a GOODBYE waits
 abbrev pub is_settled : Knows → Bool
 is_settled k = not (awaits k) && not k.over
@@ -112,108 +117,49 @@ pub record Log : Type 0 where
   pub printed : List ℕ
   pub told : List ℕ
 
--- one log after another
-abbrev pub and_then : Log → Log → Log
-and_then a b = record {
-  sent = a.sent ++ b.sent;
-  read = a.read ++ b.read;
-  printed = a.printed ++ b.printed;
-  told = a.told ++ b.told;
-}
-
 -- what is printed and told, if nothing is sent or read
 abbrev pub said : List ℕ → List ℕ → Log
 said printed told = record { sent = []; read = []; printed = printed; told = told }
 
--- a log of which more is told
-abbrev pub told_more : Log → List ℕ → Log
-told_more l text = record l { told = l.told ++ text }
-
--- Of notes, in order, those that are printed; and what comes of the others, of which there are none unless a fault comes at the first: a beginning
--- of it is printed, and each summary that isn't is told.
-pub record Printed (v : Version) (notes : List Note) (broken : Option StreamFault) : Type 0 where
-  pub shown : List Note
-  pub unshown : List Note
-  pub begun : List ℕ
-  pub told : List ℕ
-  pub parts : notes ≡ shown ++ unshown
-  pub next : IsBegun broken (versions_after v shown) unshown begun told
-
--- what is printed of them
-abbrev pub printed_text : {v : Version} {notes : List Note} {broken : Option StreamFault}
-    → Printed v notes broken → List ℕ
-printed_text {v = v} x = explained_all v x.shown ++ x.begun
-
--- Bytes are read as long as an answer is still to come, and printed as they are heard. A fault may break it off, perhaps while a note is printed.
--- After a sink's failure, and if memory ran out, some of what was read wasn't fed or printed.
+-- Bytes are read as long as an answer is still to come, and printed as they are heard. A fault may break it off. After a sink's failure, and if
+-- memory ran out, some of what was read wasn't fed, or a note wasn't printed.
 pub record HeardUpTo (fault : Option StreamFault) (p : Place) : Type 0 where
   pub fed : List ℕ
   pub unheard : List ℕ
   pub needed : IsNeeded p.rest (fed ++ unheard)
-  pub broken : Option StreamFault
-  pub breaks : (broken ≡ None) ⊎ (broken ≡ fault)
-  pub printed : Printed p.version (hears_all p.rest fed).notes broken
   pub whole : is_printed fault ≡ true
-      → (printed.unshown ≡ []) × ((unheard ≡ []) ⊎ ((hears_all p.rest fed).knows.over ≡ true))
+      → (unheard ≡ []) ⊎ ((hears_all p.rest fed).knows.over ≡ true)
+  pub printed : List ℕ
+  pub told : List ℕ
+  pub prints : PrintsUpTo fault p.version (hears_all p.rest fed).notes printed told
 
 -- what is read, printed and told so, if this was sent
 abbrev pub heard_log : {fault : Option StreamFault} {p : Place} → List ℕ → HeardUpTo fault p → Log
-heard_log sent h = record {
-  sent = sent;
-  read = h.fed ++ h.unheard;
-  printed = printed_text h.printed;
-  told = h.printed.told;
-}
+heard_log sent h =
+    record { sent = sent; read = h.fed ++ h.unheard; printed = h.printed; told = h.told }
+
+-- where a client stands once it has heard so much
+abbrev pub heard_place : {fault : Option StreamFault} {p : Place} → HeardUpTo fault p → Place
+heard_place {p = p} h = place_after p h.fed
 
 -- what is told where a client is given up: what became of its requests, and why no answer comes
 abbrev pub parting : Option StreamFault → Knows → List ℕ
 parting fault k = losses_text (lost_of k) ++ why_text fault k
 
--- What waits to be sent is sent, and answers are heard. It ends if none is still to come, or if the server is gone, or by a fault. Then the
--- client is given up, unless all was answered, and what became of the requests that waited is told, and why no answer comes.
-pub record Exchanges (Gone : Type 0) (fault : Option StreamFault) (p : Place) (log : Log) (q : Place)
-    : Type 0 where
-  pub out : ℕ
-  pub heard : HeardUpTo fault p
-  pub moved : log ≡ told_more (heard_log p.rest.unsent heard)
-      (parting fault (hears_all p.rest heard.fed).knows)
-  pub ends : fault ≡ None
-      → (drop out p.rest.unsent ≡ []) × (Gone ⊎ (awaits (hears_all p.rest heard.fed).knows ≡ false))
-  pub after : q ≡ record {
-    rest = given_up (after_all (taken_out p.rest out) heard.fed);
-    version = versions_after p.version (hears_all p.rest heard.fed).notes;
-  }
+-- the same log, and behind it what is told where the client is given up
+abbrev pub parting_log : {fault : Option StreamFault} {p : Place} → List ℕ → HeardUpTo fault p → Log
+parting_log {fault = fault} sent h =
+    record (heard_log sent h) { told = h.told ++ parting fault (heard_place h).rest.knows }
 
--- what is told once the version is heard; nothing where a fault came before
-abbrev pub greeting_after : Option StreamFault → Place → List ℕ
-greeting_after None p = greeting p
-greeting_after (Some fault) p = []
+-- where a client stands once it is given up, unless all was answered
+abbrev pub parted : {fault : Option StreamFault} {p : Place} → HeardUpTo fault p → Place
+parted h =
+    record { rest = given_up (heard_place h).rest; version = (heard_place h).version }
 
 -- so much of a text is printed: all of it, or a beginning where a fault comes
 abbrev pub IsPart : Option StreamFault → List ℕ → List ℕ → Type 0
 IsPart None text part = part ≡ text
 IsPart (Some fault) text part = IsFront part text
-
--- A line with its number is refused, which is printed; or its request is sent and its answers are heard. A fault may break that off.
-pub data TalksLine (Gone : Type 0) (fault : Option StreamFault) (p : Place) (l : ℕ × Text)
-    : Log → Place → Type 0 where
-  refuses_line : (q : ScriptRequestView) (why : SubmitFault) (code part : List ℕ)
-      → request_line_of l.1 ≡ Some q → refuses p.rest.knows (meant p.version q) ≡ Some why
-      → refusal_code why ≡ Some code → IsPart fault (refused_line l.0 code) part
-      → TalksLine Gone fault p l (said part []) p
-  answers_line : (q : ScriptRequestView) (log : Log) (r : Place) → request_line_of l.1 ≡ Some q
-      → refuses p.rest.knows (meant p.version q) ≡ None
-      → Exchanges Gone fault (submitted p (meant p.version q)) log r → TalksLine Gone fault p l log r
-
--- A client's conversation, after these lines: the version is heard, and then the lines follow. A fault may break the last of it off. What holds
--- if the server is gone is told beside.
-pub data Talked (Gone : Type 0) : Option StreamFault → List (ℕ × Text) → Log → Place → Type 0 where
-  opens : (fault : Option StreamFault) (log : Log) (p : Place)
-      → Exchanges Gone fault first_place log p
-      → Talked Gone fault [] (told_more log (greeting_after fault p)) p
-  next_line : (fault : Option StreamFault) (lines : List (ℕ × Text)) (l : ℕ × Text) (log more : Log)
-      (p r : Place) → Talked Gone None lines log p → TalksLine Gone fault p l more r
-      → Talked Gone fault (lines ++ l ∷ []) (and_then log more) r
 
 -- all of it was put out, or a beginning
 abbrev pub Puts : Bool → Option (List ℕ) → Option (List ℕ) → List ℕ → Type 0
@@ -231,45 +177,59 @@ pub record Moves (fault : Option StreamFault) (before after : Streams) (log : Lo
   pub sinks : (fault ≡ Some WriteFailed → ⊥) → StaysSound before.write_failed after.write_failed
       × StaysSound before.print_failed after.print_failed
 
+-- What waits to be sent is sent, of which so many bytes are taken out, and answers are heard. It ends if none is still to come, or if the server
+-- is gone, or by a fault. Then the client is given up, unless all was answered, and what became of the requests that waited is told, and why no
+-- answer comes.
+pub record Exchanges (fault : Option StreamFault) (p : Place) (before after : Streams) : Type 0 where
+  pub out : ℕ
+  pub heard : HeardUpTo fault (sent_out p out)
+  pub moves : Moves fault before after (parting_log p.rest.unsent heard)
+  pub ends : fault ≡ None → (drop out p.rest.unsent ≡ [])
+      × (IsAtEnd after.left ⊎ (awaits (heard_place heard).rest.knows ≡ false))
+
+-- A line with its number is refused, which is printed; or its request is sent and its answers are heard. A fault may break that off.
+pub data TalksLine (fault : Option StreamFault) (p : Place) (l : ℕ × Text) (before after : Streams)
+    : Place → Type 0 where
+  refuses_line : (q : ScriptRequestView) (why : SubmitFault) (code part : List ℕ)
+      → request_line_of l.1 ≡ Some q → refuses p.rest.knows (meant p.version q) ≡ Some why
+      → refusal_code why ≡ Some code → IsPart fault (refused_line l.0 code) part
+      → Moves fault before after (said part []) → TalksLine fault p l before after p
+  answers_line : (q : ScriptRequestView) → request_line_of l.1 ≡ Some q
+      → refuses p.rest.knows (meant p.version q) ≡ None
+      → (x : Exchanges fault (submitted p (meant p.version q)) before after)
+      → TalksLine fault p l before after (parted x.heard)
+
+-- A client's conversation, after these lines, from streams to streams: the version is heard, and told, and then the lines follow. A fault may break
+-- the last of it off, or come behind.
+pub data Talked (start : Streams) : Option StreamFault → List (ℕ × Text) → Streams → Place → Type 0 where
+  opens : (mid now : Streams) (x : Exchanges None first_place start mid)
+      → Moves None mid now (said [] (greeting (parted x.heard)))
+      → Talked start None [] now (parted x.heard)
+  fails_first : (fault : StreamFault) (now : Streams)
+      (x : Exchanges (Some fault) first_place start now)
+      → Talked start (Some fault) [] now (parted x.heard)
+  next_line : (fault : Option StreamFault) (lines : List (ℕ × Text)) (l : ℕ × Text)
+      (mid now : Streams) (p r : Place) → Talked start None lines mid p
+      → TalksLine fault p l mid now r → Talked start fault (lines ++ l ∷ []) now r
+  breaks_off : (fault : StreamFault) (lines : List (ℕ × Text)) (mid now : Streams) (p : Place)
+      → Talked start None lines mid p → Moves (Some fault) mid now (said [] [])
+      → Talked start (Some fault) lines now p
+
 -- one of the sinks has failed
 abbrev pub FailsToPut : Streams → Type 0
 FailsToPut now = (now.write_failed ≡ true) ⊎ (now.print_failed ≡ true)
 
--- nothing is left of the bytes that were known
-abbrev pub IsUsedUp : Option (List ℕ) → Option (List ℕ) → Type 0
-IsUsedUp None after = Unit {0}
-IsUsedUp (Some bytes) after = IsAtEnd after
-
--- What a conversation did after these lines: it moved the streams so, and the client stands there. A fault came in the last exchange, or
--- behind it. The server is gone only if nothing is left of its bytes.
-pub record Stands (fault : Option StreamFault) (start now : Streams) (lines : List (ℕ × Text))
-    (Now : Place → Type 0) : Type 0 where
-  pub log : Log
-  pub place : Place
-  pub broken : Option StreamFault
-  pub breaks : (broken ≡ None) ⊎ (broken ≡ fault)
-  pub talked : Talked (IsUsedUp start.left now.left) broken lines log place
-  pub moves : Moves fault start now log
-  pub at : Now place
-
--- nothing is said of where a client stands
-abbrev pub Anywhere : Place → Type 0
-Anywhere p = Unit {0}
-
 -- A client asks its server, after so much of a conversation: for the version, or for the answers to a request that it accepts.
-pub data IsAsking : Log → Place → Type 0 where
-  asks_version : IsAsking (said [] []) first_place
-  asks_answer : (lines : List (ℕ × Text)) (log : Log) (p : Place) (q : RequestView)
-      → Talked (Unit {0}) None lines log p → refuses p.rest.knows q ≡ None
-      → IsAsking log (submitted p q)
+pub data IsAsking (start : Streams) : Streams → Place → Type 0 where
+  asks_version : IsAsking start start first_place
+  asks_answer : (lines : List (ℕ × Text)) (now : Streams) (p : Place) (q : RequestView)
+      → Talked start None lines now p → refuses p.rest.knows q ≡ None
+      → IsAsking start now (submitted p q)
 
 -- It is the server's turn: after so much of a conversation its sink took all that is asked of it, and after the bytes that were read of it an
 -- answer is still to come.
 pub record IsServersTurn (start : Streams) (left written : Option (List ℕ)) : Type 0 where
-  pub log : Log
+  pub now : Streams
   pub place : Place
-  pub asking : IsAsking log place
-  pub read : List ℕ
-  pub input : Consumes start.left left (log.read ++ read)
-  pub awaited : awaits (hears_all place.rest read).knows ≡ true
-  pub asked : Appends start.written written (log.sent ++ place.rest.unsent)
+  pub asking : IsAsking start now place
+  pub turn : IsTurn place.rest now.left left now.written written

@@ -1,5 +1,5 @@
 //! A client asks its server for the answers that it waits for, and prints them as they come.
-ghost use Rattle.std.specs.Prelude.{◌≡◌, ◌<◌, ◌++◌, ◌∷◌, [], List, true, false, map, IfOk, IsErrOf};
+ghost use Rattle.std.specs.Prelude.{◌≡◌, ◌<◌, ℕ, Bool, ◌++◌, ◌∷◌, [], List, Option, true, false, map, IfOk, IsErrOf};
 ghost use Rattle.std.specs.Io.KnownBytes.{Appends, IsAtEnd};
 ghost use Rattle.std.specs.Result.{result_err};
 ghost use Rattle.client.specs.Fits.{Fits};
@@ -11,8 +11,7 @@ ghost use Rattle.streams.specs.Reading.{LetsRead};
 ghost use Rattle.prints.specs.Stopping.{Gets};
 ghost use Rattle.shells.specs.Talking.{FailsToPut, IsAt, Place, ending, parting};
 ghost use Rattle.shells.specs.Printing.{version_after, versions_after};
-ghost use Rattle.shells.specs.Shelling.{Asks, Converses, Hears, HearsAll, IsAsked, IsHeard, PrintsNotes, server_side};
-ghost use Rattle.shells.specs.Streams.{Streams};
+ghost use Rattle.shells.specs.Shelling.{Asks, Converses, Hears, HearsAll, IsAsked, IsHeard, PutsNotes};
 
 use crate::caller::Caller;
 use crate::errors::{put_losses, put_unprinted};
@@ -32,7 +31,7 @@ impl Caller {
     ) -> Result<(), StreamFault>
         requires { LetsRead S.may_read (λ s. IsAsked streams.old.at self.old (S.left s)) }
         ensures asks { (p : Place) → IsAt self.old p
-            → Asks (result_err result) p streams.old.at streams.new.at (IsAt self.new) }
+            → Asks (result_err result) p streams.old.at streams.new.at self.new }
         ensures read { IsErrOf result StreamFault.ReadFailed → streams.new.at.read_failed ≡ true }
         ensures written { IsErrOf result StreamFault.WriteFailed → FailsToPut streams.new.at }
     {
@@ -142,57 +141,61 @@ impl Caller {
             &mut heard,
         );
         // What was heard before a fault is printed too.
-        match self.put_all(heard, streams) {
-            Ok(()) => done,
-            Err(fault) => Err(fault),
+        match self.put_all(heard, &mut streams.out, &mut streams.err) {
+            Ok(()) => {}
+            Err(fault) => return Err(fault),
         }
+        done
     }
 
     /// Prints all that was heard. From a fault on each summary that isn't printed is told on standard error.
-    fn put_all<S: PeerSource, T: Sink, O: Sink, E: Sink>(
+    fn put_all<O: Sink, E: Sink>(
         &mut self,
         heard: Vec<Heard>,
-        streams: &mut ShellStreams<S, T, O, E>,
+        out: &mut O,
+        err: &mut E,
     ) -> Result<(), StreamFault>
-        ensures prints { PrintsNotes self.old.version (map note heard.items) (result_err result)
-            streams.old.at streams.new.at }
+        ensures puts { PutsNotes self.old.version (map note heard.items) (result_err result)
+            (O.taken out.old) (O.taken out.new) (O.has_failed out.old) (O.has_failed out.new)
+            (E.has_failed err.old) (E.has_failed err.new) (E.taken err.old) (E.taken err.new) }
         ensures version { self.new.version ≡ versions_after self.old.version (map note heard.items) }
         ensures client { self.new.client ≡ self.old.client }
         ensures read { IsErrOf result StreamFault.ReadFailed → ⊥ }
-        ensures written { IsErrOf result StreamFault.WriteFailed → streams.new.at.print_failed ≡ true }
-        ensures kept { server_side streams.new.at ≡ server_side streams.old.at }
+        ensures written { IsErrOf result StreamFault.WriteFailed → O.has_failed out.new ≡ true }
     {
         let mut done = Ok(());
         for one in heard {
-            done = self.put_next(done, one, streams);
+            done = self.put_next(done, one, out, err);
         }
         done
     }
 
     /// Prints one more, or tells it after a fault.
-    fn put_next<S: PeerSource, T: Sink, O: Sink, E: Sink>(
+    fn put_next<O: Sink, E: Sink>(
         &mut self,
         done: Result<(), StreamFault>,
         one: Heard,
-        streams: &mut ShellStreams<S, T, O, E>,
+        out: &mut O,
+        err: &mut E,
     ) -> Result<(), StreamFault>
-        ensures prints { (v : Version) (notes : List Note) (start : Streams)
+        ensures puts { (v : Version) (notes : List Note) (was told : Option (List ℕ)) (had deaf : Bool)
             → self.old.version ≡ versions_after v notes
-            → PrintsNotes v notes (result_err done) start streams.old.at
-            → PrintsNotes v (notes ++ note one ∷ []) (result_err result) start streams.new.at }
+            → PutsNotes v notes (result_err done) was (O.taken out.old) had (O.has_failed out.old) deaf
+            (E.has_failed err.old) told (E.taken err.old)
+            → PutsNotes v (notes ++ note one ∷ []) (result_err result) was (O.taken out.new) had
+            (O.has_failed out.new) deaf (E.has_failed err.new) told (E.taken err.new) }
         ensures version { self.new.version ≡ version_after self.old.version (note one) }
         ensures client { self.new.client ≡ self.old.client }
         ensures read { (IsErrOf done StreamFault.ReadFailed → ⊥)
             → IsErrOf result StreamFault.ReadFailed → ⊥ }
-        ensures written { (IsErrOf done StreamFault.WriteFailed → streams.old.at.print_failed ≡ true)
-            → IsErrOf result StreamFault.WriteFailed → streams.new.at.print_failed ≡ true }
-        ensures kept { server_side streams.new.at ≡ server_side streams.old.at }
+        ensures written { (IsErrOf done StreamFault.WriteFailed → O.has_failed out.old ≡ true)
+            → IsErrOf result StreamFault.WriteFailed → O.has_failed out.new ≡ true }
     {
         self.keep_version(&one);
         match done {
-            Ok(()) => self.put_explained(one, streams),
+            Ok(()) => self.put_explained(one, out, err),
             Err(fault) => {
-                put_unprinted(&one, streams);
+                put_unprinted(&one, err);
                 Err(fault)
             }
         }

@@ -11,16 +11,15 @@ ghost use Rattle.scripts.specs.Views.{script_request_view};
 ghost use Rattle.prints.specs.Telling.{PutsLine, note_text};
 ghost use Rattle.shells.specs.Printing.{version_after};
 ghost use Rattle.shells.specs.Talking.{IsAt, Place, first_place};
-ghost use Rattle.shells.specs.Shelling.{PrintsNotes, Submits, server_side};
+ghost use Rattle.shells.specs.Shelling.{PutsNotes, Submits};
 
-use crate::ways::ShellStreams;
 use client::{Client, Heard, Outcome};
 use machine::Phase;
 use messages::Response;
 use prints::{heard_line, put, put_failure, put_heard, put_refused, put_row, refusal_code, tell};
 use scripts::ScriptRequest;
 use std::alloc::Global;
-use streams::{PeerSource, Sink, StreamFault};
+use streams::{Sink, StreamFault};
 use wire::{Version, Wish};
 
 /// A client that takes the newest version.
@@ -74,27 +73,29 @@ impl Caller {
 
     /// Prints what was heard, at the version that is kept, and behind the line of a FAILURE `fault CODE MESSAGE`. If the line of a summary
     /// isn't taken whole, it is told on standard error.
-    pub(crate) fn put_explained<S: PeerSource, T: Sink, O: Sink, E: Sink>(
+    pub(crate) fn put_explained<O: Sink, E: Sink>(
         &self,
         heard: Heard,
-        streams: &mut ShellStreams<S, T, O, E>,
+        out: &mut O,
+        err: &mut E,
     ) -> Result<(), StreamFault>
-        ensures prints { (v : Version) → self.now.version ≡ version_after v (note heard)
-            → PrintsNotes v (note heard ∷ []) (result_err result) streams.old.at streams.new.at }
+        ensures puts { (v : Version) → self.now.version ≡ version_after v (note heard)
+            → PutsNotes v (note heard ∷ []) (result_err result)
+            (O.taken out.old) (O.taken out.new) (O.has_failed out.old) (O.has_failed out.new)
+            (E.has_failed err.old) (E.has_failed err.new) (E.taken err.old) (E.taken err.new) }
         ensures read { IsErrOf result StreamFault.ReadFailed → ⊥ }
-        ensures written { IsErrOf result StreamFault.WriteFailed → streams.new.at.print_failed ≡ true }
-        ensures kept { server_side streams.new.at ≡ server_side streams.old.at }
+        ensures written { IsErrOf result StreamFault.WriteFailed → O.has_failed out.new ≡ true }
     {
         match heard {
             Heard::Nothing => Ok(()),
             Heard::Version(_) => Ok(()),
-            Heard::Row(cells) => put_row(self.alloc, self.version, cells, &mut streams.out),
+            Heard::Row(cells) => put_row(self.alloc, self.version, cells, out),
             Heard::Summary {
                 ordinal,
                 phase,
                 outcome,
                 response,
-            } => put_summary(self.alloc, ordinal, phase, outcome, &response, streams),
+            } => put_summary(self.alloc, ordinal, phase, outcome, &response, out, err),
         }
     }
 
@@ -131,27 +132,29 @@ impl Caller {
 
 /// Prints `heard ORDINAL OUTCOME PHASE`, and behind that of a FAILURE `fault CODE MESSAGE`. The first line takes no memory; if it isn't taken
 /// whole it is told on standard error.
-fn put_summary<S: PeerSource, T: Sink, O: Sink, E: Sink>(
+fn put_summary<O: Sink, E: Sink>(
     alloc: Global,
     ordinal: u64,
     phase: Phase,
     outcome: Outcome,
     response: &Response,
-    streams: &mut ShellStreams<S, T, O, E>,
+    out: &mut O,
+    err: &mut E,
 ) -> Result<(), StreamFault>
-    ensures prints { (v : Version)
-        → PrintsNotes v (Summary ordinal phase outcome (response_view response.now) ∷ [])
-        (result_err result) streams.old.at streams.new.at }
+    ensures puts { (v : Version)
+        → PutsNotes v (Summary ordinal phase outcome (response_view response.now) ∷ [])
+        (result_err result) (O.taken out.old) (O.taken out.new) (O.has_failed out.old)
+        (O.has_failed out.new) (E.has_failed err.old) (E.has_failed err.new) (E.taken err.old)
+        (E.taken err.new) }
     ensures read { IsErrOf result StreamFault.ReadFailed → ⊥ }
-    ensures written { IsErrOf result StreamFault.WriteFailed → streams.new.at.print_failed ≡ true }
-    ensures kept { server_side streams.new.at ≡ server_side streams.old.at }
+    ensures written { IsErrOf result StreamFault.WriteFailed → O.has_failed out.new ≡ true }
 {
     let line = heard_line(ordinal, outcome, phase);
     let text = line.as_str().as_bytes();
-    match put(text, &mut streams.out) {
-        Ok(()) => put_failure(alloc, response, &mut streams.out),
+    match put(text, out) {
+        Ok(()) => put_failure(alloc, response, out),
         Err(fault) => {
-            tell(text, &mut streams.err);
+            tell(text, err);
             Err(fault)
         }
     }

@@ -3,14 +3,12 @@ ghost use Rattle.client.specs.Notes.{note};
 ghost use Rattle.prints.specs.Stopping.{Gets};
 ghost use Rattle.prints.specs.Telling.{lost_line};
 ghost use Rattle.shells.specs.Printing.{summary_line};
-ghost use Rattle.shells.specs.Shelling.{TellsMore};
 ghost use Rattle.shells.specs.Talking.{greeting_of, losses_text};
 
-use crate::ways::ShellStreams;
 use client::{Heard, Outcome};
 use itoa::Buffer;
 use prints::{heard_line, outcome_name, tell, version_name};
-use streams::{PeerSource, Sink};
+use streams::Sink;
 use wire::Version;
 
 /// Tells the version that was taken and how a line looks, or that there is no conversation.
@@ -31,11 +29,9 @@ pub(crate) fn greet<E: Sink>(has_ended: bool, version: Version, err: &mut E)
 }
 
 /// Tells `heard ORDINAL OUTCOME PHASE` of a summary, and of nothing else.
-pub(crate) fn put_unprinted<S: PeerSource, T: Sink, O: Sink, E: Sink>(
-    heard: &Heard,
-    streams: &mut ShellStreams<S, T, O, E>,
-)
-    ensures { TellsMore streams.old.at streams.new.at (summary_line (note heard.now)) }
+pub(crate) fn put_unprinted<E: Sink>(heard: &Heard, err: &mut E)
+    ensures { Gets (E.has_failed err.old) (E.has_failed err.new) (E.taken err.old) (E.taken err.new)
+        (summary_line (note heard.now)) }
 {
     if let Heard::Summary {
         ordinal,
@@ -44,10 +40,7 @@ pub(crate) fn put_unprinted<S: PeerSource, T: Sink, O: Sink, E: Sink>(
         ..
     } = heard
     {
-        tell(
-            heard_line(*ordinal, *outcome, *phase).as_bytes(),
-            &mut streams.err,
-        );
+        tell(heard_line(*ordinal, *outcome, *phase).as_bytes(), err);
     }
 }
 

@@ -1,14 +1,14 @@
 //! A client at a shell: request lines go in, and what a server answers comes out.
-ghost use Rattle.std.specs.Prelude.{◌≡◌, ◌∷◌, ◌⊎◌, [], List, ℕ, true, Some, None, IfOk, IfErr, IsErrOf};
+ghost use Rattle.std.specs.Prelude.{◌≡◌, ◌∷◌, ◌++◌, ◌⊎◌, [], List, ℕ, true, Some, IfOk, IfErr, IsErrOf};
 ghost use Rattle.std.specs.Option.{option_map};
 ghost use Rattle.std.specs.Result.{result_err};
 ghost use Rattle.scripts.specs.Rows.{request_line_of};
 ghost use Rattle.scripts.specs.Views.{Text, script_request_view};
 ghost use Rattle.streams.specs.Failing.{StaysSound, UnlessTold};
 ghost use Rattle.streams.specs.Reading.{LetsRead};
-ghost use Rattle.shells.specs.Talking.{FailsToPut, IsAt, IsServersTurn, Stands, first_place};
+ghost use Rattle.shells.specs.Talking.{FailsToPut, IsAt, IsServersTurn, first_place};
 ghost use Rattle.shells.specs.Accounting.{Accounts};
-ghost use Rattle.shells.specs.Shelling.{Does, IsAsked, IsSound, IsTurnAfter, IsTurnWithin, Progress, Runs, Shells, Takes, TakesByte, if_filled};
+ghost use Rattle.shells.specs.Shelling.{DoesMore, IsAsked, IsSound, IsTurnAfter, IsTurnWithin, Progress, Reaches, Runs, Shells, Takes, TakesByte, if_filled};
 ghost use Rattle.shells.specs.Streams.{Streams};
 
 use crate::caller::Caller;
@@ -53,7 +53,8 @@ impl Conversation {
     ) -> Result<(), StreamFault>
         requires { LetsRead S.may_read (λ s. IsAsked streams.old.at self.old.caller (S.left s)) }
         ensures begins { IsAt self.old.caller first_place
-            → Stands (result_err result) streams.old.at streams.new.at [] (IsAt self.new.caller) }
+            → DoesMore (option_map StopReason.Broken (result_err result)) streams.old.at streams.new.at
+            [] self.new.caller }
         ensures begun { self.new.begun ≡ self.old.begun }
         ensures number { self.new.number ≡ self.old.number }
         ensures read { IsErrOf result StreamFault.ReadFailed → streams.new.at.read_failed ≡ true }
@@ -135,9 +136,9 @@ impl Conversation {
     ) -> Result<(), StopReason>
         requires { LetsRead S.may_read (λ s. IsTurnAfter streams.old.at self.old.caller (S.left s)) }
         ensures sends { (start : Streams) (done : List (ℕ × Text))
-            → Stands None start streams.old.at done (IsAt self.old.caller)
-            → Does (result_err result) start streams.new.at done
-            (if_filled self.old.number self.old.begun.items) (IsAt self.new.caller) }
+            → Reaches start streams.old.at done self.old.caller
+            → DoesMore (result_err result) start streams.new.at
+            (done ++ if_filled self.old.number self.old.begun.items) self.new.caller }
         ensures begun { self.new.begun ≡ self.old.begun }
         ensures number { self.new.number ≡ self.old.number }
         ensures read { IsErrOf result (StopReason.Broken StreamFault.ReadFailed)
@@ -168,9 +169,9 @@ impl Conversation {
         requires { LetsRead S.may_read (λ s. IsTurnAfter streams.old.at self.old.caller (S.left s)) }
         ensures submits { (start : Streams) (done : List (ℕ × Text)) (line : Text)
             → request_line_of line ≡ Some (script_request_view request)
-            → Stands None start streams.old.at done (IsAt self.old.caller)
-            → Does (option_map StopReason.Broken (result_err result)) start streams.new.at done
-            ((self.old.number, line) ∷ []) (IsAt self.new.caller) }
+            → Reaches start streams.old.at done self.old.caller
+            → DoesMore (option_map StopReason.Broken (result_err result)) start streams.new.at
+            (done ++ (self.old.number, line) ∷ []) self.new.caller }
         ensures begun { self.new.begun ≡ self.old.begun }
         ensures number { self.new.number ≡ self.old.number }
         ensures read { IsErrOf result StreamFault.ReadFailed → streams.new.at.read_failed ≡ true }

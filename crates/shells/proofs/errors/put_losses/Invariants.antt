@@ -1,8 +1,8 @@
-use Rattle.std.proofs.Common.{take}
-use Rattle.prints.specs.Prelude.{Gets}
-use Rattle.shells.specs.Prelude.{losses_text}
+use Rattle.shells.proofs.Words.{take, Gets, losses_text}
 use Rattle.shells.proofs.errors.put_losses.Given as goal
 
 -- those before it are told
 abbrev pub invariant-loop-ordinal : goal.invariant-loop-ordinal
-invariant-loop-ordinal g l = Gets (g.E.Sink.has_failed l.fn.err) (g.E.Sink.has_failed l.err) (g.E.Sink.taken l.fn.err) (g.E.Sink.taken l.err) (losses_text (take l.ordinal-index l.losses))
+invariant-loop-ordinal g l =
+    Gets (g.E.Sink.has_failed l.fn.err) (g.E.Sink.has_failed l.err) (g.E.Sink.taken l.fn.err) (g.E.Sink.taken l.err)
+    (losses_text (take l.ordinal-index l.losses))

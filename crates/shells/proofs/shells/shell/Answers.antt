@@ -1,32 +1,33 @@
-use Rattle.std.proofs.Common.{[], ap, refl, None, Err}
-use Rattle.streams.specs.declared.fault.StreamFault.TheVariants.{ReadFailed, WriteFailed}
-use Rattle.prints.specs.Prelude.{stop_text}
-use Rattle.shells.proofs.Accounted.{accounts}
-use Rattle.shells.proofs.Followed.{shell_stops}
-use Rattle.prints.proofs.Gets.{gets_none}
-use Rattle.shells.proofs.Stops.{never_failed, sound_unless}
+use Rattle.shells.proofs.Words.{[], ap, refl, None, Some, Err, ReadFailed, WriteFailed, stop_text, fault_in, gets_none}
+use Rattle.shells.proofs.Accounted.{accounts, is_sound, so_far}
+use Rattle.shells.proofs.Followed.{sound_unless, stop_of}
 use Rattle.shells.proofs.shells.shell.Goals as goal
 
 pub run-requires : goal.run-requires
 run-requires g c = c.requires
 
-pub returns-in-Ok-clause-shells : goal.returns-in-Ok-clause-shells
-returns-in-Ok-clause-shells g c = record { stop = None; ends = refl; cause = tt; told = c.run.new.streams.at.told; deaf = c.run.new.streams.at.deaf; runs = c.in-Ok.ensures.runs; said = gets_none _ _ }
+pub returns-in-Ok : goal.returns-in-Ok
+returns-in-Ok g c =
+    let so = so_far c.in-Ok.ensures.runs.does.talked in
+    let now = c.run.new.streams.at in
+    record {
+      shells = record { stop = None; ends = refl; cause = tt; told = now.told; deaf = now.deaf; runs = c.in-Ok.ensures.runs; said = gets_none _ _ };
+      accounts = accounts now.told now.deaf [] so (gets_none _ _);
+      sound = λ n. (c.in-Ok.ensures.input, is_sound now.told now.deaf so (λ e. cc) (λ e. cc));
+    }
 
-pub returns-in-Err-clause-shells : goal.returns-in-Err-clause-shells
-returns-in-Err-clause-shells g c = shell_stops (λ e. rw (← c.streams.view_is) at (c.in-Err.ensures.read (ap Err e))) (λ e. rw (← c.streams.view_is) at (c.in-Err.ensures.written (ap Err e))) (rw (← c.streams.view_is) at c.in-Err.ensures.runs) c.put_stop.ensures.status c.put_stop.ensures.text
-
-pub returns-in-Ok-clause-accounts : goal.returns-in-Ok-clause-accounts
-returns-in-Ok-clause-accounts g c = accounts c.run.new.streams.at.told c.run.new.streams.at.deaf [] c.in-Ok.ensures.runs.does.stands (gets_none _ _)
-
-pub returns-in-Err-clause-accounts : goal.returns-in-Err-clause-accounts
-returns-in-Err-clause-accounts g c = accounts (g.E.Sink.taken c.put_stop.new.err) (g.E.Sink.has_failed c.put_stop.new.err) (stop_text c.in-Err.stop) (rw (← c.streams.view_is) at c.in-Err.ensures.runs.does.stands) c.put_stop.ensures.text
-
-pub returns-in-Ok-clause-sound : goal.returns-in-Ok-clause-sound
-returns-in-Ok-clause-sound g c = λ n. let m = c.in-Ok.ensures.runs.does.stands.moves in (c.in-Ok.ensures.input, record { source = m.source (λ e. cc); sink = (m.sinks (λ e. cc)).0; out = (m.sinks (λ e. cc)).1 })
-
-pub returns-in-Err-clause-sound : goal.returns-in-Err-clause-sound
-returns-in-Err-clause-sound g c = λ n.
-    let m = rw (← c.streams.view_is) at c.in-Err.ensures.runs.does.stands.moves in
-    let never = sound_unless c.in-Err.stop c.put_stop.ensures.status n in
-    (c.in-Err.ensures.input (never_failed ReadFailed refl c.put_stop.ensures.status n), record { source = m.source (never ReadFailed refl); sink = (m.sinks (never WriteFailed refl)).0; out = (m.sinks (never WriteFailed refl)).1 })
+pub returns-in-Err : goal.returns-in-Err
+returns-in-Err g c =
+    let runs = rw (← c.streams.view_is) at c.in-Err.ensures.runs in
+    let so = so_far runs.does.talked in
+    let told = g.E.Sink.taken c.put_stop.new.err in
+    let deaf = g.E.Sink.has_failed c.put_stop.new.err in
+    let never = sound_unless c.in-Err.stop c.put_stop.ensures.status in
+    let cause = rw (← c.streams.view_is) at (stop_of c.in-Err.stop _ _ (λ e. c.in-Err.ensures.read (ap Err e)) (λ e. c.in-Err.ensures.written (ap Err e))) in
+    record {
+      shells = record { stop = Some c.in-Err.stop; ends = c.put_stop.ensures.status; cause = cause; told = _; deaf = _; runs = runs; said = c.put_stop.ensures.text };
+      accounts = accounts told deaf (stop_text c.in-Err.stop) so c.put_stop.ensures.text;
+      sound = λ n.
+          let unread = never n ReadFailed refl in
+          (c.in-Err.ensures.input (λ e. unread (ap (λ s. fault_in (Some s)) e)), is_sound told deaf so unread (never n WriteFailed refl));
+    }

@@ -6,4 +6,5 @@ converse-asked-requires g c = c.requires
 
 pub returns-clause-asks : goal.returns-clause-asks
 returns-clause-asks g c = λ p at.
-    asked (g.E.Sink.taken c.part.new.err) (g.E.Sink.has_failed c.part.new.err) (rw (← c.streams.view_is) at (c.converse-asked.ensures.converses p at)) c.part.ensures.version c.part.ensures.gives_up (rw c.err.ensures.value at c.part.ensures.tells)
+    asked (rw (← c.streams.view_is) at (c.converse-asked.ensures.converses p at)) c.part.ensures.version c.part.ensures.gives_up
+    (rw c.err.ensures.value at c.part.ensures.tells)

@@ -1,7 +1,4 @@
-use Rattle.std.proofs.Common.{[], append-nil, subst}
-use Rattle.std.specs.Io.KnownBytes.{Appends}
-use Rattle.std.proofs.KnownBytes.{Appends-trans}
-use Rattle.shells.specs.Prelude.{sent_out}
+use Rattle.shells.proofs.Words.{[], append-nil, subst, Appends, Appends-trans, sent_out}
 use Rattle.shells.proofs.Heard.{written_some, written_then}
 use Rattle.shells.proofs.caller.Caller.converse.Goals as goal
 
@@ -16,10 +13,11 @@ hear_all-requires g c = λ s taken n few turn. c.requires s taken n few (λ p at
 pub returns-in-Ok-clause-converses : goal.returns-in-Ok-clause-converses
 returns-in-Ok-clause-converses g c = λ p at.
     let out = c.in-Ok.ensures.out p.rest at.fits in
-    rw (← c.streams.view_is) (written_then (g.T.Sink.taken c.write_out.new.sink) (g.T.Sink.has_failed c.write_out.new.sink) out.0 out.1.0 out.1.1 c.in-Ok.ensures.sound (c.hear_all.ensures.hears (sent_out p out.0) (record { fits = out.2; version = at.version })))
+    let h = c.hear_all.ensures.hears (sent_out p out.0) (record { fits = out.2; version = at.version }) in
+    rw (← c.streams.view_is) (written_then _ _ out.0 out.1.0 out.1.1 c.in-Ok.ensures.sound h)
 
 -- what waited wasn't all written
 pub returns-in-Err-clause-converses : goal.returns-in-Err-clause-converses
 returns-in-Err-clause-converses g c = λ p at.
     let out = c.in-Err.ensures.out p.rest at.fits in
-    rw (← c.streams.view_is) (written_some (g.T.Sink.taken c.write_out.new.sink) (g.T.Sink.has_failed c.write_out.new.sink) out.0 c.in-Err.fault c.in-Err.ensures.fault out.1 out.2 at.version c.in-Err.ensures.sound)
+    rw (← c.streams.view_is) (written_some _ _ out.0 c.in-Err.ensures.fault out.1 out.2 at.version c.in-Err.ensures.sound)

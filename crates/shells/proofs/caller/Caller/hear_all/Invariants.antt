@@ -1,5 +1,4 @@
-use Rattle.shells.specs.Prelude.{Hears, IsAt, Place}
-use Rattle.std.proofs.Common.{None}
+use Rattle.shells.proofs.Words.{Hears, IsAt, Place, None}
 use Rattle.shells.proofs.caller.Caller.hear_all.Given as goal
 
 -- what was heard so far is printed

@@ -1,5 +1,4 @@
-use Rattle.std.proofs.Common.{◌++◌, ◌+◌, take, drop, subst, Some}
-use Rattle.shells.specs.Prelude.{DoesAll}
+use Rattle.shells.proofs.Words.{◌++◌, ◌+◌, take, drop, subst, StopsIn}
 use Rattle.shells.proofs.Followed.{at_place}
 use Rattle.shells.proofs.shells.Conversation.take.Goals as goal
 
@@ -7,7 +6,9 @@ pub returns-in-Err-clause-takes : goal.returns-in-Err-clause-takes
 returns-in-Err-clause-takes g c = λ start script p.
     let t = c.args.piece.now in
     let i = c.loop-byte.byte-index in
-    subst (DoesAll (Some c.in-Err.stop) start c.take_byte.new.streams.at) (at_place script t i c.loop-byte-test.true) (c.in-Err.ensures.takes start (script ++ take i t) (c.loop-byte.invariant start script p) (drop (i + 1) t))
+    subst (StopsIn c.in-Err.stop start c.take_byte.new.streams.at) (at_place script t i c.loop-byte-test.true)
+    (c.in-Err.ensures.takes start (script ++ take i t) (c.loop-byte.invariant start script p) (drop (i + 1) t))
 
 pub take_byte-requires : goal.take_byte-requires
-take_byte-requires g c = λ s taken n few turn. c.requires s taken n few (λ start script p. turn start (script ++ take c.loop-byte.byte-index c.args.piece.now) (c.loop-byte.invariant start script p))
+take_byte-requires g c = λ s taken n few turn.
+    c.requires s taken n few (λ start script p. turn start (script ++ take c.loop-byte.byte-index c.args.piece.now) (c.loop-byte.invariant start script p))

@@ -1,7 +1,7 @@
-use Rattle.std.proofs.Common.{List, ℕ, ◌++◌, take}
-use Rattle.shells.specs.Prelude.{Progress, Streams}
+use Rattle.shells.proofs.Words.{List, ℕ, ◌++◌, take, Progress, Streams}
 use Rattle.shells.proofs.shells.Conversation.take.Given as goal
 
 -- the bytes before it are done
 abbrev pub invariant-loop-byte : goal.invariant-loop-byte
-invariant-loop-byte g l = (start : Streams) (script : List ℕ) → Progress start l.fn.streams.at script l.fn.self → Progress start l.streams.at (script ++ take l.byte-index l.piece) l.self
+invariant-loop-byte g l = (start : Streams) (script : List ℕ) → Progress start l.fn.streams.at script l.fn.self
+    → Progress start l.streams.at (script ++ take l.byte-index l.piece) l.self
