@@ -1,5 +1,2 @@
-pub mod Stops
-pub mod Taken
-pub mod Turned
+pub mod Heard
 pub mod Looped
-pub mod Broken

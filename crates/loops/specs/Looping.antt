@@ -1,31 +1,28 @@
 -- What a client and a server in one process print and leave.
-use Rattle.std.specs.Prelude.{◌≡◌, ◌⊎◌, ◌≤◌, ℕ, Bool, false, List, [], ◌++◌, length, Option, IsSome, Result, Ok, Err}
+use Rattle.std.specs.Prelude.{◌≡◌, ◌⊎◌, ◌≤◌, ℕ, Bool, false, List, [], ◌++◌, length, Option, Some, IsSome, Result, Ok, Err}
 use Rattle.std.specs.Io.KnownBytes.{Appends, Consumes}
-use Rattle.wire.specs.Framing.{Opened, at_server}
-use Rattle.wire.specs.Reader.{state}
+use Rattle.wire.specs.Framing.{Opened}
 use Rattle.session.specs.Session.{Setting}
 use Rattle.scripts.specs.Rows.{request_line_of}
 use Rattle.scripts.specs.Views.{ScriptRequestView}
 use Rattle.scripts.specs.declared.fault.ScriptFault.{ScriptFault}
-use Rattle.scripts.specs.Script.{filled_lines, unreadable, IsRefused}
+use Rattle.scripts.specs.Script.{IsRefused}
 use Rattle.shells.specs.declared.caller.Caller.{Caller}
 use Rattle.loops.specs.declared.loops.Pair.{Pair}
 use Rattle.prints.specs.declared.stop.StopReason.{StopReason}
 use Rattle.prints.specs.declared.stop.StopReason.TheVariants.{Unreadable, Broken}
 use Rattle.prints.specs.Stopping.{Gets, IsStopOf, stop_text}
 use Rattle.shells.specs.Talking.{Place, IsAt, text_of, place_after}
-use Rattle.loops.specs.Turns.{Turns, no_turns, IsQuiet, AreQuiet, after_line, talk_for, turns_of}
+use Rattle.loops.specs.Turns.{Turns, no_turns, AreQuiet, talk_for, turns_of}
 use Rattle.loops.specs.Ways.{Way, Ways}
 use Rattle.loops.specs.Passing.{FailsToRead, FailsToWrite, Passes}
 use Rattle.server.specs.Serving.{Rest, find, opened}
-use Rattle.client.specs.Rest.{Rest as ClientRest}
 use Rattle.streams.specs.declared.fault.StreamFault.{StreamFault}
 use Rattle.serves.specs.declared.liveness.Liveness.{Liveness}
-use Rattle.serves.specs.declared.liveness.Liveness.TheVariants.{Open}
 use Rattle.serves.specs.Conversing.{Talk, with_talk}
 use Rattle.streams.specs.Fronts.{AppendsFront}
 use Rattle.streams.specs.Limits.{max_piece}
-use Rattle.serves.specs.Settling.{Grows, liveness_of, told_by}
+use Rattle.serves.specs.Settling.{Grows, Stands, TakesUp}
 use Rattle.prints.specs.Telling.{entries_text}
 
 -- a stop at a line that can't be read has the number of the first such line
@@ -39,45 +36,42 @@ TellsLine script had_failed has_failed before after = (n : ℕ)
     × IsRefused request_line_of script (ScriptFault.Unreadable n)
     × Gets had_failed has_failed before after (stop_text (Unreadable n))
 
--- A line of the script can't be read, and nothing was run: all is as it was before.
-pub record RunsNothing {S W : Type 0} (script : List ℕ) (server server_now : S) (ways ways_now : W)
-    : Type 0 where
-  pub line : IsSome (unreadable request_line_of (filled_lines script))
-  pub same_server : server_now ≡ server
-  pub same_ways : ways_now ≡ ways
+-- Nothing was run: all is as it was before.
+abbrev pub RunsNothing : {S W : Type 0} → S → S → W → W → Type 0
+RunsNothing server server_now ways ways_now = (server_now ≡ server) × (ways_now ≡ ways)
 
 -- No session was opened, or one, which lives on; the ledger has grown by some entries, or by none.
 abbrev pub HasLooped : {G : Type 0} → Rest G → (Rest G → Type 0) → Type 0
 HasLooped r Now = Now r ⊎ Grows (opened r) r.next Now
 
--- A fault came while a client heard these bytes: it has heard a beginning of them, and what is printed is what is printed of that, or a beginning
--- where the fault came on the way.
-pub record HearsFront (p : Place) (bytes : List ℕ) (before after : Option (List ℕ)) : Type 0 where
+-- A fault came while a client that stood there heard these bytes: it has heard a beginning of them. This text is printed, and behind it what is printed
+-- of what it heard, or a beginning where the fault came on the way.
+pub record HearsFront (text : List ℕ) (p : Place) (bytes : List ℕ)
+    (before after : Option (List ℕ)) : Type 0 where
   pub heard : List ℕ
   pub rest : List ℕ
   pub parts : heard ++ rest ≡ bytes
-  pub prints : AppendsFront before after (text_of p heard)
-
--- A fault came while it read an answer, at which it stood there, when these bytes were read and this text was printed: it has heard a beginning of the
--- answer, and at most 4,096 bytes more were read and not heard.
-pub record ReadsUpTo (behind text : List ℕ) (p : Place) (answer : List ℕ)
-    (left left_now before after : Option (List ℕ)) : Type 0 where
-  pub heard : List ℕ
-  pub rest : List ℕ
-  pub unheard : List ℕ
-  pub parts : heard ++ rest ≡ answer
-  pub read : Consumes left left_now (behind ++ (heard ++ unheard))
-  pub few : length unheard ≤ max_piece
   pub prints : AppendsFront before after (text ++ text_of p heard)
 
--- a client of which this item isn't whole
-abbrev pub with_item : ClientRest → Opened → ClientRest
-with_item r i = record { wish = r.wish; knows = r.knows; item = i; unsent = r.unsent }
+-- Such a fault came while it read and heard an answer, behind these bytes: at most 4,096 bytes more were read and not heard.
+pub record ReadsUpTo (behind text : List ℕ) (p : Place) (answer : List ℕ)
+    (left left_now before after : Option (List ℕ)) : Type 0 where
+  pub hears : HearsFront text p answer before after
+  pub unheard : List ℕ
+  pub read : Consumes left left_now (behind ++ (hears.heard ++ unheard))
+  pub few : length unheard ≤ max_piece
+
+-- the place of a client of which this item isn't whole
+abbrev pub with_item : Place → Opened → Place
+with_item p i = record {
+  rest = record { wish = p.rest.wish; knows = p.rest.knows; item = i; unsent = p.rest.unsent };
+  version = p.version;
+}
 
 -- The client stands there; of one that has ended it isn't said which item of its bytes isn't whole.
 pub record StandsAt (c : Caller) (p : Place) : Type 0 where
   pub item : Opened
-  pub at : IsAt c (record { rest = with_item p.rest item; version = p.version })
+  pub at : IsAt c (with_item p item)
   pub same : p.rest.knows.over ≡ false → item ≡ p.rest.item
 
 -- The client has heard all of these bytes, and what is printed of them was.
@@ -85,29 +79,22 @@ pub record IsHeardAll (p : Place) (bytes : List ℕ) (c : Caller) (before after 
   pub stands : StandsAt c (place_after p bytes)
   pub printed : Appends before after (text_of p bytes)
 
-module _ {G : Type 0} (r : Rest G) (conn : ℕ) where
-  -- A fault broke it off, which is I1 only if a way breaks at its source, and I2 only if a sink has failed: how far it had come is told.
-  pub record Stops (fault : StreamFault) (start now : Ways) (Now : Rest G → Type 0) (There : Type 0)
-      : Type 0 where
-    pub lives : Grows r conn Now
-    pub cause : IsStopOf (Broken fault) (FailsToRead start now) (FailsToWrite now)
-    pub there : There
+-- a stop is I1 only if a way breaks at its source, and I2 only if a sink has failed
+abbrev pub HasCause : StopReason → Ways → Ways → Type 0
+HasCause stop start now = IsStopOf stop (FailsToRead start now) (FailsToWrite now)
 
-  -- It came so far, or a fault broke it off there.
-  abbrev pub Goes : Ways → Ways → (Rest G → Type 0) → Type 0 → Type 0 → Result (Unit {0}) StreamFault
-      → Type 0
-  Goes start now Now Comes There (Ok x) = Comes
-  Goes start now Now Comes There (Err fault) = Stops fault start now Now There
+-- It came so far; or a fault broke it off there, and the session lives.
+abbrev pub Goes : {G : Type 0} → Rest G → ℕ → Ways → Ways → (Rest G → Type 0) → Type 0 → Type 0
+    → Result (Unit {0}) StreamFault → Type 0
+Goes r conn start now Now Came There (Ok x) = Came
+Goes r conn start now Now Came There (Err fault) =
+    Grows r conn Now × HasCause (Broken fault) start now × There
 
 module _ {G : Type 0} (r : Rest G) (conn : ℕ) (S : Setting) where
-  -- The session is as these bytes of its client leave it, and this is all that it has put out.
-  pub record Sits (Now : Rest G → Type 0) (sent put_out : List ℕ) (liveness : Liveness) : Type 0 where
-    pub unfinished : Opened
-    pub now : Now (with_talk r conn unfinished (told_by r conn S sent).ledger
-        (told_by r conn S sent).kept)
-    pub out : put_out ≡ (told_by r conn S sent).out
-    pub stands : liveness ≡ liveness_of (told_by r conn S sent).kept.ended
-    pub goes_on : liveness ≡ Open → unfinished ≡ state at_server at_server.start sent
+  -- The session took these bytes of its client, whole or up to its end, and this is all that it has put out.
+  abbrev pub Sits : (Rest G → Type 0) → List ℕ → List ℕ → Liveness → Type 0
+  Sits Now sent put_out liveness =
+      TakesUp r conn S (Stands r conn S Now (Some []) (Some put_out)) [] sent liveness
 
   -- Both have come so far, and all passed over the streams and is printed. The session lives, and the ledger has at most grown.
   pub record Comes (start now : Ways) (t : Turns) (pair : Pair) (Now : Rest G → Type 0) : Type 0
@@ -119,24 +106,17 @@ module _ {G : Type 0} (r : Rest G) (conn : ℕ) (S : Setting) where
       pub down : Passes start.down now.down (talk_for S conn r.ledger t.sent).out
       pub printed : Appends start.out now.out t.text
 
-  -- the same after a line more, and after it no answer is still to come either
-  pub record ComesOn (start now : Ways) (t : Turns) (l : ℕ × ScriptRequestView) (pair : Pair)
-      (Now : Rest G → Type 0) : Type 0 where
-    pub comes : Comes start now (after_line S conn r.ledger t l) pair Now
-    pub quiet : IsQuiet t → IsQuiet (after_line S conn r.ledger t l)
-
 -- A session was opened with this number, the next, on a server on which none lives, and a client has heard nothing of it.
 pub record IsOpened {G : Type 0} (r : Rest G) (S : Setting) (conn : ℕ) (pair : Pair) (Now : Rest G → Type 0) : Type 0 where
   pub number : conn ≡ r.next
   pub found : IsSome (find conn (opened r).sessions)
   pub comes : (at : Ways) → Comes (opened r) conn S at at no_turns pair Now
 
--- A loop has come somewhere since its sources, near the client and far from it, let themselves be read of what waits.
+-- A loop has come so far since its sources, near the client and far from it, let themselves be read of what waits.
 pub record IsOn {G : Type 0} (Near Far : Way → Type 0) (setting_at : Rest G → Setting) (conn : ℕ)
-    (Now : Rest G → Type 0) (now : Ways) (pair : Pair) : Type 0 where
+    (Now : Rest G → Type 0) (now : Ways) (pair : Pair) (turns : Turns) : Type 0 where
   pub rest : Rest G
   pub start : Ways
-  pub turns : Turns
   pub found : IsSome (find conn rest.sessions)
   pub near : Near start.down
   pub far : Far start.up
@@ -163,5 +143,5 @@ module _ {G : Type 0} (r : Rest G) (S : Setting) (lines : List (ℕ × ScriptReq
     pub printed : Appends start.out last.out all_text
     pub up : Passes start.up last.up end.sent
     pub down : Passes start.down last.down whole_talk.out
-    pub quiet : AreQuiet S r.next r.ledger (turns_of S r.next r.ledger []) lines
+    pub quiet : AreQuiet S r.next r.ledger lines
     pub now : Now (with_talk (opened r) r.next unfinished whole_talk.ledger whole_talk.kept)

@@ -1,6 +1,8 @@
 -- The words of this crate's definitions, as proofs import them.
-pub use Rattle.loops.specs.Turns.{refusal_text, all_sent, Turns, no_turns, with_request, with_refusal, IsQuiet, talk_for, answer_to, due, given, exchanged, line_by, after_line, after_lines, stage_by, stage, stages, stages_of, AreQuiet, turns_of}
+pub use Rattle.loops.specs.Turns.{Turns, place_by, text_by, all_sent, no_turns, asked, with_line, IsQuiet, talk_for, answer_to, due}
+pub use Rattle.loops.specs.Turns.{given, exchanged, next_turn, stage, turns_of, AreQuiet}
 pub use Rattle.loops.specs.Ways.{Way, Ways}
 pub use Rattle.loops.specs.Passing.{GivesNoMore, GivesSome, Passes, Alters, BreaksAtSource, FailsToRead, FailsToWrite, AreWaiting, LetsReadWaiting}
-pub use Rattle.loops.specs.Looping.{Numbers, TellsLine, HasLooped, HearsFront, ReadsUpTo, with_item, StandsAt, IsHeardAll, Sits, Comes, ComesOn, Stops, Goes, IsOn, IsOpened, end, whole_talk, all_text, Loops}
-pub use Rattle.loops.specs.Breaking.{BreaksIn, BreaksAt, BreaksBehind, Breaks, EndsAt}
+pub use Rattle.loops.specs.Looping.{Numbers, TellsLine, HasLooped, HearsFront, ReadsUpTo, with_item, StandsAt, IsHeardAll, HasCause, Goes, Sits}
+pub use Rattle.loops.specs.Looping.{Comes, IsOn, IsOpened, end, whole_talk, all_text, Loops}
+pub use Rattle.loops.specs.Breaking.{BreaksIn, BreaksAt, Exchanges, RunsLines, BreaksBehind, Breaks, EndsAt}

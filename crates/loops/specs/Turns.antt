@@ -1,6 +1,7 @@
 -- What a client and a session make of the lines of a script, an exchange after each: what the client sends, what the session answers, and what
 -- is printed of it.
-use Rattle.std.specs.Prelude.{◌≡◌, ℕ, false, List, [], ◌∷◌, ◌++◌, length, drop, Option, Some, None}
+use Rattle.std.specs.Prelude.{◌≡◌, ℕ, false, List, [], ◌++◌, length, take, drop, Option, Some, None}
+use Rattle.std.specs.List.{fold}
 use Rattle.std.specs.Option.{option_map_or}
 use Rattle.messages.specs.View.{RequestView}
 use Rattle.engine.specs.Views.{EntryView}
@@ -14,9 +15,15 @@ use Rattle.prints.specs.Names.{refusal_code}
 use Rattle.prints.specs.Telling.{refused_line}
 use Rattle.shells.specs.Talking.{Place, first_place, submitted, place_after, text_of}
 
--- what is printed of a line whose request is refused; want of memory is no refusal
-abbrev pub refusal_text : ℕ → SubmitFault → List ℕ
-refusal_text n why = option_map_or (refused_line n) (refusal_code why) []
+-- where a client stands once a request is submitted: it is accepted, or refused
+abbrev pub place_by : Option SubmitFault → Place → RequestView → Place
+place_by None p q = submitted p q
+place_by (Some why) p q = p
+
+-- what is printed of a line with this number then: its refusal; want of memory is none
+abbrev pub text_by : Option SubmitFault → ℕ → List ℕ
+text_by None n = []
+text_by (Some why) n = option_map_or (refused_line n) (refusal_code why) []
 
 -- where a client stands once all that it has to send was taken out
 abbrev pub all_sent : Place → Place
@@ -35,14 +42,17 @@ pub record Turns : Type 0 where
 abbrev pub no_turns : Turns
 no_turns = record { place = first_place; sent = []; text = [] }
 
--- a request is accepted
-abbrev pub with_request : Turns → RequestView → Turns
-with_request t q = record { place = submitted t.place q; sent = t.sent; text = t.text }
+-- what a line asks for, at the version that was heard
+abbrev pub asked : Turns → ℕ × ScriptRequestView → RequestView
+asked t l = meant t.place.version l.1
 
--- a request is refused
-abbrev pub with_refusal : Turns → ℕ → SubmitFault → Turns
-with_refusal t n why =
-    record { place = t.place; sent = t.sent; text = t.text ++ refusal_text n why }
+-- A line is submitted: its request is accepted, or refused, which is printed.
+abbrev pub with_line : Turns → ℕ × ScriptRequestView → Turns
+with_line t l = record {
+  place = place_by (refuses t.place.rest.knows (asked t l)) t.place (asked t l);
+  sent = t.sent;
+  text = t.text ++ text_by (refuses t.place.rest.knows (asked t l)) l.0;
+}
 
 -- no answer is still to come; a GOODBYE has none
 abbrev pub IsQuiet : Turns → Type 0
@@ -61,58 +71,31 @@ module _ (S : Setting) (conn : ℕ) (ledger : List EntryView) where
   abbrev pub due : Turns → List ℕ
   due t = answer_to t.sent t.place.rest.unsent
 
-  -- The client has sent these bytes more, and hears what the session answers to them.
+  -- All that the client has to send was taken out; it has sent these bytes of it, and heard what the session answers to them.
   abbrev pub given : Turns → List ℕ → Turns
-  given t more = record {
-    place = place_after t.place (answer_to t.sent more);
-    sent = t.sent ++ more;
-    text = t.text ++ text_of t.place (answer_to t.sent more);
+  given t bytes = record {
+    place = place_after (all_sent t.place) (answer_to t.sent bytes);
+    sent = t.sent ++ bytes;
+    text = t.text ++ text_of (all_sent t.place) (answer_to t.sent bytes);
   }
 
   -- An exchange: the client sends all that it has to send, and hears all that the session answers.
   abbrev pub exchanged : Turns → Turns
-  exchanged t = given (record { place = all_sent t.place; sent = t.sent; text = t.text })
-      t.place.rest.unsent
+  exchanged t = given t t.place.rest.unsent
 
-  -- A line with this number: its request is accepted, and an exchange follows; or the client refuses it, which is printed.
-  abbrev pub line_by : Option SubmitFault → Turns → ℕ → RequestView → Turns
-  line_by None t n q = exchanged (with_request t q)
-  line_by (Some why) t n q = with_refusal t n why
+  -- an exchange, and then a line is submitted
+  abbrev pub next_turn : Turns → ℕ × ScriptRequestView → Turns
+  next_turn t l = with_line (exchanged t) l
 
-  -- the same of what a line says, at the version that was heard
-  abbrev pub after_line : Turns → ℕ × ScriptRequestView → Turns
-  after_line t l = line_by (refuses t.place.rest.knows (meant t.place.version l.1)) t l.0
-      (meant t.place.version l.1)
+  -- Where the two stand once these lines are submitted: an exchange, in which the version is heard, and then a line, and so on. The last exchange
+  -- is still to come.
+  abbrev pub stage : List (ℕ × ScriptRequestView) → Turns
+  stage lines = fold next_turn no_turns lines
 
-  -- Where the two stand while the line is done, and what the session answers there: nothing where its request is refused.
-  abbrev pub stage_by : Option SubmitFault → Turns → ℕ → RequestView → Turns × List ℕ
-  stage_by None t n q = (with_request t q, due (with_request t q))
-  stage_by (Some why) t n q = (with_refusal t n why, [])
-
-  -- the same of what a line says, at the version that was heard
-  abbrev pub stage : Turns → ℕ × ScriptRequestView → Turns × List ℕ
-  stage t l = stage_by (refuses t.place.rest.knows (meant t.place.version l.1)) t l.0
-      (meant t.place.version l.1)
-
-  -- Lines, in order.
-  abbrev pub after_lines : Turns → List (ℕ × ScriptRequestView) → Turns
-  after_lines t [] = t
-  after_lines t (l ∷ ls) = after_lines (after_line t l) ls
-
-  -- the stage of each
-  abbrev pub stages : Turns → List (ℕ × ScriptRequestView) → List (Turns × List ℕ)
-  stages t [] = []
-  stages t (l ∷ ls) = stage t l ∷ stages (after_line t l) ls
-
-  -- Before the lines and after each of them no answer is still to come.
-  abbrev pub AreQuiet : Turns → List (ℕ × ScriptRequestView) → Type 0
-  AreQuiet t [] = IsQuiet t
-  AreQuiet t (l ∷ ls) = IsQuiet t × AreQuiet (after_line t l) ls
-
-  -- the version is heard, and then come the lines
+  -- and after that
   abbrev pub turns_of : List (ℕ × ScriptRequestView) → Turns
-  turns_of ls = after_lines (exchanged no_turns) ls
+  turns_of lines = exchanged (stage lines)
 
-  -- the stages of that
-  abbrev pub stages_of : List (ℕ × ScriptRequestView) → List (Turns × List ℕ)
-  stages_of ls = (no_turns, due no_turns) ∷ stages (exchanged no_turns) ls
+  -- After the version was heard, and after each of these lines, no answer is still to come.
+  abbrev pub AreQuiet : List (ℕ × ScriptRequestView) → Type 0
+  AreQuiet lines = (n : ℕ) → IsQuiet (turns_of (take n lines))

@@ -1,17 +1,17 @@
 //! A client and a server in one process, over the two ends of a connection.
-ghost use Rattle.std.specs.Prelude.{◌≡◌, ◌⊎◌, ◌<◌, ◌∷◌, List, [], drop, true, None, IsSome, IfErr, OnOk, MatchResult};
+ghost use Rattle.std.specs.Prelude.{◌≡◌, ◌⊎◌, ◌<◌, ◌++◌, ℕ, List, [], drop, true, None, IsSome, IfErr, OnOk, MatchResult};
 ghost use Rattle.server.specs.Serving.{Rest, find, setting};
 ghost use Rattle.server.specs.Views.{Fits};
 ghost use Rattle.loops.specs.Passing.{FailsToRead, FailsToWrite, LetsReadWaiting};
-ghost use Rattle.loops.specs.Looping.{Comes, ComesOn, Goes, HasLooped, IsOn, IsOpened, Loops, Numbers, RunsNothing, TellsLine};
-ghost use Rattle.loops.specs.Breaking.{Breaks, BreaksAt, BreaksIn, EndsAt};
+ghost use Rattle.loops.specs.Looping.{Comes, Goes, HasCause, HasLooped, IsOn, IsOpened, Loops, Numbers, RunsNothing, TellsLine};
+ghost use Rattle.loops.specs.Breaking.{Breaks, BreaksIn, EndsAt, Exchanges, RunsLines};
 ghost use Rattle.one_by_one.specs.Serving.{IsVacant};
-ghost use Rattle.loops.specs.Turns.{AreQuiet, IsQuiet, Turns, after_lines, answer_to, due, exchanged, given, stage, stages};
+ghost use Rattle.loops.specs.Turns.{Turns, given, no_turns, with_line};
 ghost use Rattle.loops.specs.Ways.{Ways};
 ghost use Rattle.scripts.specs.Rows.{request_line_of};
 ghost use Rattle.scripts.specs.Script.{filled_lines, lines_read, said_requests, unreadable};
 ghost use Rattle.scripts.specs.Views.{script_request_view};
-ghost use Rattle.prints.specs.Stopping.{Ends, IsStopOf, stop_status};
+ghost use Rattle.prints.specs.Stopping.{Ends, stop_status};
 
 use crate::passing::{give, hand_over, next_part, pass};
 use crate::ways::BothWays;
@@ -43,7 +43,8 @@ fn put_out_behind(said: &Buffer, count: usize) -> &[u8]
     behind
 }
 
-/// The client writes a piece of at most 4,096 bytes; the server reads just those, feeds them and works, and hands over what it put out.
+/// The client writes a piece of at most 4,096 bytes of what it has to send; the server reads just those, feeds them and works, and hands over
+/// what it put out.
 fn turn<E: Engine, G: Gate, A: PeerSource, B: Sink, C: PeerSource, D: Sink, O: Sink>(
     pair: &mut Pair,
     server: &mut Server<E, G>,
@@ -51,18 +52,19 @@ fn turn<E: Engine, G: Gate, A: PeerSource, B: Sink, C: PeerSource, D: Sink, O: S
     piece: &[u8],
     ways: &mut BothWays<A, B, C, D, O>,
 ) -> Result<(), StreamFault>
-    requires { IsOn (LetsReadWaiting A.left A.may_read) (LetsReadWaiting C.left C.may_read)
-        (setting E.answer G.welcomes) conn (Fits E.entries server.old) ways.old.at pair.old }
-    ensures { (r : Rest G) (start : Ways) (t : Turns) → IsSome (find conn r.sessions)
-        → Comes r conn (setting E.answer G.welcomes r) start ways.old.at t pair.old
+    requires { (t : Turns) × IsOn (LetsReadWaiting A.left A.may_read)
+        (LetsReadWaiting C.left C.may_read) (setting E.answer G.welcomes) conn
+        (Fits E.entries server.old) ways.old.at pair.old t }
+    ensures { (r : Rest G) (start : Ways) (t : Turns) (done after : List ℕ)
+        → IsSome (find conn r.sessions) → done ++ (piece.now ++ after) ≡ t.place.rest.unsent
+        → Comes r conn (setting E.answer G.welcomes r) start ways.old.at
+        (given (setting E.answer G.welcomes r) conn r.ledger t done) pair.old
         (Fits E.entries server.old)
         → Goes r conn start ways.new.at (Fits E.entries server.new)
         (Comes r conn (setting E.answer G.welcomes r) start ways.new.at
-        (given (setting E.answer G.welcomes r) conn r.ledger t piece.now) pair.new
+        (given (setting E.answer G.welcomes r) conn r.ledger t (done ++ piece.now)) pair.new
         (Fits E.entries server.new))
-        (BreaksIn (setting E.answer G.welcomes r) conn r.ledger start ways.new.at
-        (t, answer_to (setting E.answer G.welcomes r) conn r.ledger t.sent piece.now))
-        result }
+        (BreaksIn (setting E.answer G.welcomes r) conn r.ledger start ways.new.at t) result }
 {
     match pass(pair.caller.alloc, piece, &mut ways.up) {
         Ok(()) => {}
@@ -74,11 +76,7 @@ fn turn<E: Engine, G: Gate, A: PeerSource, B: Sink, C: PeerSource, D: Sink, O: S
         Err(fault) => return Err(fault),
     }
     let answer = put_out_behind(&pair.said, before);
-    match hand_over(&mut pair.caller, answer, &mut ways.down, &mut ways.out) {
-        Ok(()) => {}
-        Err(fault) => return Err(fault),
-    }
-    Ok(())
+    hand_over(&mut pair.caller, answer, &mut ways.down, &mut ways.out)
 }
 
 /// The client writes all that it has to say, in pieces, a turn for each. If an answer is still to come then, the session has none: I3.
@@ -88,19 +86,14 @@ fn exchange<E: Engine, G: Gate, A: PeerSource, B: Sink, C: PeerSource, D: Sink, 
     conn: u64,
     ways: &mut BothWays<A, B, C, D, O>,
 ) -> Result<(), StreamFault>
-    requires { IsOn (LetsReadWaiting A.left A.may_read) (LetsReadWaiting C.left C.may_read)
-        (setting E.answer G.welcomes) conn (Fits E.entries server.old) ways.old.at pair.old }
+    requires { (t : Turns) × IsOn (LetsReadWaiting A.left A.may_read)
+        (LetsReadWaiting C.left C.may_read) (setting E.answer G.welcomes) conn
+        (Fits E.entries server.old) ways.old.at pair.old t }
     ensures { (r : Rest G) (start : Ways) (t : Turns) → IsSome (find conn r.sessions)
         → Comes r conn (setting E.answer G.welcomes r) start ways.old.at t pair.old
         (Fits E.entries server.old)
-        → Goes r conn start ways.new.at (Fits E.entries server.new)
-        (Comes r conn (setting E.answer G.welcomes r) start ways.new.at
-        (exchanged (setting E.answer G.welcomes r) conn r.ledger t) pair.new
-        (Fits E.entries server.new)
-        × IsQuiet (exchanged (setting E.answer G.welcomes r) conn r.ledger t))
-        (BreaksIn (setting E.answer G.welcomes r) conn r.ledger start ways.new.at
-        (t, due (setting E.answer G.welcomes r) conn r.ledger t))
-        result }
+        → Exchanges r conn (setting E.answer G.welcomes r) start ways.new.at t pair.new
+        (Fits E.entries server.new) result }
 {
     let Ok(bytes) = pair.caller.client.take_out(usize::MAX) else {
         return Err(StreamFault::Memory);
@@ -120,7 +113,7 @@ fn exchange<E: Engine, G: Gate, A: PeerSource, B: Sink, C: PeerSource, D: Sink, 
     Ok(())
 }
 
-/// Submits a line; if it isn't refused, its request is written and its answers are heard.
+/// Submits a line, or prints that it is refused, and then writes what the client has to send, and hears the answers: none where it is refused.
 fn run_line<E: Engine, G: Gate, A: PeerSource, B: Sink, C: PeerSource, D: Sink, O: Sink>(
     pair: &mut Pair,
     server: &mut Server<E, G>,
@@ -128,29 +121,21 @@ fn run_line<E: Engine, G: Gate, A: PeerSource, B: Sink, C: PeerSource, D: Sink, 
     line: Numbered<ScriptRequest>,
     ways: &mut BothWays<A, B, C, D, O>,
 ) -> Result<(), StreamFault>
-    requires { IsOn (LetsReadWaiting A.left A.may_read) (LetsReadWaiting C.left C.may_read)
-        (setting E.answer G.welcomes) conn (Fits E.entries server.old) ways.old.at pair.old }
+    requires { (t : Turns) × IsOn (LetsReadWaiting A.left A.may_read)
+        (LetsReadWaiting C.left C.may_read) (setting E.answer G.welcomes) conn
+        (Fits E.entries server.old) ways.old.at pair.old t }
     ensures { (r : Rest G) (start : Ways) (t : Turns) → IsSome (find conn r.sessions)
         → Comes r conn (setting E.answer G.welcomes r) start ways.old.at t pair.old
         (Fits E.entries server.old)
-        → Goes r conn start ways.new.at (Fits E.entries server.new)
-        (ComesOn r conn (setting E.answer G.welcomes r) start ways.new.at t
-        (line.number, script_request_view line.said) pair.new (Fits E.entries server.new))
-        (BreaksIn (setting E.answer G.welcomes r) conn r.ledger start ways.new.at
-        (stage (setting E.answer G.welcomes r) conn r.ledger t
-        (line.number, script_request_view line.said)))
-        result }
+        → Exchanges r conn (setting E.answer G.welcomes r) start ways.new.at
+        (with_line t (line.number, script_request_view line.said)) pair.new
+        (Fits E.entries server.new) result }
 {
     match pair.caller.submit(line.number, line.said, &mut ways.out) {
-        Ok(true) => {}
-        Ok(false) => return Ok(()),
+        Ok(_) => {}
         Err(fault) => return Err(fault),
     }
-    match exchange(pair, server, conn, ways) {
-        Ok(()) => {}
-        Err(fault) => return Err(fault),
-    }
-    Ok(())
+    exchange(pair, server, conn, ways)
 }
 
 /// An exchange, in which the version is heard, and then one line after another.
@@ -162,21 +147,12 @@ fn run_lines<E: Engine, G: Gate, A: PeerSource, B: Sink, C: PeerSource, D: Sink,
     ways: &mut BothWays<A, B, C, D, O>,
 ) -> Result<(), StreamFault>
     requires { IsOn (LetsReadWaiting A.left A.may_read) (LetsReadWaiting C.left C.may_read)
-        (setting E.answer G.welcomes) conn (Fits E.entries server.old) ways.old.at pair.old }
-    ensures { (r : Rest G) (start : Ways) (t : Turns) → IsSome (find conn r.sessions)
-        → Comes r conn (setting E.answer G.welcomes r) start ways.old.at t pair.old
+        (setting E.answer G.welcomes) conn (Fits E.entries server.old) ways.old.at pair.old no_turns }
+    ensures { (r : Rest G) (start : Ways) → IsSome (find conn r.sessions)
+        → Comes r conn (setting E.answer G.welcomes r) start ways.old.at no_turns pair.old
         (Fits E.entries server.old)
-        → Goes r conn start ways.new.at (Fits E.entries server.new)
-        (Comes r conn (setting E.answer G.welcomes r) start ways.new.at
-        (after_lines (setting E.answer G.welcomes r) conn r.ledger
-        (exchanged (setting E.answer G.welcomes r) conn r.ledger t) (said_requests lines.items)) pair.new
-        (Fits E.entries server.new)
-        × AreQuiet (setting E.answer G.welcomes r) conn r.ledger
-        (exchanged (setting E.answer G.welcomes r) conn r.ledger t) (said_requests lines.items))
-        (BreaksAt (setting E.answer G.welcomes r) conn r.ledger start ways.new.at
-        ((t, due (setting E.answer G.welcomes r) conn r.ledger t) ∷ stages (setting E.answer G.welcomes r) conn r.ledger
-        (exchanged (setting E.answer G.welcomes r) conn r.ledger t) (said_requests lines.items)))
-        result }
+        → RunsLines r conn (setting E.answer G.welcomes r) (said_requests lines.items) start
+        ways.new.at pair.new (Fits E.entries server.new) result }
 {
     match exchange(pair, server, conn, ways) {
         Ok(()) => {}
@@ -239,11 +215,7 @@ fn run_opened<E: Engine, G: Gate, A: PeerSource, B: Sink, C: PeerSource, D: Sink
         Ok(()) => {}
         Err(fault) => return Err(fault),
     }
-    match put_entries(alloc, server.engine().ledger(), &mut ways.out) {
-        Ok(()) => {}
-        Err(fault) => return Err(fault),
-    }
-    Ok(())
+    put_entries(alloc, server.engine().ledger(), &mut ways.out)
 }
 
 /// Reads the whole script before anything is run.
@@ -256,19 +228,18 @@ fn run<E: Engine, G: Gate, A: PeerSource, B: Sink, C: PeerSource, D: Sink, O: Si
     requires vacant { IsVacant E.entries server.old }
     requires near { LetsReadWaiting A.left A.may_read ways.old.at.down }
     requires far { LetsReadWaiting C.left C.may_read ways.old.at.up }
-    ensures grows { (r : Rest G) → Fits E.entries server.old r → r.sessions ≡ []
-        → HasLooped r (Fits E.entries server.new) }
     // Nothing is run where a line can't be read.
     ensures unreadable { IfErr result
         (λ stop. stop_status stop ≡ 2
-        → RunsNothing script.now server.old server.new ways.old ways.new) }
+        → RunsNothing server.old server.new ways.old ways.new) }
     ensures number { IfErr result (λ stop. Numbers script.now stop) }
     ensures readable { OnOk result (unreadable request_line_of (filled_lines script.now) ≡ None) }
     ensures loops { (r : Rest G) → Fits E.entries server.old r → r.sessions ≡ []
-        → MatchResult result (λ _. Loops r (setting E.answer G.welcomes r)
+        → HasLooped r (Fits E.entries server.new)
+        × MatchResult result (λ _. Loops r (setting E.answer G.welcomes r)
         (lines_read request_line_of (filled_lines script.now)) (Fits E.entries server.new)
         ways.old.at ways.new.at)
-        (λ stop. IsStopOf stop (FailsToRead ways.old.at ways.new.at) (FailsToWrite ways.new.at)
+        (λ stop. HasCause stop ways.old.at ways.new.at
         × ((stop_status stop ≡ 2 → ⊥) → Breaks r (setting E.answer G.welcomes r)
         (lines_read request_line_of (filled_lines script.now)) ways.old.at ways.new.at)) }
 {
@@ -320,8 +291,7 @@ pub fn run_loop<
         (F.has_failed err.new) (F.taken err.old) (F.taken err.new) }
     // 0 is only for a script of which each line can be read, and 2 only for one of which one can't: nothing is run then.
     ensures readable { result ≡ 0 → unreadable request_line_of (filled_lines script.now) ≡ None }
-    ensures unreadable { result ≡ 2
-        → RunsNothing script.now server.old server.new ways.old ways.new }
+    ensures unreadable { result ≡ 2 → RunsNothing server.old server.new ways.old ways.new }
     // At most one session is opened, and the ledger has at most grown.
     ensures grows { (r : Rest G) → Fits E.entries server.old r → r.sessions ≡ []
         → HasLooped r (Fits E.entries server.new) }

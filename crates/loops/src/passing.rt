@@ -1,20 +1,15 @@
 //! Bytes pass over the ways of a loop: each is read once it is written, and heard or taken.
-ghost use Rattle.std.specs.Prelude.{◌≡◌, ◌⊎◌, ◌≤◌, ◌<◌, ◌+◌, ◌++◌, ℕ, List, [], length, map, true, IsSome, IfErr, OnOk, OnErr, IsErrOf, MatchResult};
-ghost use Rattle.std.specs.Io.KnownBytes.{Appends, Consumes};
+ghost use Rattle.std.specs.Prelude.{◌≡◌, ◌⊎◌, ◌≤◌, ◌<◌, ◌+◌, ◌++◌, ℕ, List, [], length, true, IsSome, IfErr, OnOk, OnErr, IsErrOf, MatchResult};
+ghost use Rattle.std.specs.Io.KnownBytes.{Consumes};
 ghost use Rattle.server.specs.Serving.{Rest, find, setting};
 ghost use Rattle.server.specs.Views.{Fits};
 ghost use Rattle.serves.specs.Settling.{IsLive, LivesOn};
 ghost use Rattle.loops.specs.Passing.{BreaksAtSource, GivesNoMore, GivesSome, LetsReadWaiting, Passes};
 ghost use Rattle.loops.specs.Looping.{HearsFront, IsHeardAll, ReadsUpTo, Sits, StandsAt};
 ghost use Rattle.shells.specs.Talking.{Place};
-ghost use Rattle.client.specs.Notes.{note};
-ghost use Rattle.shells.specs.Printing.{notes_text, versions_after};
-ghost use Rattle.loops.specs.Turns.{due};
-ghost use Rattle.streams.specs.Fronts.{AppendsFront};
 
 use crate::ways::OneWay;
 use asks::feed_piece;
-use client::Heard;
 use engine::{Engine, Gate};
 use server::Server;
 use serves::{Liveness, take_piece};
@@ -81,36 +76,19 @@ fn hear<O: Sink>(caller: &mut Caller, part: &[u8], out: &mut O) -> Result<(), St
     ensures hears { (p : Place) → StandsAt caller.old p
         → MatchResult result
         (λ _. IsHeardAll p part.now caller.new (O.taken out.old) (O.taken out.new))
-        (λ _. HearsFront p part.now (O.taken out.old) (O.taken out.new)) }
+        (λ _. HearsFront [] p part.now (O.taken out.old) (O.taken out.new)) }
     ensures read { IsErrOf result StreamFault.ReadFailed → ⊥ }
     ensures written { IsErrOf result StreamFault.WriteFailed → O.has_failed out.new ≡ true }
 {
     let mut heard = Vec::new(caller.alloc);
     let fed = feed_piece(&mut caller.client, part, &mut heard);
-    match put_all(caller, heard, out) {
-        Ok(()) => fed,
-        Err(fault) => Err(fault),
-    }
-}
-
-fn put_all<O: Sink>(caller: &mut Caller, heard: Vec<Heard>, out: &mut O) -> Result<(), StreamFault>
-    ensures prints { MatchResult result
-        (λ _. Appends (O.taken out.old) (O.taken out.new)
-        (notes_text caller.old.version (map note heard.items))
-        × (caller.new.version ≡ versions_after caller.old.version (map note heard.items)))
-        (λ _. AppendsFront (O.taken out.old) (O.taken out.new)
-        (notes_text caller.old.version (map note heard.items))) }
-    ensures client { caller.new.client ≡ caller.old.client }
-    ensures read { IsErrOf result StreamFault.ReadFailed → ⊥ }
-    ensures written { IsErrOf result StreamFault.WriteFailed → O.has_failed out.new ≡ true }
-{
     for one in heard {
         match caller.put_heard(one, out) {
             Ok(()) => {}
             Err(fault) => return Err(fault),
         }
     }
-    Ok(())
+    fed
 }
 
 /// The next part of bytes, at most 4,096 of them, and those after it.
@@ -132,10 +110,10 @@ pub(crate) fn hand_over<T: Sink, S: PeerSource, O: Sink>(
     requires { LetsReadWaiting S.left S.may_read way.old.at }
     ensures hears { (p : Place) → StandsAt caller.old p
         → MatchResult result
-        (λ _. IsHeardAll p bytes.now caller.new (O.taken out.old) (O.taken out.new))
+        (λ _. Passes way.old.at way.new.at bytes.now
+        × IsHeardAll p bytes.now caller.new (O.taken out.old) (O.taken out.new))
         (λ _. ReadsUpTo [] [] p bytes.now way.old.at.left way.new.at.left (O.taken out.old)
         (O.taken out.new)) }
-    ensures passes { OnOk result (Passes way.old.at way.new.at bytes.now) }
     ensures read { IsErrOf result StreamFault.ReadFailed → BreaksAtSource way.old.at way.new.at }
     ensures written { IsErrOf result StreamFault.WriteFailed
         → (way.new.at.write_failed ≡ true) ⊎ (O.has_failed out.new ≡ true) }
@@ -165,7 +143,6 @@ pub(crate) fn give<E: Engine, G: Gate>(
     liveness: &mut Liveness,
 ) -> Result<(), StreamFault>
     requires { IsLive E.entries conn server.old }
-    ensures live { IsLive E.entries conn server.new }
     ensures grows { LivesOn conn (Fits E.entries server.old) (Fits E.entries server.new) }
     ensures sits { (r : Rest G) (sent : List ℕ) → IsSome (find conn r.sessions)
         → Sits r conn (setting E.answer G.welcomes r) (Fits E.entries server.old) sent

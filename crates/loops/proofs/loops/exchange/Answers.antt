@@ -1,60 +1,54 @@
-use Rattle.std.proofs.Common.{◌∙◌, [], refl, sym, ap, append-nil, arith}
-use Rattle.client.specs.Fits.{rest_of}
+use Rattle.std.proofs.Common.{◌∙◌, ◌++◌, [], sym, ap, append_assoc, arith}
 use Rattle.client.specs.Prelude.{Rest, awaits}
 use Rattle.server.specs.Prelude.{setting}
-use Rattle.asks.proofs.Asked.{all_taken}
-use Rattle.streams.proofs.Parts.{empty_nil}
-use Rattle.loops.proofs.Broken.{breaks_before, breaks_more}
-use Rattle.loops.proofs.Looped.{all_out, on_at, part_begun, part_more, part_whole, stands_out, took_out}
-use Rattle.loops.specs.Prelude.{given, with_item}
+use Rattle.streams.proofs.Fronts.{front_whole}
+use Rattle.streams.proofs.Parts.{all_done, empty_nil}
+use Rattle.loops.proofs.Heard.{reads_nothing}
+use Rattle.loops.proofs.Looped.{breaks_before, breaks_given, comes_out, on_at, taken_whole}
 use Rattle.loops.proofs.loops.exchange.Goals as goal
+
+pub returns-in_default : goal.returns-in_default
+returns-in_default g c = λ r start t i h.
+    (h.lives, tt, breaks_before (setting g.E.Engine.answer g.G.Gate.welcomes r) c.args.conn r.ledger t h.down.gave (front_whole _ _ t.text h.printed))
 
 pub loop-rest-init : goal.loop-rest-init
 loop-rest-init g c = λ r start t i h.
-    let k = took_out 18446744073709551615 c.in-Ok.bytes (rest_of c.args.pair.now.caller.client) (rest_of c.take_out.new.self) c.in-Ok.ensures.ok
-    (with_item t.place.rest h.client.item) h.client.at.fits in
-    let all = all_taken 18446744073709551615 t.place.rest.unsent c.in-Ok.bytes k.0 (omega (arith, c.in-Ok.ensures.short)) in
-    part_begun (record {
-      lives = h.lives;
-      client = stands_out 18446744073709551615 h.client k.1 all.1 refl;
-      session = h.session;
-      up = h.up;
-      down = h.down;
-      printed = h.printed;
-    }) (c.as_slice-rest.ensures ∙ all.0)
+    let s = h.client in
+    let k = taken_whole 18446744073709551615 s.at.fits c.in-Ok.ensures.ok (omega (arith, c.in-Ok.ensures.short)) in (
+      [],
+      c.as_slice-rest.ensures ∙ k.0,
+      comes_out t (record {
+        lives = h.lives;
+        client = record { item = s.item; at = record { fits = k.1; version = s.at.version }; same = s.same };
+        session = h.session;
+        up = h.up;
+        down = h.down;
+        printed = h.printed;
+      }),
+    )
 
 pub turn-requires : goal.turn-requires
-turn-requires g c = let o = c.requires in on_at o (c.loop-rest.invariant o.rest o.start o.turns o.found o.comes).comes
+turn-requires g c = let o = c.requires.1 in (_, on_at o (c.loop-rest.invariant o.rest o.start c.requires.0 o.found o.comes).2)
 
 pub loop-rest-preserved : goal.loop-rest-preserved
 loop-rest-preserved g c = λ r start t i h.
     let p = c.loop-rest.invariant r start t i h in
-    let front = c.next_part.result.0.now in
-    part_more front p c.next_part.ensures.parts
-    (c.in-Ok-turn.ensures r start (given (setting g.E.Engine.answer g.G.Gate.welcomes r) c.args.conn r.ledger (all_out t) p.done) i p.comes)
+    let after = c.next_part.result.1.now in
+    let parts = ap (λ z. p.0 ++ z) c.next_part.ensures.parts ∙ p.1 in
+    (p.0 ++ c.next_part.result.0.now, append_assoc p.0 _ after ∙ parts, c.in-Ok-turn.ensures r start t p.0 after i parts p.2)
 
 pub returns-in-Err : goal.returns-in-Err
 returns-in-Err g c = λ r start t i h.
     let p = c.loop-rest.invariant r start t i h in
-    let front = c.next_part.result.0.now in
-    let after = c.next_part.result.1.now in
-    let S = setting g.E.Engine.answer g.G.Gate.welcomes r in
-    let k = c.in-Err.ensures r start (given S c.args.conn r.ledger (all_out t) p.done) i p.comes in
-    let there = breaks_more S c.args.conn r.ledger start c.turn.new.ways.at t p.done front after (rw c.next_part.ensures.parts p.parts) k.there in
-    record { lives = k.lives; cause = k.cause; there = there }
+    c.in-Err.ensures r start t p.0 c.next_part.result.1.now i (rw c.next_part.ensures.parts p.1) p.2
 
 pub returns : goal.returns
 returns g c = λ r start t i h.
-    let p = part_whole (c.loop-rest.invariant r start t i h) (empty_nil c.loop-rest.rest.now c.is_empty.result c.is_empty.ensures c.loop-rest-test.false) in
-    (p, sym (c.awaits.ensures ∙ ap (λ (r : Rest). awaits r.knows) p.client.at.fits) ∙ c.if-awaits.false)
+    let p = c.loop-rest.invariant r start t i h in
+    let none = empty_nil c.loop-rest.rest.now c.is_empty.result c.is_empty.ensures c.loop-rest-test.false in
+    let quiet = sym (c.awaits.ensures ∙ ap (λ (r : Rest). awaits r.knows) p.2.client.at.fits) ∙ c.if-awaits.false in
+    rw (← all_done p.0 c.loop-rest.rest.now t.place.rest.unsent none p.1) (p.2, quiet)
 
 pub returns-then-awaits : goal.returns-then-awaits
 returns-then-awaits g c = λ r start t i h.
-    let p = part_whole (c.loop-rest.invariant r start t i h) (empty_nil c.loop-rest.rest.now c.is_empty.result c.is_empty.ensures c.loop-rest-test.false) in
-    let all = t.place.rest.unsent in
-    let S = setting g.E.Engine.answer g.G.Gate.welcomes r in
-    let there = breaks_more S c.args.conn r.ledger start c.loop-rest.ways.at t all [] [] (append-nil all) (breaks_before p _) in
-    record { lives = p.lives; cause = tt; there = there }
-
-pub returns-in_default : goal.returns-in_default
-returns-in_default g c = λ r start t i h. record { lives = h.lives; cause = tt; there = breaks_before h _ }
+    let p = c.loop-rest.invariant r start t i h in (p.2.lives, tt, breaks_given t p.0 [] c.loop-rest.rest.now p.1 p.2 reads_nothing)

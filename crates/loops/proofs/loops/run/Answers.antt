@@ -1,29 +1,19 @@
-use Rattle.std.proofs.Common.{refl}
+use Rattle.std.proofs.Common.{inl, refl}
 use Rattle.server.specs.Prelude.{setting}
 use Rattle.scripts.specs.Prelude.{filled_lines, lines_read, request_line_of}
-use Rattle.loops.proofs.Broken.{breaks_none}
-use Rattle.loops.proofs.Stops.{some_of}
+use Rattle.loops.proofs.Looped.{breaks_none}
 use Rattle.loops.proofs.loops.run.Goals as goal
 
-pub returns-in-Err-Unreadable-clause-unreadable : goal.returns-in-Err-Unreadable-clause-unreadable
-returns-in-Err-Unreadable-clause-unreadable g c = λ e.
-    record { line = some_of _ _ _ (rw c.in-Err-Unreadable.field-0-is at c.in-Err-Unreadable.ensures); same_server = refl; same_ways = refl }
-
 pub returns-in-Err-Unreadable-clause-loops : goal.returns-in-Err-Unreadable-clause-loops
-returns-in-Err-Unreadable-clause-loops g c = λ r f none. (tt, λ n. absurd (n refl))
+returns-in-Err-Unreadable-clause-loops g c = λ r f none. (inl f, (tt, λ n. absurd (n refl)))
 
 pub returns-in-Err-Memory-clause-loops : goal.returns-in-Err-Memory-clause-loops
 returns-in-Err-Memory-clause-loops g c = λ r f none.
-    (tt, λ n. breaks_none r (setting g.E.Engine.answer g.G.Gate.welcomes r) (lines_read request_line_of (filled_lines c.args.script.now)))
-
-pub returns-in-Ok-run_opened-clause-grows : goal.returns-in-Ok-run_opened-clause-grows
-returns-in-Ok-run_opened-clause-grows g c = λ r f none. (c.in-Ok-run_opened.ensures r f none).0
+    (inl f, (tt, λ n. breaks_none r (setting g.E.Engine.answer g.G.Gate.welcomes r) (lines_read request_line_of (filled_lines c.args.script.now))))
 
 pub returns-in-Ok-run_opened-clause-loops : goal.returns-in-Ok-run_opened-clause-loops
-returns-in-Ok-run_opened-clause-loops g c = λ r f none. rw (← c.in-Ok.ensures.1) (c.in-Ok-run_opened.ensures r f none).1
-
-pub returns-in-Err-clause-grows : goal.returns-in-Err-clause-grows
-returns-in-Err-clause-grows g c = λ r f none. (c.in-Err.ensures r f none).0
+returns-in-Ok-run_opened-clause-loops g c = λ r f none. rw (← c.in-Ok.ensures.1) (c.in-Ok-run_opened.ensures r f none)
 
 pub returns-in-Err-clause-loops : goal.returns-in-Err-clause-loops
-returns-in-Err-clause-loops g c = λ r f none. let k = (c.in-Err.ensures r f none).1 in (k.0, λ n. rw (← c.in-Ok.ensures.1) k.1)
+returns-in-Err-clause-loops g c = λ r f none.
+    let k = c.in-Err.ensures r f none in (k.0, (k.1.0, λ n. rw (← c.in-Ok.ensures.1) k.1.1))

@@ -1,23 +1,25 @@
-use Rattle.std.proofs.Common.{◌≡◌, ◌∙◌, sym, subst, take_at, inr, rules}
+use Rattle.std.proofs.Common.{◌≡◌, ◌∙◌, ℕ, List, true, false, true≢false, sym, ap, subst, not, bytes_eq, take_at, inr, rules}
+use Rattle.std.proofs.lemmas.Bool.{not-false, not-true}
 use Rattle.std.specs.Io.KnownBytes.{Consumes}
-use Rattle.loops.proofs.Taken.{other_then, same_then}
+use Rattle.cells.proofs.Equality.{bytes_are, bytes_is}
 use Rattle.loops.proofs.passing.pass.Goals as goal
+
+-- what was compared
+other_then : (xs ys : List ℕ) → not (bytes_eq xs ys) ≡ true → xs ≡ ys → ⊥
+other_then xs ys e same = true≢false (sym (bytes_is xs) ∙ ap (bytes_eq xs) same ∙ not-true (bytes_eq xs ys) e)
 
 pub returns-clause-passes : goal.returns-clause-passes
 returns-clause-passes g c =
+    let left = g.S.PeerSource.left in
     let read : c.as_slice.result.now ≡ c.read_known.new.buffer = c.as_slice.ensures.value ∙ take_at c.read_known.new.buffer _ c.in-Ok.part.len (search rules) in
-    rw (← c.way.view_is) (record {
-      took = search rules;
-      gave = subst (Consumes (g.S.PeerSource.left c.way.inside.source) (g.S.PeerSource.left c.read_known.new.source)) (sym read ∙ same_then c.as_slice.result.now c.args.bytes.now (sym c.ne.ensures ∙ c.if-ne.false)) c.in_ok-read_known.ensures.reads;
-    })
+    let same = bytes_are c.as_slice.result.now c.args.bytes.now (not-false _ (sym c.ne.ensures ∙ c.if-ne.false)) in
+    let gave = subst (Consumes (left c.way.inside.source) (left c.read_known.new.source)) (sym read ∙ same) c.in_ok-read_known.ensures.reads in
+    rw (← c.way.view_is) (record { took = search rules; gave = gave })
 
 pub returns-then-ne-clause-read : goal.returns-then-ne-clause-read
 returns-then-ne-clause-read g c = λ e.
+    let left = g.S.PeerSource.left in
     let read : c.as_slice.result.now ≡ c.read_known.new.buffer = c.as_slice.ensures.value ∙ take_at c.read_known.new.buffer _ c.in-Ok.part.len (search rules) in
-    rw (← c.way.view_is) (inr (record {
-      written = c.args.bytes.now;
-      read = c.as_slice.result.now;
-      took = search rules;
-      gave = subst (Consumes (g.S.PeerSource.left c.way.inside.source) (g.S.PeerSource.left c.read_known.new.source)) (sym read) c.in_ok-read_known.ensures.reads;
-      other = other_then c.as_slice.result.now c.args.bytes.now (sym c.ne.ensures ∙ c.if-ne.true);
-    }))
+    let gave = subst (Consumes (left c.way.inside.source) (left c.read_known.new.source)) (sym read) c.in_ok-read_known.ensures.reads in
+    let other = other_then c.as_slice.result.now c.args.bytes.now (sym c.ne.ensures ∙ c.if-ne.true) in
+    rw (← c.way.view_is) (inr (record { written = c.args.bytes.now; read = c.as_slice.result.now; took = search rules; gave = gave; other = other }))

@@ -1,15 +1,25 @@
-use Rattle.std.proofs.Common.{◌-◌, length, take, sym, subst, rules}
+use Rattle.std.proofs.Common.{◌≡◌, ◌∙◌, ◌++◌, ◌+◌, ◌-◌, ◌≤◌, ℕ, List, length, take, ap, sym, subst, rules}
+use Rattle.std.proofs.Math.Seq.{take-append-add}
+use Rattle.std.proofs.lemmas.List.{length-take-le, take-append-le}
 use Rattle.std.specs.Io.KnownBytes.{Consumes}
 use Rattle.std.proofs.KnownBytes.{Consumes-trans}
-use Rattle.loops.proofs.Taken.{taken_more}
+use borrow.Rule.Slice.PartMut.{post_of, put_mid}
 use Rattle.loops.proofs.passing.read_known.Goals as goal
+
+-- bytes that were read into the rest of a buffer
+taken_more : (a k n : ℕ) (xs ys : List ℕ) → a ≤ length xs → n ≤ length ys → take (a + n) (put_mid a k xs ys) ≡ take a xs ++ take n ys
+taken_more a k n xs ys p q =
+    ap (λ m. take (m + n) (put_mid a k xs ys)) (sym (length-take-le a xs p)) ∙ take-append-add (take a xs) (ys ++ post_of a k xs) n
+    ∙ ap (λ z. take a xs ++ z) (take-append-le n ys (post_of a k xs) q)
 
 pub loop-at-preserved : goal.loop-at-preserved
 loop-at-preserved g c =
     let so = c.loop-at.invariant in
-    let same = taken_more c.loop-at.at (length c.loop-at.buffer - c.loop-at.at) c.in-Ok.count c.loop-at.buffer c.read_after.new.buffer so.0 (search rules) in (
-      search rules,
-      search rules,
-      subst (Consumes (g.S.PeerSource.left c.args.source.now) (g.S.PeerSource.left c.read_after.new.self)) (sym same)
-          (Consumes-trans (g.S.PeerSource.left c.args.source.now) (g.S.PeerSource.left c.loop-at.source) (g.S.PeerSource.left c.read_after.new.self) (take c.loop-at.at c.loop-at.buffer) (take c.in-Ok.count c.read_after.new.buffer) so.2 c.in-Ok.ensures.bytes.0),
-    )
+    let left = g.S.PeerSource.left in
+    let begin = left c.args.source.now in
+    let end = left c.read_after.new.self in
+    let old = c.loop-at.buffer in
+    let new = c.read_after.new.buffer in
+    let same = taken_more c.loop-at.at (length old - c.loop-at.at) c.in-Ok.count old new so.0 (search rules) in
+    let both = Consumes-trans begin (left c.loop-at.source) end (take c.loop-at.at old) (take c.in-Ok.count new) so.2 c.in-Ok.ensures.bytes.0 in
+    (search rules, search rules, subst (Consumes begin end) (sym same) both)
