@@ -1,6 +1,6 @@
 -- What a client makes of one piece after another, and how far it comes where a fault breaks that off.
 use Rattle.std.proofs.Common.{◌≡◌, refl, sym, ap, subst, ◌∙◌, ℕ, ◌≤◌, Bool, true, false, true≢false, List, [], ◌++◌, length, append_assoc, append-nil}
-use Rattle.std.proofs.Common.{length-append, arith, Option, Result, Ok, Err, MatchResult, is_ok, ◌⊎◌, ⊎_elim, inl, inr}
+use Rattle.std.proofs.Common.{take-append-drop, length-take, length-append, arith, Option, Result, Ok, Err, MatchResult, is_ok, ◌⊎◌, ⊎_elim, inl, inr}
 use Rattle.std.proofs.lemmas.Bool.{cases_Bool, false_from_ne_true}
 use Rattle.std.specs.Io.KnownBytes.{Appends, Consumes}
 use Rattle.std.proofs.KnownBytes.{Appends-trans, Appends-nil, Consumes-nil, Consumes-trans}
@@ -20,6 +20,8 @@ use Rattle.shells.specs.declared.caller.Caller.{Caller}
 use Rattle.shells.specs.Prelude.{notes_text, versions_after, Place, place_after, text_of}
 use Rattle.shells.proofs.Printed.{texts_more, place_more}
 use Rattle.loops.specs.Prelude.{with_item, HearsFront, IsHeardAll, StandsAt, ReadsUpTo}
+
+pub ruleset parts = (take-append-drop, length-take)
 
 -- nothing is heard after the end
 was_open : (r : Rest) (bytes : List ℕ) → (hears_all r bytes).knows.over ≡ false → r.knows.over ≡ false

@@ -92,6 +92,7 @@ fn hear<O: Sink>(caller: &mut Caller, part: &[u8], out: &mut O) -> Result<(), St
 }
 
 /// The next part of bytes, at most 4,096 of them, and those after it.
+#[tactic(auto, using(crate::proofs::Heard::parts))]
 pub(crate) fn next_part(bytes: &[u8]) -> (&[u8], &[u8])
     ensures parts { result.0.now ++ result.1.now ≡ bytes.now }
     ensures short { length result.0.now ≤ 4096 }

@@ -37,11 +37,6 @@ loop-rest-preserved g c = λ r start t i h.
     let parts = ap (λ z. p.0 ++ z) c.next_part.ensures.parts ∙ p.1 in
     (p.0 ++ c.next_part.result.0.now, append_assoc p.0 _ after ∙ parts, c.in-Ok-turn.ensures r start t p.0 after i parts p.2)
 
-pub returns-in-Err : goal.returns-in-Err
-returns-in-Err g c = λ r start t i h.
-    let p = c.loop-rest.invariant r start t i h in
-    c.in-Err.ensures r start t p.0 c.next_part.result.1.now i (rw c.next_part.ensures.parts p.1) p.2
-
 pub returns : goal.returns
 returns g c = λ r start t i h.
     let p = c.loop-rest.invariant r start t i h in

@@ -1,4 +1,4 @@
-use Rattle.std.proofs.Common.{◌≡◌, ◌∙◌, ◌++◌, ◌∷◌, [], append_assoc, rules, sym, ap, subst, List, ℕ}
+use Rattle.std.proofs.Common.{◌∙◌, ◌++◌, ◌∷◌, [], append_assoc, rules, sym, ap, subst, ℕ}
 use Rattle.std.proofs.lemmas.List.{nil_from_length}
 use Rattle.server.specs.Prelude.{setting, Fits}
 use Rattle.scripts.specs.Prelude.{said_requests, ScriptRequestView, script_request_view}
@@ -6,9 +6,6 @@ use Rattle.streams.proofs.Parts.{all_done}
 use Rattle.loops.specs.Prelude.{BreaksAt, BreaksIn, Comes, Turns, no_turns, turns_of}
 use Rattle.loops.proofs.Looped.{breaks_line, lines_more, on_at, quiet_none}
 use Rattle.loops.proofs.loops.run_lines.Goals as goal
-
-pub exchange-requires : goal.exchange-requires
-exchange-requires g c = (no_turns, c.requires)
 
 pub returns-in-Err : goal.returns-in-Err
 returns-in-Err g c = λ r start i h. let k = c.in-Err.ensures r start no_turns i h in (k.0, k.1, (0, k.2))
