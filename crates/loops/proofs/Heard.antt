@@ -6,8 +6,7 @@ use Rattle.std.specs.Io.KnownBytes.{Appends, Consumes}
 use Rattle.std.proofs.KnownBytes.{Appends-trans, Appends-nil, Consumes-nil, Consumes-trans}
 use Rattle.wire.specs.declared.Version.{Version}
 use Rattle.wire.specs.Prelude.{Opened, at_client, outputs, state}
-use Rattle.client.specs.Fits.{rest_of}
-use Rattle.client.specs.Prelude.{Note, Rest}
+use Rattle.client.specs.Prelude.{Note, Rest, rest_of}
 use Rattle.streams.specs.declared.fault.StreamFault.{StreamFault}
 use Rattle.streams.specs.Prelude.{AppendsFront}
 use Rattle.streams.proofs.Fronts.{front_whole, front_after}
@@ -75,17 +74,10 @@ module _ {b : Caller} {p : Place} (s : StandsAt b p) where
       let w = heard_whole h (h.ends refl) in
       let told = h.told ∙ ap (λ (t : Tale). t.notes) w.0 in
       let item = state at_client s.item h.fed in
-      record {
-        stands = record {
-          item = item;
-          at = record {
-            fits = fits _ h.now ∙ ap (λ (t : Tale). record here { knows = t.knows; item = item }) w.0;
-            version = v ∙ ap (λ (u : Version). versions_after u notes) s.at.version ∙ ap (versions_after p.version) told;
-          };
-          same = w.1;
-        };
-        printed = subst (Appends x y) (ap (λ (u : Version). notes_text u notes) s.at.version ∙ ap (notes_text p.version) told) k;
-      }
+      let rest = fits _ h.now ∙ ap (λ (t : Tale). record here { knows = t.knows; item = item }) w.0 in
+      let version = v ∙ ap (λ (u : Version). versions_after u notes) s.at.version ∙ ap (versions_after p.version) told in
+      let printed = subst (Appends x y) (ap (λ (u : Version). notes_text u notes) s.at.version ∙ ap (notes_text p.version) told) k in
+      record { stands = record { item = item; at = record { fits = rest; version = version }; same = w.1 }; printed = printed }
   heard_as_fed c x y (Err fault) h fits v k = heard_front h x y (front_whole x y _ k)
 
 -- one piece after another
@@ -117,12 +109,8 @@ line_front line a b ReadFailed h = absurd h
 -- nothing of it is, though some was read
 pub reads_none : {p : Place} {m n b : Option (List ℕ)} (answer unheard : List ℕ) → Consumes m n unheard → length unheard ≤ max_piece
     → ReadsUpTo [] [] p answer m n b b
-reads_none {b = b} answer unheard gave few = record {
-  hears = record { heard = []; rest = answer; parts = refl; prints = ([], [], refl, Appends-nil b) };
-  unheard = unheard;
-  read = gave;
-  few = few;
-}
+reads_none {b = b} answer unheard gave few =
+    record { hears = record { heard = []; rest = answer; parts = refl; prints = ([], [], refl, Appends-nil b) }; unheard = unheard; read = gave; few = few }
 
 -- or nothing was read
 pub reads_nothing : {p : Place} {m b : Option (List ℕ)} {answer : List ℕ} → ReadsUpTo [] [] p answer m m b b
@@ -131,12 +119,9 @@ reads_nothing {m = m} {answer = answer} = reads_none answer [] (Consumes-nil m) 
 -- a beginning of what was read
 pub reads_front : {p : Place} {m n b c : Option (List ℕ)} (part : List ℕ) → Consumes m n part → length part ≤ max_piece → HearsFront [] p part b c
     → ReadsUpTo [] [] p part m n b c
-reads_front {m = m} {n = n} part gave few h = record {
-  hears = h;
-  unheard = h.rest;
-  read = subst (Consumes m n) (sym h.parts) gave;
-  few = omega (arith, few, ap length h.parts, length-append h.heard h.rest);
-}
+reads_front {m = m} {n = n} part gave few h =
+    let least : length h.rest ≤ max_piece = omega (arith, few, ap length h.parts, length-append h.heard h.rest) in
+    record { hears = h; unheard = h.rest; read = subst (Consumes m n) (sym h.parts) gave; few = least }
 
 -- behind some of an answer that was heard, as a part of the whole
 pub reads_past : {p : Place} {behind text part : List ℕ} {l m n a b c : Option (List ℕ)} (done after whole : List ℕ) → done ++ (part ++ after) ≡ whole
@@ -144,15 +129,11 @@ pub reads_past : {p : Place} {behind text part : List ℕ} {l m n a b c : Option
     → ReadsUpTo behind text p whole l n a c
 reads_past {p = p} {behind = behind} {text = text} {l = l} {m = m} {n = n} {a = a} {b = b} {c = c} done after whole parts gave printed k =
     let h = k.hears in
+    let heard = done ++ h.heard in
+    let rest = h.rest ++ after in
+    let all : heard ++ rest ≡ whole = rw (← parts, ← h.parts) (simp append_assoc) in
     let front = front_after a b c (text ++ text_of p done) (text_of (place_after p done) h.heard) printed h.prints in
-    record {
-      hears = record {
-        heard = done ++ h.heard;
-        rest = h.rest ++ after;
-        parts = rw (← parts, ← h.parts) (simp append_assoc);
-        prints = subst (AppendsFront a c) (append_assoc text (text_of p done) _ ∙ ap (λ z. text ++ z) (sym (text_more p done h.heard))) front;
-      };
-      unheard = k.unheard;
-      read = subst (Consumes l n) (simp append_assoc) (Consumes-trans l m n (behind ++ done) (h.heard ++ k.unheard) gave k.read);
-      few = k.few;
-    }
+    let prints = subst (AppendsFront a c) (append_assoc text (text_of p done) _ ∙ ap (λ z. text ++ z) (sym (text_more p done h.heard))) front in
+    let read : Consumes l n (behind ++ (heard ++ k.unheard)) =
+    subst (Consumes l n) (simp append_assoc) (Consumes-trans l m n (behind ++ done) (h.heard ++ k.unheard) gave k.read) in
+    record { hears = record { heard = heard; rest = rest; parts = all; prints = prints }; unheard = k.unheard; read = read; few = k.few }

@@ -1,13 +1,12 @@
 -- What two ends have come to, and how far they have where a fault breaks them off.
-use Rattle.std.proofs.Common.{◌≡◌, refl, sym, ap, subst, ◌∙◌, ℕ, ◌+◌, ◌<◌, Bool, true, false, List, [], ◌++◌, length, take, append_assoc, length-append}
-use Rattle.std.proofs.Common.{arith, Option, Some, None, Ok, inl, inr, IsSome, ◌∷◌, drop, append-nil, take-append-drop, ◌⊎◌, Result, Err, MatchResult, OnOk}
-use Rattle.std.proofs.Common.{OnErr, IsErrOf, ⊎_elim}
-use Rattle.std.proofs.lemmas.List.{append_cancel_left, take-append-le, take_all}
+use Rattle.std.proofs.Common.{◌≡◌, refl, sym, ap, subst, ◌∙◌, ℕ, ◌+◌, ◌<◌, Bool, true, false, List, [], ◌++◌, length, take, append_assoc, length-append, arith}
+use Rattle.std.proofs.Common.{Option, Some, None, Ok, inl, inr, IsSome, ◌∷◌, drop, append-nil, take-append-drop, ◌⊎◌, Result, Err, MatchResult, OnOk, OnErr}
+use Rattle.std.proofs.Common.{IsErrOf, ⊎_elim, fold, ◌≤◌, take_all}
+use Rattle.std.proofs.lemmas.List.{append_cancel_left, take-append-le}
 use Rattle.std.specs.Io.KnownBytes.{Appends, Consumes}
 use Rattle.std.proofs.KnownBytes.{Appends-nil, Appends-trans, Consumes-nil, Consumes-trans}
 use Rattle.std.proofs.Math.Seq.{take-append_seam, drop-append_seam, drop-length, take-nil}
 use Rattle.std.proofs.lemmas.List.Sums.{fold-append}
-use Rattle.std.specs.List.{fold}
 use Rattle.std.proofs.lemmas.Bool.{cases_lt}
 use Rattle.wire.specs.Prelude.{Opened, at_server, state, Item, items_received, outputs}
 use Rattle.wire.proofs.Readers.{outputs-append}
@@ -16,8 +15,7 @@ use Rattle.engine.specs.Prelude.{EntryView}
 use Rattle.session.specs.Prelude.{Setting, begun}
 use Rattle.server.specs.Prelude.{Live, Rest, find, fresh, opened}
 use Rattle.client.specs.declared.SubmitFault.{SubmitFault}
-use Rattle.client.specs.Prelude.{refuses, taken_out}
-use Rattle.client.specs.Rest.{Rest as ClientRest}
+use Rattle.client.specs.Prelude.{Rest as ClientRest, refuses, rest_of, taken_out}
 use Rattle.streams.specs.declared.fault.StreamFault.{StreamFault}
 use Rattle.streams.specs.Prelude.{AppendsFront}
 use Rattle.streams.specs.declared.fault.StreamFault.TheVariants.{ReadFailed, WriteFailed}
@@ -48,40 +46,33 @@ pub passes_none : {w : Way} → Passes w w []
 passes_none {w = w} = record { took = Appends-nil w.taken; gave = Consumes-nil w.left }
 
 pub passes_then : {a b c : Way} {xs ys : List ℕ} → Passes a b xs → Passes b c ys → Passes a c (xs ++ ys)
-passes_then {a = a} {b = b} {c = c} {xs = xs} {ys = ys} h k = record {
-  took = Appends-trans a.taken b.taken c.taken xs ys h.took k.took;
-  gave = Consumes-trans a.left b.left c.left xs ys h.gave k.gave;
-}
+passes_then {a = a} {b = b} {c = c} {xs = xs} {ys = ys} h k =
+    record { took = Appends-trans a.taken b.taken c.taken xs ys h.took k.took; gave = Consumes-trans a.left b.left c.left xs ys h.gave k.gave }
 
 pub source_after : {a b c : Way} {xs : List ℕ} → Passes a b xs → BreaksAtSource b c → BreaksAtSource a c
 source_after h (inl k) = inl k
-source_after {a = a} {b = b} {c = c} {xs = xs} h (inr k) = inr (record {
-  written = xs ++ k.written;
-  read = xs ++ k.read;
-  took = Appends-trans a.taken b.taken c.taken xs k.written h.took k.took;
-  gave = Consumes-trans a.left b.left c.left xs k.read h.gave k.gave;
-  other = λ e. k.other (append_cancel_left xs k.read k.written e);
-})
+source_after {a = a} {b = b} {c = c} {xs = xs} h (inr k) =
+    let took = Appends-trans a.taken b.taken c.taken xs k.written h.took k.took in
+    let gave = Consumes-trans a.left b.left c.left xs k.read h.gave k.gave in
+    let other = λ (e : xs ++ k.read ≡ xs ++ k.written). k.other (append_cancel_left xs k.read k.written e) in
+    inr (record { written = xs ++ k.written; read = xs ++ k.read; took = took; gave = gave; other = other })
 
 -- what passed is read, and waits no more
 pub lets_after : {I : Type 0} {left : I → Option (List ℕ)} {may_read : I → Option (List ℕ) → ℕ → Type 0} {a b : Way} {xs : List ℕ} → Passes a b xs
     → LetsReadWaiting left may_read a → LetsReadWaiting left may_read b
 lets_after {left = left} {a = a} {b = b} {xs = xs} h lets s taken count k =
-    lets s taken count (record {
-      written = xs ++ k.written;
-      read = xs ++ k.read;
-      took = Appends-trans a.taken b.taken taken xs k.written h.took k.took;
-      gave = Consumes-trans a.left b.left (left s) xs k.read h.gave k.gave;
-      enough = omega (arith, length-append xs k.read, length-append xs k.written, k.enough);
-    })
+    let took = Appends-trans a.taken b.taken taken xs k.written h.took k.took in
+    let gave = Consumes-trans a.left b.left (left s) xs k.read h.gave k.gave in
+    let enough : length (xs ++ k.read) + count ≤ length (xs ++ k.written) = omega (arith, length-append xs k.read, length-append xs k.written, k.enough) in
+    lets s taken count (record { written = xs ++ k.written; read = xs ++ k.read; took = took; gave = gave; enough = enough })
 
 module _ {G : Type 0} {Near Far : Way → Type 0} {setting_at : Rest G → Setting} {conn : ℕ} {Now : Rest G → Type 0} {now : Ways} {pair : Pair}
     {turns : Turns} (o : IsOn Near Far setting_at conn Now now pair turns) where
   pub on_lives : (x : Rest G) × Now x × IsSome (find conn x.sessions)
   on_lives =
       let g = o.comes.lives in
-      let ledger = o.rest.ledger ++ g.more in
-      (with_talk o.rest conn g.unfinished ledger g.kept, g.now, still_found conn o.rest o.found g.unfinished ledger g.kept)
+      let l = o.rest.ledger ++ g.more in
+      (with_talk o.rest conn g.unfinished l g.kept, g.now, still_found conn o.rest o.found g.unfinished l g.kept)
 
   pub on_at : {Then : Rest G → Type 0} {next : Ways} {t : Turns} {y : Pair} → Comes o.rest conn (setting_at o.rest) o.start next t y Then
       → IsOn Near Far setting_at conn Then next y t
@@ -140,8 +131,6 @@ module _ (S : Setting) (conn : ℕ) (ledger : List EntryView) where
             (cases_lt (length ls) n),
       )
 
--- ---- the session and the client
-
 -- the session, as a talk leaves it
 abbrev Left : {G : Type 0} → Rest G → ℕ → (Rest G → Type 0) → List ℕ → Talk → Type 0
 Left r conn Now out t = (u : Opened) × Now (with_talk r conn u t.ledger t.kept) × (out ≡ t.out)
@@ -191,12 +180,15 @@ taken_whole {old = old} {bytes = bytes} max e o l =
     let none = ap (λ (z : List ℕ). record old { unsent = z }) all.1 ∙ ap (λ (z : ClientRest). record z { unsent = [] }) e in
     (all.0 ∙ ap (λ (z : ClientRest). z.unsent) e, o.1 ∙ none)
 
--- all that the client has to send was taken out, and none of it is given
-pub comes_out : {G : Type 0} {r : Rest G} {conn : ℕ} {S : Setting} {start b : Ways} {y : Pair} {Then : Rest G → Type 0} (t : Turns)
-    → Comes r conn S start b (record { place = all_sent t.place; sent = t.sent; text = t.text }) y Then
-    → Comes r conn S start b (given S conn r.ledger t []) y Then
-comes_out {r = r} {conn = conn} {S = S} {start = start} {b = b} {y = y} {Then = Then} t h =
-    subst (λ (z : Turns). Comes r conn S start b z y Then) (sym (given_none S conn r.ledger t)) h
+-- and none of it is given
+pub comes_out : {G : Type 0} {r : Rest G} {conn : ℕ} {S : Setting} {start a : Ways} {t : Turns} {x : Pair} {Now : Rest G → Type 0} {c : Caller}
+    (h : Comes r conn S start a t x Now) → rest_of c.client ≡ record (with_item t.place h.client.item).rest { unsent = [] } → c.version ≡ x.caller.version
+    → Comes r conn S start a (given S conn r.ledger t []) (record { caller = c; said = x.said; liveness = x.liveness }) Now
+comes_out {r = r} {conn = conn} {S = S} {start = start} {a = a} {t = t} {x = x} {Now = Now} {c = c} h e v =
+    let old = h.client in
+    let client : StandsAt c (all_sent t.place) = record { item = old.item; at = record { fits = e; version = v ∙ old.at.version }; same = old.same } in
+    subst (λ (z : Turns). Comes r conn S start a z (record { caller = c; said = x.said; liveness = x.liveness }) Now) (sym (given_none S conn r.ledger t))
+    (record { lives = h.lives; client = client; session = h.session; up = h.up; down = h.down; printed = h.printed })
 
 -- a line was submitted
 pub comes_line : {G : Type 0} {r : Rest G} {conn : ℕ} {S : Setting} {start a : Ways} {x : Pair} {Now : Rest G → Type 0} {c : Caller} {out : Option (List ℕ)}
@@ -206,14 +198,9 @@ pub comes_line : {G : Type 0} {r : Rest G} {conn : ℕ} {S : Setting} {start a :
     (record { caller = c; said = x.said; liveness = x.liveness }) Now
 comes_line {start = start} {a = a} {c = c} {out = out} {t = t} l b h s =
     let k = line_put (with_item t.place h.client.item) (asked t l) l.0 a.out out (IsAt c) b s in
-    record {
-      lives = h.lives;
-      client = stands_by t.place (asked t l) h.client.item (refuses t.place.rest.knows (asked t l)) h.client.same k.1;
-      session = h.session;
-      up = h.up;
-      down = h.down;
-      printed = Appends-trans start.out a.out out t.text _ h.printed k.0;
-    }
+    let client = stands_by t.place (asked t l) h.client.item (refuses t.place.rest.knows (asked t l)) h.client.same k.1 in
+    let printed = Appends-trans start.out a.out out t.text _ h.printed k.0 in
+    record { lives = h.lives; client = client; session = h.session; up = h.up; down = h.down; printed = printed }
 
 -- before the first exchange, on a server on which no session lives
 pub loop_begins : {G : Type 0} (r : Rest G) (S : Setting) {p : Pair} {Now : Rest G → Type 0} {conn : ℕ} → r.sessions ≡ [] → HasOpened r conn Now
@@ -289,15 +276,10 @@ pub turn_goes : {G : Type 0} {r : Rest G} {conn : ℕ} {S : Setting} {start a : 
     → Goes r conn start b Then (Comes r conn S start b (given S conn r.ledger t (done ++ piece)) y Then) (BreaksIn S conn r.ledger start b t) result
 turn_goes {r = r} {conn = conn} {S = S} {start = start} {a = a} {Then = Then} b y t done piece after (Ok u) parts h lives up s heard read written =
     let here = given S conn r.ledger t done in
-    let next : Comes r conn S start b (given S conn r.ledger here piece) y Then = record {
-      lives = lives;
-      client = heard.1.stands;
-      session = s;
-      up = passes_then h.up up;
-      down = subst (Passes start.down b.down) (sym (answer_is S conn r.ledger here.sent piece)) (passes_then h.down heard.0);
-      printed = Appends-trans start.out a.out b.out here.text _ h.printed heard.1.printed;
-    } in
-    subst (λ (z : Turns). Comes r conn S start b z y Then) (sym (given_more S conn r.ledger t done piece)) next
+    let down = subst (Passes start.down b.down) (sym (answer_is S conn r.ledger here.sent piece)) (passes_then h.down heard.0) in
+    let printed = Appends-trans start.out a.out b.out here.text _ h.printed heard.1.printed in
+    subst (λ (z : Turns). Comes r conn S start b z y Then) (sym (given_more S conn r.ledger t done piece))
+    (record { lives = lives; client = heard.1.stands; session = s; up = passes_then h.up up; down = down; printed = printed })
 turn_goes b y t done piece after (Err fault) parts h lives up s k read written = (
   lives,
   cause_of fault _ _ (λ e. inr (source_after h.down (read (ap Err e)))) (λ e. inr (written (ap Err e))),

@@ -1,4 +1,4 @@
-use Rattle.std.proofs.Common.{◌∙◌, ◌++◌, [], sym, ap, append_assoc, arith}
+use Rattle.std.proofs.Common.{refl, ◌∙◌, ◌++◌, [], sym, ap, append_assoc, arith}
 use Rattle.client.specs.Prelude.{Rest, awaits}
 use Rattle.server.specs.Prelude.{setting}
 use Rattle.streams.proofs.Fronts.{front_whole}
@@ -13,19 +13,8 @@ returns-in_default g c = λ r start t i h.
 
 pub loop-rest-init : goal.loop-rest-init
 loop-rest-init g c = λ r start t i h.
-    let s = h.client in
-    let k = taken_whole 18446744073709551615 s.at.fits c.in-Ok.ensures.ok (omega (arith, c.in-Ok.ensures.short)) in (
-      [],
-      c.as_slice-rest.ensures ∙ k.0,
-      comes_out t (record {
-        lives = h.lives;
-        client = record { item = s.item; at = record { fits = k.1; version = s.at.version }; same = s.same };
-        session = h.session;
-        up = h.up;
-        down = h.down;
-        printed = h.printed;
-      }),
-    )
+    let k = taken_whole 18446744073709551615 h.client.at.fits c.in-Ok.ensures.ok (omega (arith, c.in-Ok.ensures.short)) in
+    ([], c.as_slice-rest.ensures ∙ k.0, comes_out h k.1 refl)
 
 pub turn-requires : goal.turn-requires
 turn-requires g c = let o = c.requires.1 in (_, on_at o (c.loop-rest.invariant o.rest o.start c.requires.0 o.found o.comes).2)

@@ -2,8 +2,7 @@ use Rattle.std.proofs.Common.{◌≡◌, ◌∙◌, ◌++◌, [], append_assoc, 
 use Rattle.std.proofs.lemmas.List.{nil_from_length}
 use Rattle.std.proofs.KnownBytes.{Appends-nil, Appends-trans}
 use Rattle.client.specs.declared.heard.Heard.{Heard}
-use Rattle.client.specs.Fits.{rest_of}
-use Rattle.client.specs.Prelude.{note}
+use Rattle.client.specs.Prelude.{note, rest_of}
 use Rattle.streams.proofs.Fronts.{front_after}
 use Rattle.prints.specs.Prelude.{note_text}
 use Rattle.shells.specs.Prelude.{notes_text, version_after, versions_after}

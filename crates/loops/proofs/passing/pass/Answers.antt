@@ -12,7 +12,8 @@ pub returns-clause-passes : goal.returns-clause-passes
 returns-clause-passes g c =
     let left = g.S.PeerSource.left in
     let read : c.as_slice.result.now ≡ c.read_known.new.buffer = c.as_slice.ensures.value ∙ take_at c.read_known.new.buffer _ c.in-Ok.part.len (search rules) in
-    let same = bytes_are c.as_slice.result.now c.args.bytes.now (not-false (bytes_eq c.as_slice.result.now c.args.bytes.now) (sym c.ne.ensures ∙ c.if-ne.false)) in
+    let got = c.as_slice.result.now in
+    let same = bytes_are got c.args.bytes.now (not-false (bytes_eq got c.args.bytes.now) (sym c.ne.ensures ∙ c.if-ne.false)) in
     let gave = subst (Consumes (left c.way.inside.source) (left c.read_known.new.source)) (sym read ∙ same) c.in_ok-read_known.ensures.reads in
     rw (← c.way.view_is) (record { took = search rules; gave = gave })
 
