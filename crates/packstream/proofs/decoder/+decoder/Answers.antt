@@ -10,17 +10,17 @@ use Rattle.packstream.proofs.decoder.+decoder.Goals.{members_of-in-Some+in_ok-pu
 pub members_of-returns-in_err-member : goal.members_of-returns-in_err-member
 members_of-returns-in_err-member t c =
     let p = err_from_is_err_and c.from_residual-in_err-member.result c.from_residual-in_err-member.ensures.1 in
-    rw (p.1, p.2) (items_end c.in_err-member.field-0.0 (layer (inner c.args.room)) c.args.count c.loop.counter (trees c.loop.members.items) c.loop.rest.now (items_at (layer (inner c.args.room)) c.args.count [] c.args.bytes.now) c.loop-test.true c.in_err-member.ensures c.loop.invariant)
+    rw (p.1, p.2) (items_end c.in_err-member.field-0.0 (layer (inner c.args.room)) c.args.count c.loop-i.i (trees c.loop-i.members.items) c.loop-i.rest.now (items_at (layer (inner c.args.room)) c.args.count [] c.args.bytes.now) c.loop-i-test.true c.in_err-member.ensures c.loop-i.invariant)
 
-pub members_of-loop-preserved : goal.members_of-loop-preserved
-members_of-loop-preserved t c = elim c.match-int_front.branch [
+pub members_of-loop-i-preserved : goal.members_of-loop-i-preserved
+members_of-loop-i-preserved t c = elim c.match-int_front.branch [
   | members_of-in-Some+in_ok-push_int w ↦
       let n : to_z w64 (of_z w64 w.in-Some.number) ≡ w.in-Some.number = search rules in
-      rw (w.members-is, w.rest-is, w.in_ok-push_int.ensures, n) (items_on (layer (inner c.args.room)) c.args.count c.loop.counter (trees c.loop.members.items) c.loop.rest.now w.in-Some.after.now (int w.in-Some.number) (items_at (layer (inner c.args.room)) c.args.count [] c.args.bytes.now) c.loop-test.true (w.in-Some.ensures (inner c.args.room)) c.loop.invariant)
+      rw (w.members-is, w.rest-is, w.in_ok-push_int.ensures, n) (items_on (layer (inner c.args.room)) c.args.count c.loop-i.i (trees c.loop-i.members.items) c.loop-i.rest.now w.in-Some.after.now (int w.in-Some.number) (items_at (layer (inner c.args.room)) c.args.count [] c.args.bytes.now) c.loop-i-test.true (w.in-Some.ensures (inner c.args.room)) c.loop-i.invariant)
   | members_of-in_default+in_ok-member+in_ok-push w ↦
       let n = w.in_ok-member.member in
-      let e : trees w.push.new.self.items ≡ trees c.loop.members.items ++ tree n ∷ [] = rw w.in_ok-push.ensures.items (map_push tree c.loop.members.items n) in
-      rw (w.members-is, w.rest-is, e) (items_on (layer (inner c.args.room)) c.args.count c.loop.counter (trees c.loop.members.items) c.loop.rest.now w.in_ok-member.after.now (tree n) (items_at (layer (inner c.args.room)) c.args.count [] c.args.bytes.now) c.loop-test.true w.in_ok-member.ensures c.loop.invariant)
+      let e : trees w.push.new.self.items ≡ trees c.loop-i.members.items ++ tree n ∷ [] = rw w.in_ok-push.ensures.items (map_push tree c.loop-i.members.items n) in
+      rw (w.members-is, w.rest-is, e) (items_on (layer (inner c.args.room)) c.args.count c.loop-i.i (trees c.loop-i.members.items) c.loop-i.rest.now w.in_ok-member.after.now (tree n) (items_at (layer (inner c.args.room)) c.args.count [] c.args.bytes.now) c.loop-i-test.true w.in_ok-member.ensures c.loop-i.invariant)
 ]
 
 pub pairs_of-returns-in_err-key : goal.pairs_of-returns-in_err-key

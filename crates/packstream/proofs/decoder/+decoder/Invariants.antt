@@ -26,8 +26,8 @@ decreases-many_pairs_of l = 4 * l.room + 3
 abbrev pub decreases-pairs_of : goal.decreases-pairs_of
 decreases-pairs_of l = 4 * l.room + 3
 
-abbrev pub invariant-members_of-loop : goal.invariant-members_of-loop
-invariant-members_of-loop l = items_at (layer (inner l.room)) (l.count - l.counter) (trees l.members.items) l.rest ≡ items_at (layer (inner l.room)) l.count [] l.bytes
+abbrev pub invariant-members_of-loop-i : goal.invariant-members_of-loop-i
+invariant-members_of-loop-i l = items_at (layer (inner l.room)) (l.count - l.i) (trees l.members.items) l.rest ≡ items_at (layer (inner l.room)) l.count [] l.bytes
 
 abbrev pub invariant-pairs_of-loop : goal.invariant-pairs_of-loop
 invariant-pairs_of-loop l = entries_at (layer (inner l.room)) (l.count - l.counter) (entries l.pairs.items) l.rest ≡ entries_at (layer (inner l.room)) l.count [] l.bytes
