@@ -53,7 +53,10 @@ answers_step wish k x h [] n t (tells_summary a s) e f more = absurd cc
 answers_step wish k x h (q ∷ qs) n t (tells_summary a s) e f more =
     let o = outcome_of k.phase (kind_of s.first) s.verdict in
     let told : Summary k.first s.next o a ≡ Summary n s.next o a = ap (λ (m : ℕ). Summary m s.next o a) f in
-    inr ((s.next, o, a, (0, zero-lt-suc _, told)), answers_behind (Summary k.first s.next o a ∷ []) qs (suc n) t.notes t.knows (more qs (suc n) (ap (drop 1) e) (ap suc f)))
+    inr (
+      (s.next, o, a, (0, zero-lt-suc _, told)),
+      answers_behind (Summary k.first s.next o a ∷ []) qs (suc n) t.notes t.knows (more qs (suc n) (ap (drop 1) e) (ap suc f)),
+    )
 answers_step wish k x h ws n t _ e f more = answers_behind (notes_of x h) ws n t.notes t.knows (more ws n e f)
 
 answers : (wish : Wish) (k : Knows) (items : List Item) (ws : List RequestView) (n : ℕ) → k.waiting ≡ ws → k.first ≡ n
@@ -101,7 +104,8 @@ module _ (n : ℕ) (phase : Phase) (outcome : Outcome) (said : ResponseView) whe
   has_line {v = v} (cut_at fault shown x rest part told c) i =
       let behind = ⊎_elim (λ e. ⊎_elim (λ h. inl (has_before line (explained_all v shown) h)) (λ h. inr (has_behind line (summaries_text rest) h)) (at_cut c e))
       (λ h. inr (has_before line told (in_summaries rest h))) in
-      ⊎_elim (λ h. inl (has_behind line part (in_texts v shown h))) (λ h. behind (contains_next x summary rest h)) (Contains-append_cases shown (x ∷ rest) summary i)
+      ⊎_elim (λ h. inl (has_behind line part (in_texts v shown h)))
+      (λ h. behind (contains_next x summary rest h)) (Contains-append_cases shown (x ∷ rest) summary i)
 
 is_farewell : (over none goodbye : Bool) → (not (cond over false (cond none true (not goodbye || false))) && not over) ≡ true → goodbye ≡ true
 is_farewell over none true e = refl

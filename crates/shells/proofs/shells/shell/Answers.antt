@@ -22,10 +22,11 @@ returns-in-Err g c =
     let so = so_far runs.does.talked in
     let told = g.E.Sink.taken c.put_stop.new.err in
     let deaf = g.E.Sink.has_failed c.put_stop.new.err in
-    let never = sound_unless c.in-Err.stop c.put_stop.ensures.status in
+    let put = c.put_stop.ensures in
+    let never = sound_unless c.in-Err.stop put.status in
     let cause = rw (← c.streams.view_is) at (stop_of c.in-Err.stop _ _ (λ e. c.in-Err.ensures.read (ap Err e)) (λ e. c.in-Err.ensures.written (ap Err e))) in
     record {
-      shells = record { stop = Some c.in-Err.stop; ends = c.put_stop.ensures.status; cause = cause; told = _; deaf = _; runs = runs; said = c.put_stop.ensures.text };
+      shells = record { stop = Some c.in-Err.stop; ends = put.status; cause = cause; told = _; deaf = _; runs = runs; said = put.text };
       accounts = accounts told deaf (stop_text c.in-Err.stop) so c.put_stop.ensures.text;
       sound = λ n.
           let unread = never n ReadFailed refl in
