@@ -256,11 +256,12 @@ async def keeps_to_a_task(port):
 
 async def tells_errors(port):
     unreached, stranger = await raised(connected(1)), await raised(aio.connect("127.0.0.1", port, auth=("user", "no")))
+    short = await raised(aio.connect("127.0.0.1", port, auth=("user",)))
     async with await connected(port) as connection:
         unpacked = await raised(connection.run("ECHO", x={1}))
         goes_on = await (await connection.run("ONE")).single() == [1]
     return ((type(unreached), unreached.why, type(unreached.__cause__)) == (bolt.Broken, bolt.UNREACHED, ConnectionRefusedError)
-            and (type(stranger), stranger.code[-12:], type(unpacked)) == (bolt.Refused, "Unauthorized", TypeError) and goes_on)
+            and (type(stranger), stranger.code[-12:], type(unpacked)) == (bolt.Refused, "Unauthorized", TypeError) and type(short) is ValueError and goes_on)
 
 
 def put(key, value):

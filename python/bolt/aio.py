@@ -13,7 +13,7 @@ import contextlib
 import ssl
 from typing import Any, AsyncIterator, Awaitable, Callable, Iterator, Optional, Union
 
-from .core import Answer, Core, Steps
+from .core import Answer, Core, Steps, login_of
 from .errors import CLOSED_HERE, TIMED_OUT, UNREACHED, BoltError, Broken, NotSent, Request
 from .library import MESSAGE
 from .queries import Pipeline, Queries, Transacting
@@ -29,10 +29,10 @@ class AsyncSession(Core):
     _writer: Optional[asyncio.StreamWriter] = None
     _is_late = False
 
-    async def _open_at(self, host: str, port: int, tls: Optional[ssl.SSLContext], agent: str, auth: tuple[str, str, str]) -> None:
+    async def _open_at(self, host: str, port: int, tls: Optional[ssl.SSLContext], agent: str, login: dict[str, str]) -> None:
         try:
             await self._connect(host, port, tls)
-            await self._do(self._opening(agent, dict(zip(("scheme", "principal", "credentials"), auth))), self._until)
+            await self._do(self._opening(agent, login), self._until)
         except BaseException:
             self._free()
             raise
@@ -290,10 +290,11 @@ class AsyncConnection(Queries[AsyncSession, AsyncResult]):
 async def connect(host: str, port: int = 7687, *, auth: Optional[tuple[str, str]] = None, tls: Union[None, bool, ssl.SSLContext] = None,
                   timeout: Optional[float] = 10, agent: str = "bolt.py/1", versions: int = NEWEST, fetch: int = 1000) -> AsyncConnection:
     """Connects and logs in, as `bolt.connect` does."""
+    login = login_of(("none", "", "") if auth is None else ("basic", *auth))
     context = ssl.create_default_context() if tls is True else tls or None
     session = AsyncSession(versions, timeout)
     try:
-        await session._open_at(host, port, context, agent, ("none", "", "") if auth is None else ("basic", *auth))
+        await session._open_at(host, port, context, agent, login)
     except OSError as why:
         raise Broken([], UNREACHED) from why
     return AsyncConnection(session, fetch)

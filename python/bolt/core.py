@@ -50,6 +50,13 @@ def ends(call: Callable[..., Answer]) -> Callable[..., Answer]:
     return whole
 
 
+def login_of(auth: tuple[str, ...]) -> dict[str, str]:
+    """What a client logs in by: the scheme, the principal and the credentials."""
+    if len(auth) != 3:
+        raise ValueError("auth is the scheme, the principal and the credentials")
+    return dict(zip(("scheme", "principal", "credentials"), auth))
+
+
 class Core:
     """A session without its socket. `timeout` is that of each call as a whole, in seconds; None for none. What isn't settled when it has passed is told by
     `Broken`, and the connection is gone.

@@ -5,7 +5,7 @@ import socket
 import ssl
 from typing import Any, Optional, Union
 
-from .core import Answer, Core, Steps, ends, extra
+from .core import Answer, Core, Steps, ends, extra, login_of
 from .errors import CLOSED_HERE, TIMED_OUT, UNREACHED, Broken, NotSent, Request
 from .library import MESSAGE
 from .versions import NEWEST
@@ -35,13 +35,12 @@ class Session(Core):
 
     def __init__(self, host: str, port: int, auth: tuple[str, str, str] = ("none", "", ""), agent: str = "bolt.py/1", versions: int = NEWEST,
                  timeout: Optional[float] = 10, tls: Union[None, bool, ssl.SSLContext] = None) -> None:
-        if len(auth) != 3:
-            raise ValueError("auth is the scheme, the principal and the credentials")
+        login = login_of(auth)
         self._tls = ssl.create_default_context() if tls is True else tls or None
         super().__init__(versions, timeout)
         try:
             self._connect(host, port)
-            self._do(self._opening(agent, dict(zip(("scheme", "principal", "credentials"), auth))), self._until)
+            self._do(self._opening(agent, login), self._until)
         except BaseException:
             self.close()
             raise

@@ -3,15 +3,22 @@
 use crate::error::{Error, Outcome, Request};
 use crate::ffi::{Client, CLOSED, FULL, HALTED, MEMORY, MESSAGE, NOT_ALLOWED, PIPELINE};
 use crate::value::{dict, put, Reading, Value};
+use std::fmt;
 use std::io::{self, Read, Write};
 use std::panic::{catch_unwind, resume_unwind, AssertUnwindSafe};
 
-/// How a client logs in: its name, and who it is.
-#[derive(Clone, Debug)]
+/// How a client logs in: its name, and who it is. What is printed of it tells no credentials.
+#[derive(Clone)]
 pub struct Login {
     pub agent: String,
     pub principal: String,
     pub credentials: String,
+}
+
+impl fmt::Debug for Login {
+    fn fmt(&self, f: &mut fmt::Formatter<'_>) -> fmt::Result {
+        f.debug_struct("Login").field("agent", &self.agent).field("principal", &self.principal).finish_non_exhaustive()
+    }
 }
 
 /// A query: its text and its parameters.

@@ -122,6 +122,7 @@ fn it_is_sent_until_it_is_known() {
 #[test]
 fn what_is_refused_is_told() {
     let mut connection = open();
+    assert_eq!(format!("{:?}", login()), "Login { agent: \"test/1\", principal: \"user\", .. }");
     let refused = connection.run(&Query::new("NOPE", []));
     assert!(matches!(refused, Err(Error::Refused { ref code, .. }) if code == "Neo.ClientError.Statement.UnknownText"));
     // (it isn't told again of what is asked behind it)
