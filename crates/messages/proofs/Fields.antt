@@ -1,14 +1,14 @@
 -- Fields one at a time: by their number, what they say by the row of their structure, and how a field of cells is written.
-use Rattle.std.proofs.Common.{◌≡◌, List, [], ◌∷◌, length, false, ◌==◌, refl, sym, ◌∙◌, Err, Global, String, rules, ℕ, true, ap, codes, ◌++◌, append-nil, Result, Ok}
+use Rattle.std.proofs.Common.{◌≡◌, List, [], ◌∷◌, length, false, ◌==◌, refl, sym, ◌∙◌, Err, Global, String, rules, ℕ, true, ap, Result, Ok}
 use Rattle.packstream.specs.Prelude.{dict, text, Trees, no_trees, tree_then, Tree, list, Entries, count, IsGood, tree, trees, trees_of, first_fault, faults_in}
 use Rattle.packstream.specs.declared.value.Value.{Value, Text as TextCase, the_lemmas}
 use Rattle.packstream.proofs.Putting.{len_trees}
 use Rattle.cells.specs.Prelude.{text_of, shape, scan, fault as structure_fault, structures, IsWritable}
-use Rattle.messages.specs.Prelude.{no_field, one_field, run_parts, entries_of_dict, members_of_list, only_dict, contents_of_login, contents_of_run, as_dict, as_list, Name, Others, Named, ignored, extra, text_field, cells, cell_list, credentials, RUN, of_transaction, ◌>>=◌, contents, contents_of_named, contents_of_row, contents_of_extra, cell_of_field, contents_of_mode, contents_of_metadata, lookup, cell_by, Answers, of_cell, value_by, form_by, cell_put}
+use Rattle.messages.specs.Prelude.{no_field, one_field, run_parts, entries_of_dict, members_of_list, only_dict, contents_of_login, contents_of_run, as_dict, as_list, Name, Others, Named, ignored, extra, text_field, cells, cell_list, credentials, RUN, of_transaction, ◌>>=◌, contents, contents_of_named, contents_of_row, contents_of_extra, cell_of_field, cell_by, Answers, of_cell, value_by, form_by, cell_put}
 use Rattle.wire.specs.declared.Version.{Version}
 use Rattle.wire.specs.Prelude.{hello_has_login}
 use Rattle.messages.specs.declared.fault.MsgFault.{MsgFault}
-use Rattle.structures.specs.Prelude.{typed_under, Form, form, Reads, Writes}
+use Rattle.structures.specs.Prelude.{Form, form, Reads, Writes}
 use Rattle.cells.specs.declared.fault.Reason.{Reason as CellReason}
 use Rattle.packstream.specs.declared.fault.Reason.{Reason as PackReason}
 use Rattle.packstream.proofs.Checking.{bad_when}
@@ -71,15 +71,14 @@ list_row v n (tree_then (list us) no_trees) = one_list n us (scan (structure_fau
 list_row v n (tree_then t no_trees) = refl
 list_row v n ts = refl
 
-text_and_dict : (n : Name) (t : Tree) (es : Entries) (a b : Result (List Tree) MsgFault) (r : Result ℕ (CellReason × ℕ))
-    → ((a >>= λ x. (b >>= λ y. Ok (y ++ [])) >>= λ xs. Ok (x ++ xs)) >>= λ x. ((cell_by r (dict es) >>= λ x. Ok (x ∷ [])) >>= λ xs. Ok (t ∷ xs)) >>= λ fs. Ok (contents n fs x))
-    ≡ (a >>= λ x. b >>= λ y. (cell_by r (dict es) >>= as_dict) >>= λ c. Ok (contents n (t ∷ c ∷ []) (x ++ y)))
-text_and_dict n t es (Ok a) (Ok b) (Ok k) = ap (λ y. Ok (contents n (t ∷ dict (typed_under es) ∷ []) (a ++ y))) (append-nil b)
-text_and_dict n t es a b r = refl
+text_and_dict : (n : Name) (t : Tree) (es : Entries) (a : Result (List Tree) MsgFault) (r : Result ℕ (CellReason × ℕ)) → (a >>= λ x. ((cell_by r (dict es) >>= λ x. Ok (x ∷ [])) >>= λ xs. Ok (t ∷ xs)) >>= λ fs. Ok (contents n fs x))
+    ≡ (a >>= λ x. (cell_by r (dict es) >>= as_dict) >>= λ c. Ok (contents n (t ∷ c ∷ []) x))
+text_and_dict n t es (Ok a) (Ok k) = refl
+text_and_dict n t es a r = refl
 
 pub run_row : (v : Version) (ts : Trees) → contents_of_row v RUN (text_field ∷ cells ∷ extra ignored of_transaction ∷ []) ts
     ≡ (run_parts ts >>= λ p. contents_of_run v p.text p.parameters p.entries)
-run_row v (tree_then (text s) (tree_then (dict ps) (tree_then (dict es) no_trees))) = text_and_dict RUN (text s) ps (contents_of_mode (lookup (codes "mode") es)) (contents_of_metadata (lookup (codes "tx_metadata") es)) (scan (structure_fault v) 0 (structures (dict ps)))
+run_row v (tree_then (text s) (tree_then (dict ps) (tree_then (dict es) no_trees))) = text_and_dict RUN (text s) ps (contents_of_named v of_transaction es) (scan (structure_fault v) 0 (structures (dict ps)))
 run_row v ts = refl
 
 -- a value that stands for a cell is the cell's form

@@ -7,7 +7,7 @@ use Rattle.packstream.specs.declared.marker.Size.TheVariants.{Here}
 use Rattle.packstream.proofs.Only.{canon_spells}
 use Rattle.packstream.proofs.Ranges.{fits_neg}
 use Rattle.wire.specs.declared.Version.{Version}
-use Rattle.wire.specs.Versions.{every_version, hello_has_login, has_logon}
+use Rattle.wire.specs.Versions.{every_version, has_logon}
 use Rattle.cells.specs.declared.cell.Cell.{Cell, Dict as DictCase, List as ListCase}
 use Rattle.cells.specs.Prelude.{entries, shapes, IsWritable}
 use Rattle.cells.proofs.Views.{Pair, shape-Dict, shape-List}
@@ -17,9 +17,8 @@ use Rattle.scanner.specs.Fronts.{SpellsFront}
 use Rattle.messages.specs.declared.request.Mode.{Mode}
 use Rattle.messages.specs.declared.request.Mode.TheVariants.{Read, Write}
 use Rattle.messages.specs.declared.request.Count.{Count}
-use Rattle.messages.specs.Prelude.{AuthView, Row, Name, Named, Others, ignored, refused, extra, requests, responses, HELLO, LOGON, LOGOFF, RUN, BEGIN, PULL, DISCARD, SUCCESS, RECORD, IGNORED, FAILURE, hello, credentials, of_transaction, how_many, of_error, ◌>>=◌, Contents, contents, lookup, contents_of_text, contents_of_mode, contents_of_metadata, contents_of_number, contents_of_login, contents_of_named, contents_of_extra, contents_of_row, contents_of_message, cell_by, cell_of_field, is_token, count_tree, mode_tree, token_tree, login_trees, Hello, Logon, Logoff, Run, Begin, Pull, Discard, Success, Record, Ignored, Failure, Means, Req, Resp, mode_pairs, SpellsEntry, SpellsExtra, SpellsNamed, SpellsDict, SpellsList}
+use Rattle.messages.specs.Prelude.{AuthView, RequestView, ResponseView, request_contents, response_contents, Row, Name, Named, Others, ignored, refused, extra, requests, responses, HELLO, LOGON, RUN, BEGIN, PULL, DISCARD, SUCCESS, RECORD, IGNORED, FAILURE, hello, credentials, of_transaction, how_many, of_error, ◌>>=◌, Contents, contents, contents_of_number, contents_of_login, contents_of_dict, contents_of_named, contents_of_extra, contents_of_row, contents_of_message, cell_by, cell_of_field, is_token, count_tree, mode_tree, token_tree, login_trees, Logon, Run, Begin, Pull, Discard, Success, Record, Ignored, Means, Req, Resp, mode_pairs, SpellsEntry, SpellsExtra, SpellsNamed, SpellsDict, SpellsList}
 use Rattle.messages.proofs.Added.{plain_good, field_good, run_good, mode_good, mode_deep}
-use Rattle.messages.proofs.Fields.{login_here}
 use Rattle.messages.proofs.Kept.{named_kept}
 use Rattle.messages.proofs.Named.{token_entries, write_good, read_good}
 
@@ -29,9 +28,6 @@ use Rattle.messages.proofs.Named.{token_entries, write_good, read_good}
 pub plain_means : (v : Version) (table : List Row) (s : Contents) (tag : ℕ) → tag < 256 → contents_of_message v table (structure tag no_trees) ≡ Ok s → Means v table s (0xB0 ∷ tag ∷ [])
 unfolding marker
 plain_means v table s tag small says = record { value = structure tag no_trees; good = plain_good tag small; spelled = ((omega arith, (small, tt)), ([], refl, (0xB0, refl, refl))); says = says }
-
-pub logoff_means : (v : Version) → has_logon v ≡ true → Req v Logoff (0xB0 ∷ 0x6B ∷ [])
-logoff_means v h = plain_means v requests (contents LOGOFF [] []) 0x6B (omega arith) (rw h refl)
 
 pub ignored_means : (v : Version) → Resp v Ignored (0xB0 ∷ 0x7E ∷ [])
 ignored_means v = plain_means v responses (contents IGNORED [] []) 0x7E (omega arith) refl
@@ -68,26 +64,24 @@ pub begin_means : (v : Version) (m : Mode) (token : Option (List ℕ)) (b : List
 begin_means v m token b x = extra_means v requests BEGIN 0x11 ignored of_transaction (mode_tree m ∷ token_tree token ∷ []) b (omega arith) (λ es. refl) x
 
 -- what cells say that were read of a dictionary is what the dictionary says
-named_extra : (v : Version) (ns : List Named) (xs : List Tree) (es : Entries) (b : List ℕ) → SpellsNamed es b → contents_of_named v ns es ≡ Ok xs → SpellsExtra v ignored ns xs b
+pub named_extra : (v : Version) (ns : List Named) (xs : List Tree) (es : Entries) (b : List ℕ) → SpellsNamed es b → contents_of_named v ns es ≡ Ok xs → SpellsExtra v ignored ns xs b
 named_extra v ns xs es b x h = record { entries = x.entries; good = x.good; deep = x.deep; spelled = x.spelled; told = x.told v ns ∙ h }
 
-pub transaction_scanned : (v : Version) (m : Mode) (token : Option (List ℕ)) (es : Entries) (b : List ℕ) → SpellsNamed es b → contents_of_mode (lookup (codes "mode") es) ≡ Ok (mode_tree m ∷ [])
-    → contents_of_metadata (lookup (codes "tx_metadata") es) ≡ Ok (token_tree token ∷ []) → SpellsExtra v ignored of_transaction (mode_tree m ∷ token_tree token ∷ []) b
-transaction_scanned v m token es b x e k = named_extra v of_transaction _ es b x (rw (e, k) refl)
+-- a message of a dictionary that was read as cells
+named_means : (v : Version) (table : List Row) (n : Name) (tag : ℕ) (ns : List Named) (s : Contents) (es : Entries) (b : List ℕ) → tag < 256
+    → ((fs : Entries) → contents_of_message v table (structure tag (tree_then (dict fs) no_trees)) ≡ contents_of_row v n (extra ignored ns ∷ []) (tree_then (dict fs) no_trees))
+    → SpellsNamed es b → contents_of_dict v n ns es ≡ Ok s → Means v table s (0xB1 ∷ tag ∷ b)
+named_means v table n tag ns s es b small row x h =
+    field_means v table s tag (dict x.entries) b small (row x.entries ∙ ap (λ r. r >>= λ ys. Ok (contents n [] ys)) (x.told v ns) ∙ h) x.good x.deep x.spelled
+
+pub hello_means : (v : Version) (r : RequestView) (es : Entries) (b : List ℕ) → SpellsNamed es b → contents_of_dict v HELLO hello es ≡ Ok (request_contents r) → Req v r (0xB1 ∷ 0x01 ∷ b)
+hello_means v r es b = named_means v requests HELLO 0x01 hello (request_contents r) es b (omega arith) (λ fs. refl)
 
 pub logon_means : (v : Version) (l : AuthView) (es : Entries) (b : List ℕ) → has_logon v ≡ true → SpellsNamed es b → contents_of_login es ≡ Ok (login_trees l) → Req v (Logon l) (0xB1 ∷ 0x6A ∷ b)
-logon_means v l es b h x e = extra_means v requests LOGON 0x6A ignored (credentials every_version) (login_trees l) b (omega arith) (λ fs. rw h refl) (named_extra v (credentials every_version) (login_trees l) es b x e)
+logon_means v l es b h x e = named_means v requests LOGON 0x6A (credentials every_version) _ es b (omega arith) (λ fs. rw h refl) x (ap (λ r. r >>= λ xs. Ok (contents LOGON [] xs)) e)
 
-pub hello_means : (v : Version) (a : List ℕ) (es : Entries) (b : List ℕ) → hello_has_login v ≡ false → SpellsNamed es b → contents_of_text (lookup (codes "user_agent") es) ≡ Ok (text a ∷ []) → Req v (Hello a None) (0xB1 ∷ 0x01 ∷ b)
-hello_means v a es b h x e = extra_means v requests HELLO 0x01 ignored hello (text a ∷ []) b (omega arith) (λ fs. refl) (named_extra v hello (text a ∷ []) es b x (rw (e, h) refl))
-
-pub hello_and_login_means : (v : Version) (a : List ℕ) (l : AuthView) (es : Entries) (b : List ℕ) → hello_has_login v ≡ true → SpellsNamed es b → contents_of_text (lookup (codes "user_agent") es) ≡ Ok (text a ∷ [])
-    → contents_of_login es ≡ Ok (login_trees l) → Req v (Hello a (Some l)) (0xB1 ∷ 0x01 ∷ b)
-hello_and_login_means v a l es b h x e k = extra_means v requests HELLO 0x01 ignored hello (text a ∷ login_trees l) b (omega arith) (λ fs. refl)
-    (named_extra v hello (text a ∷ login_trees l) es b x (ap (λ r. contents_of_text (lookup (codes "user_agent") es) >>= λ y. r >>= λ ys. Ok (y ++ ys)) (login_here v es h ∙ k) ∙ ap (λ r. r >>= λ y. Ok (y ++ login_trees l)) e))
-
-pub failure_means : (v : Version) (c m : List ℕ) (es : Entries) (b : List ℕ) → SpellsNamed es b → contents_of_text (lookup (codes "code") es) ≡ Ok (text c ∷ []) → contents_of_text (lookup (codes "message") es) ≡ Ok (text m ∷ []) → Resp v (Failure c m) (0xB1 ∷ 0x7F ∷ b)
-failure_means v c m es b x e k = extra_means v responses FAILURE 0x7F ignored of_error (text c ∷ text m ∷ []) b (omega arith) (λ fs. refl) (named_extra v of_error (text c ∷ text m ∷ []) es b x (rw (e, k) refl))
+pub failure_means : (v : Version) (r : ResponseView) (es : Entries) (b : List ℕ) → SpellsNamed es b → contents_of_dict v FAILURE of_error es ≡ Ok (response_contents r) → Resp v r (0xB1 ∷ 0x7F ∷ b)
+failure_means v r es b = named_means v responses FAILURE 0x7F of_error (response_contents r) es b (omega arith) (λ fs. refl)
 
 -- ---- cells
 

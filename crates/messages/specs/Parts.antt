@@ -1,26 +1,44 @@
 -- Messages a part at a time, as the code reads and builds them. Private functions and proofs alone need it: what it says is compared with the table.
-use Rattle.std.specs.Prelude.{if◌then◌else◌, ◌≡◌, ℕ, pos, negsuc, int_le, List, [], ◌∷◌, ◌++◌, codes, Option, None, Some, Result, Ok, Err}
-use Rattle.std.specs.Borrow.{Bor}
-use Rattle.packstream.specs.declared.value.Value.{Value}
+use Rattle.std.specs.Prelude.{if◌then◌else◌, ◌≡◌, ℕ, map, String, string_bytes, pos, negsuc, int_le, List, [], ◌∷◌, ◌++◌, codes, Option, None, Some, Result, Ok, Err}
+use Rattle.std.specs.declared.alloc.Global.{Global}
+use Rattle.cells.specs.Shape.{text_of}
 use Rattle.packstream.specs.Tree.{Tree, null, int, text, list, dict, structure, Trees, no_trees, tree_then, Entries}
-use Rattle.packstream.specs.View.{tree, entries_of}
+use Rattle.packstream.specs.View.{entries_of}
 use Rattle.wire.specs.declared.Version.{Version}
 use Rattle.wire.specs.declared.Version.TheVariants.{V51}
 use Rattle.messages.specs.declared.fault.MsgFault.{MsgFault}
 use Rattle.messages.specs.declared.fault.MsgFault.TheVariants as fault
+use Rattle.messages.specs.declared.entries.Kind.{Kind}
+use Rattle.messages.specs.declared.entries.Kind.TheVariants.{Absent, Text, Int, Dict, Other}
 use Rattle.messages.specs.declared.request.Mode.{Mode}
 use Rattle.messages.specs.declared.request.Mode.TheVariants.{Read, Write}
 use Rattle.messages.specs.declared.request.Count.{Count}
 use Rattle.wire.specs.Versions.{every_version}
-use Rattle.messages.specs.Table.{credentials, of_transaction, how_many, RUN}
-use Rattle.messages.specs.Reading.{◌>>=◌, Contents, contents, is_token, lookup, contents_of_mode, contents_of_metadata, contents_of_named, cell_of_field, mode_tree, token_tree, count_tree}
+use Rattle.messages.specs.Table.{Name, Named, credentials, of_transaction, how_many, RUN}
+use Rattle.messages.specs.Reading.{◌>>=◌, Contents, contents, is_token, lookup, contents_of_text, contents_of_mode, contents_of_count, contents_of_query, contents_of_token, contents_of_metadata, contents_of_named, cell_of_field, mode_tree, token_tree, count_tree}
 use Rattle.messages.specs.View.{AuthView}
 use Rattle.messages.specs.Writing.{named_put}
 
--- a value that may be there, seen as its tree
-abbrev pub Seen : Option (Bor Value) → Option Tree → Type 0
-Seen None o = o ≡ None
-Seen (Some x) o = o ≡ Some (tree x.now)
+-- entries whose values are seen as these trees
+abbrev pub entries_seen : {T : Type 0} → (T → Tree) → List (String Global × T) → Entries
+entries_seen seen es = entries_of (map (λ e. (string_bytes e.0, seen e.1)) es)
+
+-- what is neither a text nor an integer nor a dictionary, and is a fault under each name
+pub record IsOther (t : Option Tree) : Type 0 where
+  pub text : contents_of_text t ≡ Err fault.Extra
+  pub mode : contents_of_mode t ≡ Err fault.Extra
+  pub count : contents_of_count t ≡ Err fault.Extra
+  pub query : contents_of_query t ≡ Err fault.Extra
+  pub token : contents_of_token t ≡ Err fault.Extra
+  pub metadata : contents_of_metadata t ≡ Err fault.Extra
+
+-- what may stand under a name is of this kind
+abbrev pub IsKind : {T : Type 0} → (T → Tree) → Kind T → Option Tree → Type 0
+IsKind seen Absent o = o ≡ None
+IsKind seen (Text s) o = o ≡ Some (text_of s.now)
+IsKind seen (Int z) o = o ≡ Some (int z)
+IsKind seen (Dict es) o = o ≡ Some (dict (entries_seen seen es.now))
+IsKind seen Other o = IsOther o
 
 -- no field; any field is a fault
 abbrev pub no_field : Trees → Result (Unit {0}) MsgFault
@@ -68,6 +86,10 @@ run_parts ts = Err fault.Fields
 abbrev pub contents_of_login : Entries → Result (List Tree) MsgFault
 contents_of_login es = contents_of_named V51 (credentials every_version) es
 
+-- a message of a dictionary with these named entries, the others being ignored
+abbrev pub contents_of_dict : Version → Name → List Named → Entries → Result Contents MsgFault
+contents_of_dict v n ns es = contents_of_named v ns es >>= λ xs. Ok (contents n [] xs)
+
 -- the bytes of a field that is a text; another kind is a fault
 abbrev pub field_text : Tree → Result (List ℕ) MsgFault
 field_text (text s) = Ok s
@@ -98,8 +120,8 @@ contents_of_plain s ts = no_field ts >>= λ x. Ok s
 -- a RUN of its text, its parameters as they stand, and its other entries
 abbrev pub contents_of_run : Version → List ℕ → Tree → Entries → Result Contents MsgFault
 contents_of_run v s t es =
-    contents_of_mode (lookup (codes "mode") es) >>= λ m. contents_of_metadata (lookup (codes "tx_metadata") es)
-    >>= λ k. dict_of_cells v t >>= λ c. Ok (contents RUN (text s ∷ c ∷ []) (m ++ k))
+    contents_of_named v of_transaction es >>= λ xs. dict_of_cells v t
+    >>= λ c. Ok (contents RUN (text s ∷ c ∷ []) xs)
 
 -- a structure of one dictionary with these entries
 abbrev pub with_dict : ℕ → Result Entries MsgFault → Result Tree MsgFault

@@ -1,12 +1,9 @@
 -- What bytes say that are read without a value. Private functions and proofs alone need it.
-use Rattle.std.specs.Prelude.{◌≡◌, ◌≤◌, ◌++◌, ℕ, List, Option, None, Some, Ok}
-use Rattle.std.specs.Borrow.{Bor}
+use Rattle.std.specs.Prelude.{◌≡◌, ◌≤◌, ◌++◌, ℕ, List, Ok}
 use Rattle.packstream.specs.Tree.{Tree, Trees, Entries, dict, list}
 use Rattle.packstream.specs.Good.{IsGood, depth}
 use Rattle.packstream.specs.Spelling.{Spells, SpellsText, SpellsTree}
 use Rattle.wire.specs.declared.Version.{Version}
-use Rattle.cells.specs.declared.cell.Cell.{Cell}
-use Rattle.cells.specs.Shape.{shape}
 use Rattle.scanner.specs.Fronts.{SpellsFront}
 use Rattle.messages.specs.Table.{Named, Others}
 use Rattle.messages.specs.Reading.{cell_of_field, contents_of_named, contents_of_extra}
@@ -49,8 +46,3 @@ pub record SpellsList (v : Version) (cell : Tree) (rest b : List ℕ) : Type 0 w
   pub deep : depth (list members) ≤ 31
   pub spelled : SpellsFront (list members) rest b
   pub told : cell_of_field v (list members) ≡ Ok cell
-
--- a cell that may be there, seen as its tree
-abbrev pub SeenCell : Option (Bor Cell) → Option Tree → Type 0
-SeenCell None o = o ≡ None
-SeenCell (Some x) o = o ≡ Some (shape x.now)

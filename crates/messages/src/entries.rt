@@ -1,50 +1,100 @@
-//! The named entries of a dictionary.
-ghost use Rattle.std.specs.Prelude.{◌≡◌, codes, Some, None, ◌∷◌, []};
+//! The named entries of a dictionary, of values or of cells.
+ghost use Rattle.std.specs.Prelude.{◌≡◌, codes, Some, ◌∷◌, []};
+ghost use Rattle.packstream.specs.Tree.{Tree};
 ghost use Rattle.packstream.specs.View.{tree, entries, entries_of};
-ghost use Rattle.packstream.specs.Tree.{text};
-ghost use Rattle.cells.specs.Shape.{text_of};
-ghost use Rattle.messages.specs.Reading.{Answers, lookup, contents_of_text, contents_of_mode, contents_of_count, contents_of_query, contents_of_token, contents_of_metadata, is_token, token_tree, mode_tree, count_tree, login_trees, all_named, contents_of_extra};
-ghost use Rattle.messages.specs.Parts.{contents_of_login, Seen};
-ghost use Rattle.messages.specs.Table.{refused, how_many};
-ghost use Rattle.messages.specs.View.{auth_view as login, token_view};
+ghost use Rattle.cells.specs.Shape.{shape, text_of};
+ghost use Rattle.messages.specs.Reading.{Answers, lookup, contents_of_text, contents_of_mode, contents_of_count, contents_of_query, contents_of_token, contents_of_metadata, contents_of_named, is_token, token_tree, mode_tree, count_tree, login_trees, all_named, contents_of_extra, request_contents, response_contents};
+ghost use Rattle.messages.specs.Parts.{contents_of_login, contents_of_dict, entries_seen, IsKind};
+ghost use Rattle.messages.specs.Table.{refused, how_many, hello, of_transaction, of_error, HELLO, FAILURE};
+ghost use Rattle.messages.specs.View.{auth_view as login, token_view, request_view, response_view};
 ghost use Rattle.wire.specs.declared.Version.{Version as AnyVersion};
+ghost use Rattle.wire.specs.declared.Version.TheVariants.{V51};
 
 use crate::MAX_TOKEN;
 use crate::fault::MsgFault;
-use crate::request::{Auth, Count, Mode};
+use crate::request::{Auth, Count, Mode, Request};
+use crate::response::Response;
 use packstream::Value;
+use structures::Cell;
+use wire::Version;
 
-/// The value of the first entry with this name.
-pub(crate) fn entry<'a>(pairs: &'a [(String, Value)], name: &str) -> Option<&'a Value>
-    ensures { Seen result (lookup name.now (entries_of (entries pairs.now))) }
+/// What stands under a name.
+#[derive(Drop)]
+pub(crate) enum Kind<'a, T> {
+    Absent,
+    Text(&'a String),
+    Int(i64),
+    Dict(&'a [(String, T)]),
+    Other,
+}
+
+/// What an entry holds: a value or a cell.
+pub(crate) trait Item: Sized {
+    ghost seen: { Self → Tree };
+
+    fn kind(&self) -> Kind<'_, Self>
+        ensures { IsKind seen result (Some (seen self.now)) };
+}
+
+impl Item for Value {
+    ghost seen = { tree };
+
+    #[tactic(auto, using(packstream::proofs::Putting::tree_of_dict))]
+    fn kind(&self) -> Kind<'_, Value> {
+        match self {
+            Value::Text(text) => Kind::Text(text),
+            Value::Int(n) => Kind::Int(*n),
+            Value::Dict(pairs) => Kind::Dict(pairs),
+            _ => Kind::Other,
+        }
+    }
+}
+
+impl Item for Cell {
+    ghost seen = { shape };
+
+    #[tactic(auto, using(speller::proofs::Flat::shape_of_dict))]
+    fn kind(&self) -> Kind<'_, Cell> {
+        match self {
+            Cell::Text(text) => Kind::Text(text),
+            Cell::Int(n) => Kind::Int(*n),
+            Cell::Dict(pairs) => Kind::Dict(pairs),
+            _ => Kind::Other,
+        }
+    }
+}
+
+/// What stands under this name first.
+fn entry<'a, T: Item>(pairs: &'a [(String, T)], name: &str) -> Kind<'a, T>
+    ensures { IsKind T.seen result (lookup name.now (entries_seen T.seen pairs.now)) }
 {
     for pair in pairs {
         if name == pair.0.as_str() {
-            return Some(&pair.1);
+            return pair.1.kind();
         }
     }
-    None
+    Kind::Absent
 }
 
 /// A text that has to be there.
-pub(crate) fn text_in(pairs: &[(String, Value)], name: &str) -> Result<String, MsgFault>
+fn text_in<T: Item>(pairs: &[(String, T)], name: &str) -> Result<String, MsgFault>
     ensures { Answers (λ s. text_of s ∷ []) result
-        (contents_of_text (lookup name.now (entries_of (entries pairs.now)))) }
+        (contents_of_text (lookup name.now (entries_seen T.seen pairs.now))) }
 {
     match entry(pairs, name) {
-        Some(Value::Text(text)) => Ok(text.clone()?),
+        Kind::Text(text) => Ok(text.clone()?),
         _ => Err(MsgFault::Extra),
     }
 }
 
 /// The mode, to write if it is absent.
-pub(crate) fn mode_in(pairs: &[(String, Value)]) -> Result<Mode, MsgFault>
+fn mode_in<T: Item>(pairs: &[(String, T)]) -> Result<Mode, MsgFault>
     ensures { Answers (λ m. mode_tree m ∷ []) result
-        (contents_of_mode (lookup (codes "mode") (entries_of (entries pairs.now)))) }
+        (contents_of_mode (lookup (codes "mode") (entries_seen T.seen pairs.now))) }
 {
     match entry(pairs, "mode") {
-        None => Ok(Mode::Write),
-        Some(Value::Text(text)) => {
+        Kind::Absent => Ok(Mode::Write),
+        Kind::Text(text) => {
             if text.as_str() == "r" {
                 return Ok(Mode::Read);
             }
@@ -53,24 +103,11 @@ pub(crate) fn mode_in(pairs: &[(String, Value)]) -> Result<Mode, MsgFault>
             }
             Err(MsgFault::Extra)
         }
-        Some(_) => Err(MsgFault::Extra),
+        _ => Err(MsgFault::Extra),
     }
 }
 
-/// A token: a text of 1 to 64 bytes.
-fn token_of(value: &Value) -> Result<String, MsgFault>
-    ensures { Answers (λ t. text_of t ∷ []) result (contents_of_token (Some (tree value.now))) }
-{
-    let Value::Text(text) = value else {
-        return Err(MsgFault::Extra);
-    };
-    if !is_token(text.as_str()) {
-        return Err(MsgFault::Extra);
-    }
-    Ok(text.clone()?)
-}
-
-/// Whether a text may be a token.
+/// Whether a text may be a token: it has 1 to 64 bytes.
 pub(crate) fn is_token(text: &str) -> bool
     ensures { result ≡ is_token text.now }
 {
@@ -78,36 +115,39 @@ pub(crate) fn is_token(text: &str) -> bool
 }
 
 /// The token among a client's words of its transaction; its other words are ignored.
-fn token_among(words: &[(String, Value)]) -> Result<Option<String>, MsgFault>
+fn token_among<T: Item>(words: &[(String, T)]) -> Result<Option<String>, MsgFault>
     ensures { Answers (λ t. token_tree (token_view t) ∷ []) result
-        (contents_of_token (lookup (codes "token") (entries_of (entries words.now)))) }
+        (contents_of_token (lookup (codes "token") (entries_seen T.seen words.now))) }
 {
     match entry(words, "token") {
-        None => Ok(None),
-        Some(value) => Ok(Some(token_of(value)?)),
-    }
-}
-
-#[tactic(auto, using(packstream::proofs::Putting::tree_of_dict))]
-fn token_within(value: &Value) -> Result<Option<String>, MsgFault>
-    ensures { Answers (λ t. token_tree (token_view t) ∷ []) result
-        (contents_of_metadata (Some (tree value.now))) }
-{
-    match value {
-        Value::Dict(words) => token_among(words),
+        Kind::Absent => Ok(None),
+        Kind::Text(text) if is_token(text.as_str()) => Ok(Some(text.clone()?)),
         _ => Err(MsgFault::Extra),
     }
 }
 
 /// The token of a transaction, none if it is absent.
-pub(crate) fn token_in(pairs: &[(String, Value)]) -> Result<Option<String>, MsgFault>
+fn token_in<T: Item>(pairs: &[(String, T)]) -> Result<Option<String>, MsgFault>
     ensures { Answers (λ t. token_tree (token_view t) ∷ []) result
-        (contents_of_metadata (lookup (codes "tx_metadata") (entries_of (entries pairs.now)))) }
+        (contents_of_metadata (lookup (codes "tx_metadata") (entries_seen T.seen pairs.now))) }
 {
     match entry(pairs, "tx_metadata") {
-        None => Ok(None),
-        Some(value) => token_within(value),
+        Kind::Absent => Ok(None),
+        Kind::Dict(words) => token_among(words),
+        _ => Err(MsgFault::Extra),
     }
+}
+
+/// The mode of a transaction, and its token if it has one.
+pub(crate) fn transaction_of<T: Item>(
+    pairs: &[(String, T)],
+) -> Result<(Mode, Option<String>), MsgFault>
+    ensures { Answers (λ x. mode_tree x.0 ∷ token_tree (token_view x.1) ∷ []) result
+        (contents_of_named V51 of_transaction (entries_seen T.seen pairs.now)) }
+{
+    let mode = mode_in(pairs)?;
+    let token = token_in(pairs)?;
+    Ok((mode, token))
 }
 
 /// That the last query is meant, if one is named.
@@ -116,9 +156,9 @@ fn query_in(pairs: &[(String, Value)]) -> Result<(), MsgFault>
         (contents_of_query (lookup (codes "qid") (entries_of (entries pairs.now)))) }
 {
     match entry(pairs, "qid") {
-        None => Ok(()),
-        Some(Value::Int(n)) if *n == -1 => Ok(()),
-        Some(_) => Err(MsgFault::Extra),
+        Kind::Absent => Ok(()),
+        Kind::Int(-1) => Ok(()),
+        _ => Err(MsgFault::Extra),
     }
 }
 
@@ -127,15 +167,8 @@ fn number_in(pairs: &[(String, Value)]) -> Result<Count, MsgFault>
         (contents_of_count (lookup (codes "n") (entries_of (entries pairs.now)))) }
 {
     match entry(pairs, "n") {
-        Some(Value::Int(n)) => {
-            if *n == -1 {
-                return Ok(Count::All);
-            }
-            if *n >= 1 {
-                return Ok(Count::Of(*n));
-            }
-            Err(MsgFault::Extra)
-        }
+        Kind::Int(-1) => Ok(Count::All),
+        Kind::Int(n) if n >= 1 => Ok(Count::Of(n)),
         _ => Err(MsgFault::Extra),
     }
 }
@@ -167,9 +200,9 @@ pub(crate) fn count_in(pairs: &[(String, Value)]) -> Result<Count, MsgFault>
 }
 
 /// Who a client is.
-pub(crate) fn auth_of(pairs: &[(String, Value)]) -> Result<Auth, MsgFault>
+pub(crate) fn auth_of<T: Item>(pairs: &[(String, T)]) -> Result<Auth, MsgFault>
     ensures { Answers (λ a. login_trees (login a)) result
-        (contents_of_login (entries_of (entries pairs.now))) }
+        (contents_of_login (entries_seen T.seen pairs.now)) }
 {
     let scheme = text_in(pairs, "scheme")?;
     let principal = text_in(pairs, "principal")?;
@@ -179,4 +212,34 @@ pub(crate) fn auth_of(pairs: &[(String, Value)]) -> Result<Auth, MsgFault>
         principal,
         credentials,
     })
+}
+
+/// A HELLO: the client's name, and who it is if the version tells that with it.
+#[tactic(auto, using(crate::proofs::Fields::login_here))]
+pub(crate) fn hello_of<T: Item>(
+    version: Version,
+    pairs: &[(String, T)],
+) -> Result<Request, MsgFault>
+    ensures { Answers (λ r. request_contents (request_view r)) result
+        (contents_of_dict version HELLO hello (entries_seen T.seen pairs.now)) }
+{
+    let agent = text_in(pairs, "user_agent")?;
+    if !version.hello_has_login() {
+        return Ok(Request::Hello { agent, auth: None });
+    }
+    let auth = auth_of(pairs)?;
+    Ok(Request::Hello {
+        agent,
+        auth: Some(auth),
+    })
+}
+
+/// A FAILURE: its code and its message.
+pub(crate) fn failure_of<T: Item>(pairs: &[(String, T)]) -> Result<Response, MsgFault>
+    ensures { Answers (λ r. response_contents (response_view r)) result
+        (contents_of_dict V51 FAILURE of_error (entries_seen T.seen pairs.now)) }
+{
+    let code = text_in(pairs, "code")?;
+    let message = text_in(pairs, "message")?;
+    Ok(Response::Failure { code, message })
 }

@@ -3,6 +3,7 @@ ghost use Rattle.std.specs.Prelude.{◌≡◌};
 ghost use Rattle.messages.specs.declared.fault.MsgFault.TheVariants.{Memory};
 
 use packstream::PackFault;
+use scanner::Unscanned;
 use std::alloc::{AllocError, AllocFailed};
 use structures::CellFault;
 use thiserror::Error;
@@ -81,5 +82,11 @@ impl From<CellFault> for MsgFault {
             CellFault::Refused(reason, number) => MsgFault::Cell(reason, number),
             CellFault::Pack(reason, place) => MsgFault::CellPack(reason, place),
         }
+    }
+}
+
+impl From<MsgFault> for Unscanned {
+    fn from(_fault: MsgFault) -> Unscanned {
+        Unscanned
     }
 }

@@ -4,7 +4,6 @@
 //! `requests_arrive` and `says_arrive`, and who hands a message on on `texts_read_back`.
 #![tactic(auto)]
 
-mod cell_entries;
 mod codec;
 mod entries;
 mod fault;

@@ -10,8 +10,7 @@ ghost use Rattle.messages.specs.Reading.{Answers, contents_of_row, contents_at_t
 ghost use Rattle.messages.specs.Parts.{contents_of_plain, contents_of_run, parts, run_parts, field_text};
 ghost use Rattle.messages.specs.Messages.{Req};
 
-use crate::cell_entries::{auth_among, text_among};
-use crate::entries::{auth_of, count_in, mode_in, text_in, token_in};
+use crate::entries::{auth_of, count_in, hello_of, transaction_of};
 use crate::fault::MsgFault;
 use crate::read_parts::{cells_in, entries_in, extra_in, none, scan_cells};
 use crate::request::Request;
@@ -30,71 +29,6 @@ fn plain(request: Request, fields: &[Value]) -> Result<Request, MsgFault>
 {
     none(fields)?;
     Ok(request)
-}
-
-/// HELLO: the client's name, and who it is if the version tells that with it.
-#[tactic(auto, using(crate::proofs::Fields::extra_row, crate::proofs::Fields::login_here))]
-fn hello_of(version: Version, fields: &[Value]) -> Result<Request, MsgFault>
-    ensures { Answers (λ r. request_contents (request_view r)) result
-        (contents_of_row version HELLO (extra ignored hello ∷ [])
-        (trees_of (trees fields.now))) }
-{
-    let pairs = extra_in(fields)?;
-    let agent = text_in(pairs, "user_agent")?;
-    if !version.hello_has_login() {
-        return Ok(Request::Hello { agent, auth: None });
-    }
-    let auth = auth_of(pairs)?;
-    Ok(Request::Hello {
-        agent,
-        auth: Some(auth),
-    })
-}
-
-#[tactic(auto, using(crate::proofs::Fields::extra_row))]
-fn logon_of(fields: &[Value]) -> Result<Request, MsgFault>
-    ensures { (v : AnyVersion)
-        → Answers (λ r. request_contents (request_view r)) result
-        (contents_of_row v LOGON (extra ignored (credentials every_version) ∷ [])
-        (trees_of (trees fields.now))) }
-{
-    let pairs = extra_in(fields)?;
-    let auth = auth_of(pairs)?;
-    Ok(Request::Logon(auth))
-}
-
-#[tactic(auto, using(crate::proofs::Fields::extra_row))]
-fn begin_of(fields: &[Value]) -> Result<Request, MsgFault>
-    ensures { (v : AnyVersion)
-        → Answers (λ r. request_contents (request_view r)) result
-        (contents_of_row v BEGIN (extra ignored of_transaction ∷ [])
-        (trees_of (trees fields.now))) }
-{
-    let pairs = extra_in(fields)?;
-    let mode = mode_in(pairs)?;
-    let token = token_in(pairs)?;
-    Ok(Request::Begin { mode, token })
-}
-
-#[tactic(auto, using(crate::proofs::Fields::extra_row))]
-fn discard_of(fields: &[Value]) -> Result<Request, MsgFault>
-    ensures { (v : AnyVersion)
-        → Answers (λ r. request_contents (request_view r)) result
-        (contents_of_row v DISCARD (extra refused how_many ∷ [])
-        (trees_of (trees fields.now))) }
-{
-    let pairs = extra_in(fields)?;
-    Ok(Request::Discard(count_in(pairs)?))
-}
-
-#[tactic(auto, using(crate::proofs::Fields::extra_row))]
-fn pull_of(fields: &[Value]) -> Result<Request, MsgFault>
-    ensures { (v : AnyVersion)
-        → Answers (λ r. request_contents (request_view r)) result
-        (contents_of_row v PULL (extra refused how_many ∷ []) (trees_of (trees fields.now))) }
-{
-    let pairs = extra_in(fields)?;
-    Ok(Request::Pull(count_in(pairs)?))
 }
 
 fn text_in_field(field: &Value) -> Result<&str, MsgFault>
@@ -133,8 +67,7 @@ fn run_with(
         (contents_of_run version text.now (tree field.now)
         (entries_of (value_entries pairs.now))) }
 {
-    let mode = mode_in(pairs)?;
-    let token = token_in(pairs)?;
+    let (mode, token) = transaction_of(pairs)?;
     let params = cells_in(alloc, version, field)?;
     let text = String::from_str(alloc, text)?;
     Ok(Request::Run {
@@ -156,7 +89,7 @@ fn run_of(alloc: Global, version: Version, fields: &[Value]) -> Result<Request, 
 }
 
 /// The request of a structure with this tag and these fields.
-#[tactic(auto, using(crate::proofs::Fields::none_row))]
+#[tactic(auto, using(crate::proofs::Fields::none_row, crate::proofs::Fields::extra_row))]
 fn request_tagged(
     alloc: Global,
     version: Version,
@@ -167,17 +100,20 @@ fn request_tagged(
         (contents_at_tag version requests tag (trees_of (trees fields.now))) }
 {
     match (tag, version.has_logon()) {
-        (tags::HELLO, _) => hello_of(version, fields),
-        (tags::LOGON, true) => logon_of(fields),
+        (tags::HELLO, _) => hello_of(version, extra_in(fields)?),
+        (tags::LOGON, true) => Ok(Request::Logon(auth_of(extra_in(fields)?)?)),
         (tags::LOGOFF, true) => plain(Request::Logoff, fields),
         (tags::GOODBYE, _) => plain(Request::Goodbye, fields),
         (tags::RESET, _) => plain(Request::Reset, fields),
         (tags::RUN, _) => run_of(alloc, version, fields),
-        (tags::BEGIN, _) => begin_of(fields),
+        (tags::BEGIN, _) => {
+            let (mode, token) = transaction_of(extra_in(fields)?)?;
+            Ok(Request::Begin { mode, token })
+        }
         (tags::COMMIT, _) => plain(Request::Commit, fields),
         (tags::ROLLBACK, _) => plain(Request::Rollback, fields),
-        (tags::DISCARD, _) => discard_of(fields),
-        (tags::PULL, _) => pull_of(fields),
+        (tags::DISCARD, _) => Ok(Request::Discard(count_in(extra_in(fields)?)?)),
+        (tags::PULL, _) => Ok(Request::Pull(count_in(extra_in(fields)?)?)),
         _ => Err(MsgFault::UnknownTag),
     }
 }
@@ -195,64 +131,6 @@ pub(crate) fn request_of_value(
         Value::Struct(tag, fields) => request_tagged(alloc, version, *tag, fields),
         _ => Err(MsgFault::NotAMessage),
     }
-}
-
-/// A HELLO behind its head: the client's name, and who it is if the version tells that with it.
-fn scan_hello(alloc: Global, version: Version, bytes: &[u8]) -> Result<Request, Unscanned>
-    ensures { IfOk result (λ r. Req version (request_view r) (0xB1 ∷ hello_tag ∷ bytes.now)) }
-{
-    let pairs = cells_of_extra(alloc, version, bytes)?;
-    let agent = text_among(&pairs, "user_agent")?;
-    if !version.hello_has_login() {
-        return Ok(Request::Hello { agent, auth: None });
-    }
-    let auth = auth_among(&pairs)?;
-    Ok(Request::Hello {
-        agent,
-        auth: Some(auth),
-    })
-}
-
-/// A LOGON behind its head.
-fn scan_logon(alloc: Global, version: Version, bytes: &[u8]) -> Result<Request, Unscanned>
-    ensures { IfOk result (λ r. Req version (request_view r) (0xB1 ∷ logon_tag ∷ bytes.now)) }
-{
-    if !version.has_logon() {
-        return Err(Unscanned);
-    }
-    let pairs = cells_of_extra(alloc, version, bytes)?;
-    let auth = auth_among(&pairs)?;
-    Ok(Request::Logon(auth))
-}
-
-/// A PULL behind its head.
-#[tactic(auto, using(crate::proofs::Scanned::pull_means))]
-fn scan_pull(bytes: &[u8]) -> Result<Request, Unscanned>
-    ensures { (v : AnyVersion) → IfOk result
-        (λ r. Req v (request_view r) (0xB1 ∷ pull_tag ∷ bytes.now)) }
-{
-    let count = rows_in(bytes)?;
-    Ok(Request::Pull(count))
-}
-
-/// A DISCARD behind its head.
-#[tactic(auto, using(crate::proofs::Scanned::discard_means))]
-fn scan_discard(bytes: &[u8]) -> Result<Request, Unscanned>
-    ensures { (v : AnyVersion) → IfOk result
-        (λ r. Req v (request_view r) (0xB1 ∷ discard_tag ∷ bytes.now)) }
-{
-    let count = rows_in(bytes)?;
-    Ok(Request::Discard(count))
-}
-
-/// A BEGIN behind its head.
-#[tactic(auto, using(crate::proofs::Scanned::begin_means))]
-fn scan_begin(alloc: Global, version: Version, bytes: &[u8]) -> Result<Request, Unscanned>
-    ensures { (v : AnyVersion) → IfOk result
-        (λ r. Req v (request_view r) (0xB1 ∷ begin_tag ∷ bytes.now)) }
-{
-    let (mode, token) = transaction_in(alloc, version, bytes)?;
-    Ok(Request::Begin { mode, token })
 }
 
 /// A RUN behind its head.
@@ -287,15 +165,25 @@ fn scan_plain(version: Version, tag: u8) -> Result<Request, Unscanned>
 }
 
 /// A request of one field, behind its head.
+#[tactic(auto, using(crate::proofs::Scanned::pull_means, crate::proofs::Scanned::discard_means, crate::proofs::Scanned::begin_means, crate::proofs::Scanned::hello_means, crate::proofs::Scanned::logon_means))]
 fn scan_one(alloc: Global, version: Version, tag: u8, bytes: &[u8]) -> Result<Request, Unscanned>
     ensures { IfOk result (λ r. Req version (request_view r) (0xB1 ∷ tag ∷ bytes.now)) }
 {
     match tag {
-        tags::PULL => scan_pull(bytes),
-        tags::DISCARD => scan_discard(bytes),
-        tags::BEGIN => scan_begin(alloc, version, bytes),
-        tags::HELLO => scan_hello(alloc, version, bytes),
-        tags::LOGON => scan_logon(alloc, version, bytes),
+        tags::PULL => Ok(Request::Pull(rows_in(bytes)?)),
+        tags::DISCARD => Ok(Request::Discard(rows_in(bytes)?)),
+        tags::BEGIN => {
+            let (mode, token) = transaction_in(alloc, version, bytes)?;
+            Ok(Request::Begin { mode, token })
+        }
+        tags::HELLO => {
+            let pairs = cells_of_extra(alloc, version, bytes)?;
+            Ok(hello_of(version, &pairs)?)
+        }
+        tags::LOGON if version.has_logon() => {
+            let pairs = cells_of_extra(alloc, version, bytes)?;
+            Ok(Request::Logon(auth_of(&pairs)?))
+        }
         _ => Err(Unscanned),
     }
 }

@@ -1,7 +1,6 @@
 //! Responses, read in two ways: of a value, which also tells what is wrong, and straight from the bytes. What the second doesn't
 //! read goes the first.
 ghost use Rattle.std.specs.Prelude.{◌∷◌, [], IfOk};
-ghost use Rattle.packstream.specs.Tree.{list};
 ghost use Rattle.packstream.specs.View.{tree, trees, trees_of};
 ghost use Rattle.wire.specs.declared.Version.{Version as AnyVersion};
 ghost use Rattle.messages.specs.Table.{ignored, extra, cells, cell_list, of_error, SUCCESS, RECORD, IGNORED, FAILURE, responses, success_tag, record_tag, failure_tag};
@@ -9,11 +8,8 @@ ghost use Rattle.messages.specs.View.{response_view};
 ghost use Rattle.messages.specs.Reading.{contents, Answers, contents_of_row, contents_of_message, response_contents};
 ghost use Rattle.messages.specs.Parts.{contents_of_plain, members_of_list};
 ghost use Rattle.messages.specs.Messages.{Resp};
-ghost use Rattle.cells.specs.Shape.{shapes};
-ghost use Rattle.messages.specs.Scanned.{SpellsList};
 
-use crate::cell_entries::text_among;
-use crate::entries::text_in;
+use crate::entries::failure_of;
 use crate::fault::MsgFault;
 use crate::read_parts::{
     FIELD_DEPTH, cells_in, end, entries_in, extra_in, none, one, row_in, scan_cells,
@@ -24,7 +20,6 @@ use crate::tags;
 use packstream::Value;
 use scanner::{Unscanned, scan_list};
 use std::alloc::Global;
-use structures::Cell;
 use wire::Version;
 
 /// A list.
@@ -65,21 +60,8 @@ fn ignored_of(fields: &[Value]) -> Result<Response, MsgFault>
     Ok(Response::Ignored)
 }
 
-#[tactic(auto, using(crate::proofs::Fields::extra_row))]
-fn failure_of(fields: &[Value]) -> Result<Response, MsgFault>
-    ensures { (v : AnyVersion)
-        → Answers (λ r. response_contents (response_view r)) result
-        (contents_of_row v FAILURE (extra ignored of_error ∷ [])
-        (trees_of (trees fields.now))) }
-{
-    let pairs = extra_in(fields)?;
-    let code = text_in(pairs, "code")?;
-    let message = text_in(pairs, "message")?;
-    Ok(Response::Failure { code, message })
-}
-
 /// The response of a value, by the table of responses.
-#[tactic(auto, using(crate::proofs::Fields::none_row))]
+#[tactic(auto, using(crate::proofs::Fields::none_row, crate::proofs::Fields::extra_row))]
 pub(crate) fn response_of_value(
     alloc: Global,
     version: Version,
@@ -95,7 +77,7 @@ pub(crate) fn response_of_value(
         tags::SUCCESS => success_of(alloc, version, fields),
         tags::RECORD => record_of(alloc, version, fields),
         tags::IGNORED => ignored_of(fields),
-        tags::FAILURE => failure_of(fields),
+        tags::FAILURE => failure_of(extra_in(fields)?),
         _ => Err(MsgFault::UnknownTag),
     }
 }
@@ -109,33 +91,13 @@ fn scan_success(alloc: Global, version: Version, bytes: &[u8]) -> Result<Respons
     Ok(Response::Success(metadata))
 }
 
-/// A row straight from the bytes, and what follows it.
-fn scan_row(alloc: Global, version: Version, bytes: &[u8]) -> Result<(Vec<Cell>, &[u8]), Unscanned>
-    ensures { IfOk result (λ x. SpellsList version
-        (list (trees_of (shapes x.0.items))) x.1.now bytes.now) }
-{
-    let (row, rest) = scan_list(alloc, version, bytes, FIELD_DEPTH)?;
-    Ok((row, rest))
-}
-
 /// A RECORD behind its head.
 fn scan_record(alloc: Global, version: Version, bytes: &[u8]) -> Result<Response, Unscanned>
     ensures { IfOk result (λ r. Resp version (response_view r) (0xB1 ∷ record_tag ∷ bytes.now)) }
 {
-    let (row, rest) = scan_row(alloc, version, bytes)?;
+    let (row, rest) = scan_list(alloc, version, bytes, FIELD_DEPTH)?;
     end(rest)?;
     Ok(Response::Record(row))
-}
-
-/// A FAILURE behind its head.
-fn scan_failure(alloc: Global, version: Version, bytes: &[u8]) -> Result<Response, Unscanned>
-    ensures { (v : AnyVersion) → IfOk result
-        (λ r. Resp v (response_view r) (0xB1 ∷ failure_tag ∷ bytes.now)) }
-{
-    let pairs = cells_of_extra(alloc, version, bytes)?;
-    let code = text_among(&pairs, "code")?;
-    let message = text_among(&pairs, "message")?;
-    Ok(Response::Failure { code, message })
 }
 
 /// A response of one field, behind its head.
@@ -145,7 +107,10 @@ fn scan_one(alloc: Global, version: Version, tag: u8, bytes: &[u8]) -> Result<Re
     match tag {
         tags::RECORD => scan_record(alloc, version, bytes),
         tags::SUCCESS => scan_success(alloc, version, bytes),
-        tags::FAILURE => scan_failure(alloc, version, bytes),
+        tags::FAILURE => {
+            let pairs = cells_of_extra(alloc, version, bytes)?;
+            Ok(failure_of(&pairs)?)
+        }
         _ => Err(Unscanned),
     }
 }

@@ -16,8 +16,7 @@ ghost use Rattle.messages.specs.Table.{ignored, refused, of_transaction, how_man
 ghost use Rattle.messages.specs.View.{token_view};
 ghost use Rattle.wire.specs.declared.Version.{Version as AnyVersion};
 
-use crate::cell_entries::{mode_among, token_among};
-use crate::entries::is_token;
+use crate::entries::{is_token, transaction_of};
 use crate::read_parts::{FIELD_DEPTH, end};
 use crate::request::{Count, Mode};
 use scanner::{Unscanned, scan_dict, scan_int, scan_text};
@@ -245,20 +244,6 @@ pub(crate) fn cells_of_extra(
     Ok(pairs)
 }
 
-fn transaction_of_cells(
-    alloc: Global,
-    version: Version,
-    bytes: &[u8],
-) -> Result<(Mode, Option<String>), Unscanned>
-    ensures { (v : AnyVersion) → IfOk result (λ x. SpellsExtra v ignored of_transaction
-        (mode_tree x.0 ∷ token_tree (token_view x.1) ∷ []) bytes.now) }
-{
-    let pairs = cells_of_extra(alloc, version, bytes)?;
-    let mode = mode_among(&pairs)?;
-    let token = token_among(&pairs)?;
-    Ok((mode, token))
-}
-
 /// The mode of a transaction, and its token if it has one.
 pub(crate) fn transaction_in(
     alloc: Global,
@@ -279,5 +264,6 @@ pub(crate) fn transaction_in(
         let token = String::from_str(alloc, token)?;
         return Ok((Mode::Read, Some(token)));
     }
-    transaction_of_cells(alloc, version, bytes)
+    let pairs = cells_of_extra(alloc, version, bytes)?;
+    Ok(transaction_of(&pairs)?)
 }

@@ -42,27 +42,6 @@ fn push_auth(pairs: &mut Vec<(String, Value)>, auth: &Auth) -> Result<(), AllocE
     Ok(())
 }
 
-fn hello_with_auth(alloc: Global, agent: &String, auth: &Auth) -> Result<Value, MsgFault>
-    ensures { (v : AnyVersion) → hello_has_login v ≡ true
-        → Answers tree result (form_put v
-        (request_contents (Hello (string_bytes agent.now) (Some (auth_view auth.now))))) }
-{
-    let mut pairs = Vec::new(alloc);
-    push_text(&mut pairs, "user_agent", agent)?;
-    push_auth(&mut pairs, auth)?;
-    Ok(of_dict(alloc, tags::HELLO, pairs)?)
-}
-
-fn hello_alone(alloc: Global, agent: &String) -> Result<Value, MsgFault>
-    ensures { (v : AnyVersion) → hello_has_login v ≡ false
-        → Answers tree result (form_put v
-        (request_contents (Hello (string_bytes agent.now) None))) }
-{
-    let mut pairs = Vec::new(alloc);
-    push_text(&mut pairs, "user_agent", agent)?;
-    Ok(of_dict(alloc, tags::HELLO, pairs)?)
-}
-
 /// HELLO, with who the client is if the version tells it there.
 fn hello_value(
     alloc: Global,
@@ -75,8 +54,17 @@ fn hello_value(
         (Hello (string_bytes agent.now) (auth_in auth.now)))) }
 {
     match (version.hello_has_login(), auth) {
-        (true, Some(auth)) => hello_with_auth(alloc, agent, auth),
-        (false, None) => hello_alone(alloc, agent),
+        (true, Some(auth)) => {
+            let mut pairs = Vec::new(alloc);
+            push_text(&mut pairs, "user_agent", agent)?;
+            push_auth(&mut pairs, auth)?;
+            Ok(of_dict(alloc, tags::HELLO, pairs)?)
+        }
+        (false, None) => {
+            let mut pairs = Vec::new(alloc);
+            push_text(&mut pairs, "user_agent", agent)?;
+            Ok(of_dict(alloc, tags::HELLO, pairs)?)
+        }
         _ => Err(MsgFault::Extra),
     }
 }
@@ -289,32 +277,8 @@ fn put_begin(out: &mut Output, mode: Mode, token: &Option<String>) -> Result<(),
     Ok(())
 }
 
-#[tactic(auto, using(crate::proofs::Named::hello_added))]
-fn put_hello_alone(out: &mut Output, agent: &String) -> Result<(), Unspelled>
-    ensures before { out.new.before ≡ out.old.before }
-    ensures adds { (v : AnyVersion) → hello_has_login v ≡ false
-        → OnOk result (Adds (form_put v (request_contents (Hello (string_bytes agent.now) None)))
-        out.old.more out.new.more) }
-{
-    put_structure(out, 1, tags::HELLO)?;
-    put_agent(out, agent)?;
-    Ok(())
-}
-
-#[tactic(auto, using(crate::proofs::Named::hello_and_login_added))]
-fn put_hello_with_auth(out: &mut Output, agent: &String, auth: &Auth) -> Result<(), Unspelled>
-    ensures before { out.new.before ≡ out.old.before }
-    ensures adds { (v : AnyVersion) → hello_has_login v ≡ true
-        → OnOk result (Adds (form_put v (request_contents
-        (Hello (string_bytes agent.now) (Some (auth_view auth.now)))))
-        out.old.more out.new.more) }
-{
-    put_structure(out, 1, tags::HELLO)?;
-    put_agent_and_login(out, agent, auth)?;
-    Ok(())
-}
-
 /// HELLO, with who the client is if the version tells it there.
+#[tactic(auto, using(crate::proofs::Named::hello_added, crate::proofs::Named::hello_and_login_added))]
 fn put_hello(
     out: &mut Output,
     version: Version,
@@ -327,8 +291,16 @@ fn put_hello(
         out.old.more out.new.more) }
 {
     match (version.hello_has_login(), auth) {
-        (true, Some(auth)) => put_hello_with_auth(out, agent, auth),
-        (false, None) => put_hello_alone(out, agent),
+        (true, Some(auth)) => {
+            put_structure(out, 1, tags::HELLO)?;
+            put_agent_and_login(out, agent, auth)?;
+            Ok(())
+        }
+        (false, None) => {
+            put_structure(out, 1, tags::HELLO)?;
+            put_agent(out, agent)?;
+            Ok(())
+        }
         _ => Err(Unspelled),
     }
 }

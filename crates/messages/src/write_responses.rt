@@ -10,7 +10,7 @@ ghost use Rattle.messages.specs.Writing.{form_put};
 ghost use Rattle.messages.specs.Cells.{cell_put};
 ghost use Rattle.wire.specs.declared.Version.{Version as AnyVersion};
 ghost use Rattle.packstream.specs.Limits.{max_size};
-ghost use Rattle.messages.specs.Added.{Adds, AddsCells};
+ghost use Rattle.messages.specs.Added.{Adds};
 
 use crate::fault::MsgFault;
 use crate::put_entries::put_error;
@@ -98,16 +98,6 @@ fn put_success(
     Ok(())
 }
 
-/// A row, in the form of the version.
-fn put_row(out: &mut Output, version: Version, row: &Vec<Cell>) -> Result<(), Unspelled>
-    ensures before { out.new.before ≡ out.old.before }
-    ensures adds { OnOk result
-        (AddsCells version (list (trees_of (shapes row.now.items))) out.old.more out.new.more) }
-{
-    put_list(out, version, row.as_slice(), FIELD_DEPTH)?;
-    Ok(())
-}
-
 fn put_record(out: &mut Output, version: Version, row: &Vec<Cell>) -> Result<(), Unspelled>
     ensures before { out.new.before ≡ out.old.before }
     ensures adds { OnOk result
@@ -115,7 +105,7 @@ fn put_record(out: &mut Output, version: Version, row: &Vec<Cell>) -> Result<(),
         out.old.more out.new.more) }
 {
     put_structure(out, 1, tags::RECORD)?;
-    put_row(out, version, row)?;
+    put_list(out, version, row.as_slice(), FIELD_DEPTH)?;
     Ok(())
 }
 

@@ -1,7 +1,6 @@
 use Rattle.std.proofs.Common.{◌≡◌, drop}
-use Rattle.packstream.specs.Prelude.{entries, entries_of}
-use Rattle.messages.specs.Prelude.{lookup}
+use Rattle.messages.specs.Prelude.{lookup, entries_seen}
 use Rattle.messages.proofs.entries.entry.Given as goal
 
 abbrev pub invariant-loop-pair : goal.invariant-loop-pair
-invariant-loop-pair l = lookup l.name (entries_of (entries (drop l.pair-index l.pairs))) ≡ lookup l.name (entries_of (entries l.pairs))
+invariant-loop-pair g l = lookup l.name (entries_seen g.T.Item.seen (drop l.pair-index l.pairs)) ≡ lookup l.name (entries_seen g.T.Item.seen l.pairs)
