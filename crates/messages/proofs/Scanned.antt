@@ -1,5 +1,5 @@
 -- A message that is read without a value: what was read of its parts one after the other is read of it.
-use Rattle.std.proofs.Common.{◌≡◌, ◌≤◌, ◌<◌, ℕ, ℤ, negsuc, false, true, List, [], ◌∷◌, ◌++◌, Option, None, Some, Ok, codes, refl, ap, sym, subst, ◌∙◌, arith, IsUtf8, Vec, Global}
+use Rattle.std.proofs.Common.{◌≡◌, ◌≤◌, ◌<◌, ℕ, ℤ, negsuc, true, List, [], ◌∷◌, ◌++◌, Option, None, Ok, codes, refl, ap, sym, subst, ◌∙◌, arith, IsUtf8, Vec, Global}
 use Rattle.std.proofs.lemmas.List.{append-nil}
 use Rattle.packstream.specs.Prelude.{Tree, int, text, list, dict, structure, no_trees, tree_then, Entries, no_entries, entry_then, head, canon, IsGood, depth, entries_of, trees_of, marker, AreBytes, Spells}
 use Rattle.packstream.specs.Spelling.{SpellsEntries}

@@ -15,7 +15,7 @@ use Rattle.messages.specs.declared.request.Mode.TheVariants.{Read, Write}
 use Rattle.messages.specs.declared.request.Count.{Count}
 use Rattle.wire.specs.Versions.{every_version}
 use Rattle.messages.specs.Table.{Name, Named, credentials, of_transaction, how_many, RUN}
-use Rattle.messages.specs.Reading.{◌>>=◌, Contents, contents, is_token, lookup, contents_of_text, contents_of_mode, contents_of_count, contents_of_query, contents_of_token, contents_of_metadata, contents_of_named, cell_of_field, mode_tree, token_tree, count_tree}
+use Rattle.messages.specs.Reading.{◌>>=◌, Contents, contents, is_token, contents_of_text, contents_of_mode, contents_of_count, contents_of_query, contents_of_token, contents_of_metadata, contents_of_named, cell_of_field, mode_tree, token_tree, count_tree}
 use Rattle.messages.specs.View.{AuthView}
 use Rattle.messages.specs.Writing.{named_put}
 

@@ -2,9 +2,7 @@
 //! read goes the first.
 ghost use Rattle.std.specs.Prelude.{◌∷◌, [], IfOk};
 ghost use Rattle.packstream.specs.View.{tree, trees, trees_of, entries as value_entries, entries_of};
-ghost use Rattle.wire.specs.declared.Version.{Version as AnyVersion};
-ghost use Rattle.wire.specs.Versions.{every_version};
-ghost use Rattle.messages.specs.Table.{ignored, refused, extra, text_field, cells, hello, credentials, of_transaction, how_many, HELLO, LOGON, LOGOFF, GOODBYE, RESET, RUN, BEGIN, COMMIT, ROLLBACK, DISCARD, PULL, requests, hello_tag, logon_tag, run_tag, begin_tag, discard_tag, pull_tag};
+ghost use Rattle.messages.specs.Table.{ignored, extra, text_field, cells, of_transaction, HELLO, LOGON, LOGOFF, GOODBYE, RESET, RUN, BEGIN, COMMIT, ROLLBACK, DISCARD, PULL, requests, run_tag};
 ghost use Rattle.messages.specs.View.{request_view};
 ghost use Rattle.messages.specs.Reading.{Answers, contents_of_row, contents_at_tag, contents_of_message, request_contents};
 ghost use Rattle.messages.specs.Parts.{contents_of_plain, contents_of_run, parts, run_parts, field_text};

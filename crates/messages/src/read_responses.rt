@@ -3,7 +3,7 @@
 ghost use Rattle.std.specs.Prelude.{◌∷◌, [], IfOk};
 ghost use Rattle.packstream.specs.View.{tree, trees, trees_of};
 ghost use Rattle.wire.specs.declared.Version.{Version as AnyVersion};
-ghost use Rattle.messages.specs.Table.{ignored, extra, cells, cell_list, of_error, SUCCESS, RECORD, IGNORED, FAILURE, responses, success_tag, record_tag, failure_tag};
+ghost use Rattle.messages.specs.Table.{cells, cell_list, SUCCESS, RECORD, IGNORED, FAILURE, responses, success_tag, record_tag};
 ghost use Rattle.messages.specs.View.{response_view};
 ghost use Rattle.messages.specs.Reading.{contents, Answers, contents_of_row, contents_of_message, response_contents};
 ghost use Rattle.messages.specs.Parts.{contents_of_plain, members_of_list};

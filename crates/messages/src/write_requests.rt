@@ -9,7 +9,6 @@ ghost use Rattle.messages.specs.Table.{run_tag, begin_tag};
 ghost use Rattle.messages.specs.Reading.{Answers, request_contents, count_tree};
 ghost use Rattle.messages.specs.Writing.{form_put};
 ghost use Rattle.messages.specs.Parts.{with_dict, transaction_put, rows_put, mode_pairs, token_dict, token_pairs, count_number};
-ghost use Rattle.wire.specs.declared.Version.{Version as AnyVersion};
 ghost use Rattle.wire.specs.Versions.{hello_has_login};
 ghost use Rattle.packstream.specs.Limits.{max_size};
 ghost use Rattle.messages.specs.Added.{Adds};
