@@ -1,5 +1,6 @@
 """What the package of python/bolt does where a call of it is broken off or can't be: rows that `bench/languages` tries, each against a server of its own."""
 import contextlib
+import copy
 import gc
 import inspect
 import itertools
@@ -15,6 +16,7 @@ import traceback
 import warnings
 
 import bolt
+import odd_servers
 
 USER = ("basic", "user", "pass")
 # Held by who keeps or drops warnings, which the whole process has in common.
@@ -89,14 +91,8 @@ def refused(connection, key):
     ask_all(connection, key, "NOPE")
 
 
-class Deaf:
+class Deaf(socket.socket):
     """A socket from which no more is heard. (One that is shut down for reading still gives what comes.)"""
-
-    def __init__(self, whole):
-        self.whole = whole
-
-    def __getattr__(self, name):
-        return getattr(self.whole, name)
 
     def recv(self, _):
         return b""
@@ -105,7 +101,7 @@ class Deaf:
 def deaf(connection, key):
     """All will go out, and no answer comes."""
     ask_all(connection, key)
-    connection._socket = Deaf(connection._socket)
+    connection._socket = Deaf(fileno=connection._socket.detach())
 
 
 def mute(connection, key):
@@ -136,7 +132,14 @@ class Interrupt(Exception):
     pass
 
 
-INTERRUPTS = KeyboardInterrupt, Interrupt, TimeoutError
+class Handled(bolt.NotSent):
+    """What the handler of a signal raises that calls the session in the midst of a call."""
+
+    def __init__(self):
+        super().__init__(bolt.library.NOT_ALLOWED)
+
+
+INTERRUPTS = KeyboardInterrupt, Interrupt, TimeoutError, Handled
 VALUES = ("pack", "pack_int", "sized", "fields_of", "names_of", "number", "bytes", "of_length", "fields", "value")  # of these each line once
 
 
@@ -162,6 +165,19 @@ class Interrupted:
     def come(self):
         self.raised = self.kinds[self.number % len(self.kinds)]()
         raise self.raised
+
+
+class Within(Interrupted):
+    """Interrupts at lines of the package's functions of these names alone, once it is armed."""
+
+    def __init__(self, number, names, is_armed=True):
+        super().__init__(number)
+        self.names, self.is_armed = names, is_armed
+
+    def __call__(self, frame, event, word):
+        if frame.f_code.co_name not in self.names:
+            return None
+        return super().__call__(frame, event, word) if self.is_armed else self
 
 
 class Closed(Interrupted):
@@ -372,6 +388,10 @@ def wants_memory(_):
     raise bolt.NotSent(bolt.library.MEMORY)
 
 
+# (as if the library's own: what has frames from elsewhere is an interrupt)
+wants_memory.__code__ = wants_memory.__code__.replace(co_filename=bolt.library.__file__)
+
+
 def gives_up(port):
     """Whether an interrupt and want of memory are told as such, and behind the end too."""
     with bolt.Session("127.0.0.1", port, USER) as connection:
@@ -393,6 +413,60 @@ def gives_up(port):
     told = str(told), str(after), after.code
     return short == "BEGIN: LOST (out of memory)" and unsaid == "LOGOFF: DONE, LOGON: REFUSED (out of memory)" and is_raised and told == (
         "RUN ROWS: LOST, PULL of ROWS: UNKNOWN (interrupted)", "the client has ended: interrupted", 4)
+
+
+def tells_first(listener, size):
+    """Answers what stands first in a pipeline before it takes the rest, of so many bytes."""
+    row = bytes.fromhex("B17191") + odd_servers.text("x" * 200)
+    peer, _ = listener.accept()
+    with peer, contextlib.suppress(OSError):
+        peer.recv(20, socket.MSG_WAITALL)
+        # (a BEGIN, and a RUN with its PULL)
+        for said in (TOOK, SUCCESS * 2, odd_servers.told(*[odd_servers.DONE] * 2, *[row] * 2_000, odd_servers.DONE)):
+            peer.sendall(said)
+            size -= len(peer.recv(4096))
+        while size > 0:
+            size -= len(peer.recv(65536))
+        peer.sendall(SUCCESS * 28)
+        while peer.recv(65536):
+            pass
+
+
+def hears_while_it_sends(_):
+    """Whether a pipeline that a server takes only once it was heard is sent as it is heard."""
+    with socket.create_server(("127.0.0.1", 0)) as listener:
+        for option in (socket.SO_SNDBUF, socket.SO_RCVBUF):
+            listener.setsockopt(socket.SOL_SOCKET, option, 32_768)
+        threading.Thread(target=tells_first, args=(listener, 14 * 60_000), daemon=True).start()
+        with bolt.Session("127.0.0.1", listener.getsockname()[1], USER, timeout=SHORT) as connection:
+            for option in (socket.SO_SNDBUF, socket.SO_RCVBUF):
+                connection._socket.setsockopt(socket.SOL_SOCKET, option, 32_768)
+            connection.ask_begin()
+            first = connection.ask_run("ROWS")
+            last = [connection.ask_run("ECHO", {"x": bytes(60_000)}) for _ in range(14)][-1]
+            why = raised(connection.settle)
+    return why is None and (len(first.rows), last.outcome) == (2_000, bolt.DONE)
+
+
+def waits_for_long(_):
+    """Whether a call is given the time that is set, however long: 31 bits of milliseconds, and those of which 32 bits leave few, and no end."""
+    def answer(peer):
+        with peer, contextlib.suppress(OSError):
+            peer.recv(20, socket.MSG_WAITALL)
+            peer.sendall(TOOK)
+            peer.recv(4096)
+            time.sleep(0.3)
+            peer.sendall(SUCCESS * 2)
+            while peer.recv(4096):
+                pass
+
+    for seconds in (4_294_967.4, 1e10, float("inf")):
+        with socket.create_server(("127.0.0.1", 0)) as listener:
+            threading.Thread(target=lambda: answer(listener.accept()[0]), daemon=True).start()
+            with bolt.Session("127.0.0.1", listener.getsockname()[1], USER, timeout=seconds) as connection:
+                if connection.version != 51:
+                    return False
+    return True
 
 
 SHUT = """
@@ -560,6 +634,8 @@ MISTAKEN = (
     (51, lambda c: bolt.Session("127.0.0.1", c.port, USER, versions=5.1), "versions is NEWEST, V4_4, V5_0 or V5_1"),
     (51, lambda c: bolt.Session("127.0.0.1", c.port, USER, versions=52), "versions is NEWEST, V4_4, V5_0 or V5_1"),
     (51, lambda c: bolt.Session("127.0.0.1", c.port, USER[:2]), "auth is the scheme, the principal and the credentials"),
+    (51, lambda c: bolt.Session("127.0.0.1", c.port + 65536, USER), "a port is 0 to 65535"),
+    *((51, call, "a session can't be copied or pickled") for call in (copy.copy, copy.deepcopy, pickle.dumps)),
 )
 
 

@@ -155,7 +155,7 @@ def cancels(port):
     return all_broken_off(port, "cancelled", (44, 50, 51), (cancelling(True), cancelling(False)))
 
 
-KINDS = asyncio.CancelledError, KeyboardInterrupt, breaks.Interrupt
+KINDS = asyncio.CancelledError, *breaks.INTERRUPTS
 
 
 def interrupting(number):
@@ -257,11 +257,53 @@ async def keeps_to_a_task(port):
 async def tells_errors(port):
     unreached, stranger = await raised(connected(1)), await raised(aio.connect("127.0.0.1", port, auth=("user", "no")))
     short = await raised(aio.connect("127.0.0.1", port, auth=("user",)))
+    far = await raised(aio.connect("127.0.0.1", port + 65536, auth=drives.USER))
     async with await connected(port) as connection:
         unpacked = await raised(connection.run("ECHO", x={1}))
         goes_on = await (await connection.run("ONE")).single() == [1]
     return ((type(unreached), unreached.why, type(unreached.__cause__)) == (bolt.Broken, bolt.UNREACHED, ConnectionRefusedError)
-            and (type(stranger), stranger.code[-12:], type(unpacked)) == (bolt.Refused, "Unauthorized", TypeError) and type(short) is ValueError and goes_on)
+            and (type(stranger), stranger.code[-12:], type(unpacked)) == (bolt.Refused, "Unauthorized", TypeError) and type(short) is type(far) is ValueError and goes_on)
+
+
+async def left(port, key, number):
+    """Whether nothing stays open of a transaction that an exception leaves while an interrupt comes at a line of that, by number; None where it has fewer lines."""
+    interrupt, came = breaks.Within(number, ("transaction", "_drop"), False), None
+    async with await connected(port) as connection:
+        sys.settrace(interrupt)
+        try:
+            async with connection.transaction() as tx:
+                await tx.run("PUT", key=key, value=1)
+                interrupt.is_armed = True
+                raise KeyError
+        except (KeyError, *breaks.INTERRUPTS) as why:
+            came = why
+        finally:
+            sys.settrace(None)
+        # (its frames hold what leaves the block)
+        is_raised = came.with_traceback(None) is interrupt.raised
+        return is_raised and await code_of(connection.run("ONE")) in (0, bolt.library.CLOSED) if interrupt.raised else None
+
+
+async def leaves_nothing_open(port):
+    """Whether a transaction that an exception leaves is ended though an interrupt comes at any line of that, or its RESET is cancelled."""
+    number, told = 1, []
+    while (held := await left(port, f"left{number}", number)) is not None:
+        told.append(held)
+        number += 1
+    async with await connected(port) as connection:
+        leaving = asyncio.ensure_future(fails(connection))
+        while connection.session.requests[-1:] != [bolt.Request("RESET")]:
+            await asyncio.sleep(0)
+        leaving.cancel()
+        await asyncio.wait({leaving})
+        told.append(leaving.cancelled() and await code_of(connection.run("ONE")) == bolt.library.CLOSED)
+    return all(told) and number > 5
+
+
+async def fails(connection):
+    async with connection.transaction() as tx:
+        await tx.run("PUT", key="left", value=1)
+        raise KeyError
 
 
 def put(key, value):
@@ -371,5 +413,5 @@ async def encrypts(port):
     return (len(said), type(stranger), type(stranger.__cause__)) == (1024, bolt.Broken, ssl.SSLCertVerificationError)
 
 
-DRIVES = (reads_rows, transacts, keeps_to_a_task, tells_errors, tells_failed_pulls, hears_before_a_reset, tells_fates, tells_what_it_heard, closes_meanwhile,
+DRIVES = (reads_rows, transacts, leaves_nothing_open, keeps_to_a_task, tells_errors, tells_failed_pulls, hears_before_a_reset, tells_fates, tells_what_it_heard, closes_meanwhile,
           encrypts)

@@ -77,6 +77,30 @@ def loses_no_record(port):
             number += 1
 
 
+def tells_lost_records(port):
+    """Whether, where an interrupt comes at a line of a PULL's end, no record is passed over as if the result had ended there."""
+    number = 1
+    while True:
+        interrupt, rest = breaks.Within(number, ("_more", "_refill", "_settling", "_awaiting")), []
+        with connected(port, fetch=2) as connection:
+            records = connection.run("ROWS", n=3)
+            read = [next(records)[0] for _ in range(2)]
+            sys.settrace(interrupt)
+            try:
+                rest.append(next(records)[0])
+            except (*breaks.INTERRUPTS, bolt.BoltError):
+                pass
+            finally:
+                sys.settrace(None)
+            why = breaks.raised(lambda: rest.extend(it[0] for it in records))
+        if not interrupt.raised:
+            return number > 10
+        if read + rest != [1, 2, 3] and not isinstance(why, bolt.BoltError):
+            print(f"an interrupt at line {number} of a PULL: {read + rest}, {why!r}")
+            return False
+        number += 1
+
+
 def keeps_results_apart(port):
     """Whether a result that a RESET ended takes no rows of another, and one whose PULL failed says so each time that it is read."""
     def rolled_back():
@@ -133,7 +157,7 @@ def transacts(port):
         with connection.transaction() as tx:
             tx.run("PUT", key="goes", value=1)
             tx.rollback()
-            is_over = isinstance(breaks.raised(lambda: tx.run("ONE")), ValueError)
+            is_over = breaks.code_of(lambda: tx.run("ONE")) == bolt.library.NOT_ALLOWED
         with connection.transaction(write=False) as tx:
             why = breaks.raised(lambda: tx.run("PUT", key="goes", value=1))
             is_refused = isinstance(why, bolt.Refused) and why.code.endswith("ReadOnly")
@@ -141,7 +165,7 @@ def transacts(port):
         for end in (lambda: tx.run("NOPE"), connection.reset):
             with contextlib.suppress(bolt.NotSent), connection.transaction() as tx:
                 breaks.raised(end)
-                is_over = is_over and isinstance(breaks.raised(lambda: tx.run("PUT", key="goes", value=1)), ValueError)
+                is_over = is_over and breaks.code_of(lambda: tx.run("PUT", key="goes", value=1)) == bolt.library.NOT_ALLOWED
         is_free = goes_on(connection)
         # (what isn't settled can't be reset)
         with contextlib.suppress(KeyError), connection.transaction() as tx:
@@ -171,6 +195,11 @@ def transacts(port):
             codes = [breaks.code_of(call) for call in (over.commit, over.rollback, *alone)]
             raise KeyError
         is_free = is_free and codes == [bolt.library.NOT_ALLOWED] * 4 and goes_on(connection)
+        with contextlib.suppress(bolt.NotSent), connection.transaction() as tx:
+            breaks.raised(lambda: tx.run("NOPE"))
+            connection.session.begin()
+            is_over = is_over and breaks.code_of(lambda: tx.run("PUT", key="goes", value=1)) == bolt.library.NOT_ALLOWED
+        is_free = is_free and goes_on(connection)
     return is_kept and is_over and is_refused and is_free and (value_of(port, "stays"), value_of(port, "goes")) == ([1], [])
 
 
@@ -191,7 +220,7 @@ def commits_nothing_by_itself(port):
         for at, call in enumerate((lambda: tx.run("PUT", key=f"{number} 0", value=1), lambda: tx.commit())):
             with connected(port) as connection:
                 reset = Reset(number, connection)
-                with contextlib.suppress(bolt.BoltError, ValueError), connection.transaction() as tx:
+                with contextlib.suppress(bolt.BoltError), connection.transaction() as tx:
                     if at:
                         tx.run("PUT", key=f"{number} 1", value=1)
                     sys.settrace(reset)
@@ -218,6 +247,16 @@ def pipes(port):
     with contextlib.suppress(KeyError), connected(port) as connection, connection.pipeline() as asked:
         asked.run("PUT", key="unsent", value=1)
         raise KeyError
+    with contextlib.suppress(KeyError), connected(port) as connection, connection.pipeline() as asked:
+        # (another would send what isn't to go out yet)
+        asked.run("PUT", key="unsent", value=1)
+        with contextlib.suppress(bolt.NotSent), connection.pipeline() as other:
+            other.run("ONE")
+        raise KeyError
+    with connected(port) as connection:
+        with connection.pipeline() as asked:
+            asked.run("ONE")
+        held = held and breaks.code_of(lambda: asked.run("PUT", key="unsent", value=1)) == bolt.library.NOT_ALLOWED and goes_on(connection)
     return held and (value_of(port, "piped"), value_of(port, "unsent")) == ([2], [])
 
 
@@ -321,7 +360,8 @@ def keeps_tokens(port):
     """Whether an interrupt at each line of until_known has the token, under which the transaction is sent again and stands once; without one nothing stands."""
     connect, number, told = lambda: connected(port), 1, []
     while True:
-        interrupt, token, known = Retried(number), None, None
+        # (a BoltError is taken for the try's own)
+        interrupt, token, known = Retried(number, breaks.INTERRUPTS[:3]), None, None
         sys.settrace(interrupt)
         try:
             known = bolt.until_known(connect, put(f"line{number}", 1))
@@ -354,12 +394,20 @@ def tells_fates(port):
         tx.commit()
         tx._connection.read("NOPE")
 
+    def fails_elsewhere(tx):
+        tx.run("PUT", key="elsewhere", value=1)
+        with connect() as other, other.pipeline() as asked:
+            asked.run("PUT", key="other", value=1)
+            asked.run("NOPE")
+
+    elsewhere = bolt.until_known(connect, fails_elsewhere, tries=1)
     behind = bolt.until_known(connect, goes_wrong, tries=1)
     by_itself = bolt.until_known(connect, lambda tx: (tx.run("PUT", key="alone", value=1), tx.commit()))
     return ((made.fate, clash.fate, again.fate, refused.fate, absent.fate, late.fate) == (bolt.STANDS, bolt.CLASH, bolt.STANDS, bolt.REFUSED, bolt.ABSENT, bolt.ABSENT)
             and made.bookmark == again.bookmark and len(made.token) == 32 and isinstance(own, TypeError) and isinstance(refused.error, bolt.Refused)
             and keeps_the_token(connect) and len(own.token) == 32 and behind.stands and isinstance(behind.error, bolt.Refused)
-            and value_of(port, "fates") == [1] and dropped.fate == bolt.ABSENT and by_itself.stands and by_itself.bookmark.startswith("bk:"))
+            and value_of(port, "fates") == [1] and dropped.fate == bolt.ABSENT and by_itself.stands and by_itself.bookmark.startswith("bk:")
+            and not elsewhere.stands and value_of(port, "elsewhere") == [] and value_of(port, "other") == [1])
 
 
 # What a server answers to a login, BEGIN, a RUN with its PULL, and COMMIT, before it closes, and what is known then by one attempt.
@@ -452,6 +500,92 @@ def keeps_accounts(port):
     return not wrong and len(told) > 200, len(told)
 
 
+def left(port, key, number):
+    """Whether nothing stays open of a transaction that an exception leaves while an interrupt comes at a line of that, by number, and the interrupt is raised; None where
+    it has fewer lines."""
+    interrupt, came = breaks.Within(number, ("transaction", "_drop"), False), None
+    with connected(port) as connection:
+        sys.settrace(interrupt)
+        try:
+            with connection.transaction() as tx:
+                tx.run("PUT", key=key, value=1)
+                interrupt.is_armed = True
+                raise KeyError
+        except (KeyError, *breaks.INTERRUPTS) as why:
+            came = why
+        finally:
+            sys.settrace(None)
+        # (its frames hold what leaves the block)
+        is_raised = came.with_traceback(None) is interrupt.raised
+        return is_raised and goes_on(connection) if interrupt.raised else None
+
+
+def leaves_nothing_open(port):
+    """Whether a transaction that an exception leaves is ended though an interrupt comes at any line of that."""
+    number, wrong = 1, []
+    while (held := left(port, f"left{number}", number)) is not None:
+        wrong += [] if held else [number]
+        number += 1
+    if wrong:
+        print("interrupts of what leaves a transaction, at lines", *wrong)
+    return not wrong and number > 5 and not any(value_of(port, f"left{it}") for it in range(1, number))
+
+
+class Begins(breaks.Within):
+    """Has another thread run a query in the place of an interrupt, whose bytes are sent and not taken off until a connection is closed."""
+
+    def __init__(self, number, connection):
+        super().__init__(number, ("close", "_part", "_says_goodbye"))
+        self.goes, self.closed, self.connection, self.client = threading.Event(), threading.Event(), connection, connection._client
+        self.thread = threading.Thread(target=self.put, daemon=True)
+        self.client.sent = self.sent
+
+    def come(self):
+        sys.settrace(None)
+        self.raised = True
+        self.thread.start()
+        self.goes.wait(20)
+
+    def put(self):
+        breaks.raised(lambda: self.connection.run("PUT", {"key": "twice", "value": 1}))
+        self.goes.set()
+
+    def sent(self, count):
+        if threading.current_thread() is self.thread:
+            self.goes.set()
+            self.closed.wait(20)
+        return bolt.library.Client.sent(self.client, count)
+
+
+def asks_once(port, number):
+    """How many bytes go out where another thread begins a call at a line of a close, by number; and whether it has such a line."""
+    way = proxy.Proxy(port)
+    connection = bolt.Session("127.0.0.1", way.port, breaks.USER)
+    way.arm()
+    begins = Begins(number, connection)
+    sys.settrace(begins)
+    try:
+        connection.close()
+    finally:
+        sys.settrace(None)
+        begins.closed.set()
+    way.over.join(20)
+    return way.passed["asked"], begins.raised
+
+
+def sends_nothing_twice(port):
+    """Whether what a call sends isn't sent again by another thread that closes the connection, at whichever line of that it begins."""
+    number, most = 1, len(bytes.fromhex("0019B31083505554A2836B65798574776963658576616C756501A00000" "0006B13FA1816EFF0000" "0002B0020000"))
+    while True:
+        count, has_come = asks_once(port, number)
+        if not has_come:
+            return number > 10
+        if count > most:
+            print(f"a call that begins at line {number} of a close is sent twice")
+            return False
+        number += 1
+
+
 class Tunnel:
     """Takes TLS connections with a certificate of its own, and passes them on to a port."""
 
@@ -475,6 +609,25 @@ class Tunnel:
             proxy.Passing().pass_on(client, self.port)
 
 
+def sends_plain(session):
+    """Whether a call that has a session could send something as it is while another thread closes the socket of TLS, at any line of that."""
+    went = []
+
+    def line(frame, event, _):
+        if frame.f_code.co_filename == ssl.__file__ and session._socket._sslobj is None:
+            with contextlib.suppress(OSError):
+                went.append(session._socket.send(b"plain"))
+        return line
+
+    session._amid["call"] = line
+    sys.settrace(line)
+    try:
+        session._shut()
+    finally:
+        sys.settrace(None)
+    return bool(went)
+
+
 def encrypts(port):
     """Whether a connection goes through TLS to a server whose certificate is known, and not to another, where there is an openssl to make one."""
     if not shutil.which("openssl"):
@@ -484,9 +637,11 @@ def encrypts(port):
         there = tunnel.listener.getsockname()[1]
         with bolt.connect("localhost", there, auth=USER, tls=ssl.create_default_context(cafile=tunnel.certificate)) as connection:
             said = connection.run("ROWS", n=1024).values()
+            is_plain = sends_plain(connection.session)
         stranger = breaks.raised(lambda: bolt.connect("localhost", there, auth=USER, tls=True))
         plain = breaks.raised(lambda: bolt.connect("localhost", there, auth=USER, timeout=2))
-    return (len(said), type(stranger), type(stranger.__cause__), type(plain)) == (1024, bolt.Broken, ssl.SSLCertVerificationError, bolt.Broken)
+    told = len(said), is_plain, type(stranger), type(stranger.__cause__), type(plain)
+    return told == (1024, False, bolt.Broken, ssl.SSLCertVerificationError, bolt.Broken)
 
 
 def installs(port):
@@ -516,5 +671,5 @@ def installs(port):
     return bool(wanted) and said == "".join(f"{line.strip()}\n" for line in wanted.split("\n"))
 
 
-WORKS = (reads_rows, loses_no_record, keeps_results_apart, transacts, commits_nothing_by_itself, tells_what_it_heard, breaks_off_connecting, pipes,
+WORKS = (reads_rows, loses_no_record, tells_lost_records, leaves_nothing_open, sends_nothing_twice, keeps_results_apart, transacts, commits_nothing_by_itself, tells_what_it_heard, breaks_off_connecting, pipes,
          keeps_moments, tells_errors, keeps_tokens, tells_fates, encrypts, installs)

@@ -13,8 +13,8 @@ import contextlib
 import ssl
 from typing import Any, AsyncIterator, Awaitable, Callable, Iterator, Optional, Union
 
-from .core import Answer, Core, Steps, login_of
-from .errors import CLOSED_HERE, TIMED_OUT, UNREACHED, BoltError, Broken, NotSent, Request
+from .core import Answer, Core, Stepped, Steps, is_from_elsewhere, login_of, own, port_of
+from .errors import CLOSED_HERE, INTERRUPTED, TIMED_OUT, UNREACHED, BoltError, Broken, NotSent, Request
 from .library import MESSAGE
 from .queries import Pipeline, Queries, Transacting
 from .results import Pulled, Record, Summary, only
@@ -95,29 +95,27 @@ class AsyncSession(Core):
             assert self._reader
             piece = await self._reader.read(MESSAGE)
         except OSError as why:
-            self._cut = self._cut or self._failed(why)
+            failed = self._failed(why)
+            self._cut = self._cut or failed
             return b""
         if not piece and self._is_late:
             self._cut = self._cut or TimeoutError(TIMED_OUT)
         return piece
 
     def _failed(self, why: OSError) -> OSError:
-        return TimeoutError(TIMED_OUT) if self._is_late else why.with_traceback(None)
+        failed = own(why)
+        return TimeoutError(TIMED_OUT) if self._is_late else failed
 
     async def _steps(self, steps: Steps[Answer]) -> Answer:
         with self._in_time():
-            while True:
-                try:
-                    next(steps)
-                except StopIteration as done:
-                    answer: Answer = done.value
-                    return answer
+            call = Stepped(steps)
+            for _ in call:
                 try:
                     self._send()
                     self._hear(await self._receive())
-                except NotSent:
-                    # (another task closed it)
-                    self._lose(CLOSED_HERE)
+                except NotSent as why:
+                    self._closed_meanwhile(why)
+            return call.answer
 
     async def _do(self, steps: Steps[Answer], until: Optional[float]) -> Answer:
         """Does a call step by step, which has to be done by then; where that is broken off, as by a cancellation, the client ends. Where that is broken
@@ -151,8 +149,9 @@ class AsyncSession(Core):
                     self._send()
                     self._writer.close()
                     await self._writer.wait_closed()
-        except (NotSent, OSError):
-            pass
+        except (NotSent, OSError) as why:
+            if is_from_elsewhere(why):
+                raise
         finally:
             self._free()
 
@@ -246,30 +245,36 @@ class AsyncConnection(Queries[AsyncSession, AsyncResult]):
         """A transaction, under the token if there is one. It is committed when the block ends, and rolled back when an exception ends it."""
         found = AsyncTransaction(self, token)
         try:
-            await self.session._call(self._beginning(write, found))
-            yield found
-            if found.is_open:
-                await found.commit()
+            try:
+                await self.session._call(self._beginning(write, found))
+                yield found
+                if found.is_open:
+                    await found.commit()
+            except BaseException:
+                if found.is_open:
+                    await self._drop(found)
+                raise
         except BaseException:
+            # (another came as that left the block)
             if found.is_open:
-                found.is_open = False
-                await self._drop()
+                self.session._end(INTERRUPTED)
             raise
 
-    async def _drop(self) -> None:
+    async def _drop(self, found: AsyncTransaction) -> None:
         """Ends whatever is open: by a RESET, or with the connection where that can't be."""
         try:
             await self.reset()
-        except BaseException as why:
+        except BoltError as why:
             self.session._end(CLOSED_HERE)
-            if not isinstance(why, BoltError):
+            if is_from_elsewhere(why):
                 raise
+        found.is_open = False
 
     @contextlib.asynccontextmanager
     async def pipeline(self) -> AsyncIterator[Pipeline[AsyncResult]]:
         """Requests that go out at once when the block ends, before an answer is read. An exception in the block closes the connection, and none goes
         out."""
-        await self.session._call(self._settling_open())
+        await self.session._call(self._piping())
         found = Pipeline(self)
         try:
             yield found
@@ -290,13 +295,13 @@ class AsyncConnection(Queries[AsyncSession, AsyncResult]):
 async def connect(host: str, port: int = 7687, *, auth: Optional[tuple[str, str]] = None, tls: Union[None, bool, ssl.SSLContext] = None,
                   timeout: Optional[float] = 10, agent: str = "bolt.py/1", versions: int = NEWEST, fetch: int = 1000) -> AsyncConnection:
     """Connects and logs in, as `bolt.connect` does."""
-    login = login_of(("none", "", "") if auth is None else ("basic", *auth))
+    login, port = login_of(("none", "", "") if auth is None else ("basic", *auth)), port_of(port)
     context = ssl.create_default_context() if tls is True else tls or None
     session = AsyncSession(versions, timeout)
     try:
         await session._open_at(host, port, context, agent, login)
     except OSError as why:
-        raise Broken([], UNREACHED) from why
+        raise Broken([], UNREACHED) from own(why)
     return AsyncConnection(session, fetch)
 
 
@@ -310,15 +315,12 @@ async def until_known(connect: Callable[[], Awaitable[AsyncConnection]], work: C
             await asyncio.sleep(seconds)
             if sent.is_late:
                 break
-            found, value = None, None  # type: Optional[AsyncTransaction], Any
-            try:
-                async with await connect() as connection:
-                    async with connection.transaction(token=sent.token) as found:
-                        value = await work(found)
-                    return sent.ended(found, value)
-            except BoltError as why:
-                if known := sent.failed(why, found, value):
-                    return known
+            with sent.attempt():
+                async with await connect() as connection, connection.transaction(token=sent.token) as found:
+                    sent.found = found
+                    sent.value = await work(found)
+            if sent.known:
+                return sent.known
         return sent.over()
     except BaseException as why:
         sent.ends_by(why)

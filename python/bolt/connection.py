@@ -6,7 +6,8 @@ import logging
 import ssl
 from typing import Any, Iterator, Optional, Union
 
-from .errors import CLOSED_HERE, BoltError
+from .core import is_from_elsewhere
+from .errors import CLOSED_HERE, INTERRUPTED, BoltError
 from .queries import Deferred, Pipeline, Queries, Transacting
 from .results import Pulled, Record, Summary, only
 from .session import Session
@@ -105,30 +106,36 @@ class Connection(Queries[Session, Result]):
         """A transaction, under the token if there is one. It is committed when the block ends, and rolled back when an exception ends it."""
         found = Transaction(self, token)
         try:
-            self.session._call(self._beginning(write, found))
-            yield found
-            if found.is_open:
-                found.commit()
+            try:
+                self.session._call(self._beginning(write, found))
+                yield found
+                if found.is_open:
+                    found.commit()
+            except BaseException:
+                if found.is_open:
+                    self._drop(found)
+                raise
         except BaseException:
+            # (another came as that left the block)
             if found.is_open:
-                found.is_open = False
-                self._drop()
+                self.session._end(INTERRUPTED)
             raise
 
-    def _drop(self) -> None:
+    def _drop(self, found: Transaction) -> None:
         """Ends whatever is open: by a RESET, or with the connection where that can't be."""
         try:
             self.reset()
-        except BaseException as why:
+        except BoltError as why:
             self.session._end(CLOSED_HERE)
-            if not isinstance(why, BoltError):
+            if is_from_elsewhere(why):
                 raise
+        found.is_open = False
 
     @contextlib.contextmanager
     def pipeline(self) -> Iterator[Pipeline[Result]]:
         """Requests that go out at once when the block ends, before an answer is read. An exception in the block closes the connection, and none goes
         out."""
-        self.session._call(self._settling_open())
+        self.session._call(self._piping())
         found = Pipeline(self)
         try:
             yield found

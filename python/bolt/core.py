@@ -2,11 +2,15 @@
 keeps the protocol and the account; `session` and `aio` have the sockets."""
 from __future__ import annotations
 
+import contextlib
 import functools
 import os
+import socket
+import ssl
 import time
+import traceback
 import warnings
-from typing import Any, Callable, Generator, NoReturn, Optional, TypeVar
+from typing import Any, Callable, Generator, Generic, Iterator, NoReturn, Optional, TypeVar
 
 from .errors import (BAD_ANSWER, CLOSED_HERE, ENDED, FAILED, GONE, INTERRUPTED, NO_MEMORY, NO_VERSION, NOT_BOLT, REFUSED, TIMED_OUT,
                      BoltError, Broken, NotSent, Refused, Request)
@@ -15,9 +19,40 @@ from .values import pack_structure
 from .versions import V5_1, VERSIONS
 
 PHASES = ("FRESH", "UNAUTH", "READY", "STREAMING", "TX_READY", "TX_STREAMING", "HALTED", "DEFUNCT")
+BEGIN = 0x11
 Answer = TypeVar("Answer")
 # What a call does, step by step: behind each, what waits is to be sent, and a piece of the server's bytes to be heard.
 Steps = Generator[None, None, Answer]
+# Whose frames an error has that a call of this package meets: its own, and those of what it calls.
+FOLDERS = os.path.dirname(os.path.abspath(__file__)), os.path.join(os.path.dirname(socket.__file__), "asyncio")
+FILES = socket.__file__, ssl.__file__, contextlib.__file__
+
+
+def is_from_elsewhere(why: BaseException) -> bool:
+    """Whether what is raised in the midst of a call comes from elsewhere, as from the handler of a signal, which has frames of its own."""
+    files = [frame.f_code.co_filename for frame, _ in traceback.walk_tb(why.__traceback__)]
+    return any(it not in FILES and os.path.dirname(os.path.abspath(it)) not in FOLDERS for it in files)
+
+
+def own(failed: OSError) -> OSError:
+    """The error of a socket's call, without its frames. One that comes from elsewhere is raised."""
+    # (a context of TLS and a look-up of names may be another's)
+    if not isinstance(failed, (ssl.SSLError, socket.gaierror)) and is_from_elsewhere(failed):
+        raise failed
+    # (a time out has a class of its own before Python 3.10)
+    return TimeoutError(*failed.args) if isinstance(failed, socket.timeout) else failed.with_traceback(None)
+
+
+class Stepped(Generic[Answer]):
+    """A call, step by step, and its answer behind the last."""
+
+    answer: Answer
+
+    def __init__(self, steps: Steps[Answer]) -> None:
+        self._steps = steps
+
+    def __iter__(self) -> Iterator[None]:
+        self.answer = yield from self._steps
 
 
 def extra(write: bool, token: Optional[str]) -> dict[str, Any]:
@@ -57,6 +92,13 @@ def login_of(auth: tuple[str, ...]) -> dict[str, str]:
     return dict(zip(("scheme", "principal", "credentials"), auth))
 
 
+def port_of(port: int) -> int:
+    """A port, which the system would take modulo 65,536."""
+    if isinstance(port, int) and not 0 <= port < 1 << 16:
+        raise ValueError("a port is 0 to 65535")
+    return port
+
+
 class Core:
     """A session without its socket. `timeout` is that of each call as a whole, in seconds; None for none. What isn't settled when it has passed is told by
     `Broken`, and the connection is gone.
@@ -74,6 +116,7 @@ class Core:
         self.requests: list[Request] = []
         self._told = 0  # how many of them have what their summary holds
         self._settled = True  # whether all of them are, and were told
+        self._begun = 0  # how many transactions were asked for
         self._cut: Optional[OSError] = None  # why nothing more is sent
         self._why: Optional[str] = None  # why the client has ended
         self._client = Client(versions, self)
@@ -94,6 +137,10 @@ class Core:
             finally:
                 # (also where warnings are raised)
                 self._free()
+
+    def __reduce__(self) -> NoReturn:
+        # (two of one client would each free it)
+        raise TypeError("a session can't be copied or pickled")
 
     @property
     def _open(self) -> Client:
@@ -123,9 +170,15 @@ class Core:
     def _broken_off(self, mine: object, why: BaseException) -> None:
         """A call ends by what was raised."""
         if self._amid.get("call") is mine:
-            if not isinstance(why, BoltError):
+            if not isinstance(why, BoltError) or is_from_elsewhere(why):
                 self._end(INTERRUPTED)
             self._amid.clear()
+
+    def _closed_meanwhile(self, why: NotSent) -> NoReturn:
+        """A call finds its client closed, as by a signal handler or another task: what became of each request is told."""
+        if is_from_elsewhere(why):
+            raise why
+        self._lose(CLOSED_HERE)
 
     # What is asked.
 
@@ -159,11 +212,12 @@ class Core:
             if self.requests is not before:
                 self.requests, self._told, self._settled = before, len(before), True
             raise fault_of(code, asked) if code != CLOSED else NotSent(code, hint=self._why or "")
+        self._begun += message[1] == BEGIN
         return request
 
     def ask_begin(self, write: bool = True, token: Optional[str] = None) -> Request:
         """A BEGIN: of a transaction to write unless `write` is False, under the token if there is one."""
-        return self.ask("BEGIN", 0x11, extra(write, token))
+        return self.ask("BEGIN", BEGIN, extra(write, token))
 
     def _submit_both(self, text: str, run: bytes, pull: bytes) -> Request:
         if self._state().pending > PIPELINE - 2:
@@ -171,7 +225,9 @@ class Core:
         self._submit(f"RUN {text}", run)
         try:
             return self._submit(f"PULL of {text}", pull)
-        except NotSent:
+        except NotSent as why:
+            if is_from_elsewhere(why):
+                raise
             # (memory ran out between the two)
             self._lose(NO_MEMORY)
 
@@ -222,6 +278,8 @@ class Core:
         try:
             self._take()
         except NotSent as why:
+            if is_from_elsewhere(why):
+                raise
             code = why.code if code in (OK, CLOSED) else code
         state = self._state()
         if code not in (OK, CLOSED):
@@ -281,10 +339,10 @@ class Core:
         try:
             while (state := self._state()).awaits:
                 yield
-        except NotSent:
+        except NotSent as why:
             if self._settled:
                 raise
-            self._lose(CLOSED_HERE)
+            self._closed_meanwhile(why)
         return state
 
     def _settling(self) -> Steps[list[Request]]:
@@ -307,7 +365,9 @@ class Core:
         """Resets the session; where that can't be, the connection is gone."""
         try:
             self._submit(*self._packed("RESET", 0x0F))
-        except NotSent:
+        except NotSent as why:
+            if is_from_elsewhere(why):
+                raise
             # (memory ran out)
             self._lose(NO_MEMORY)
         yield from self._awaiting()

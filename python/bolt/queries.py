@@ -3,8 +3,8 @@ from __future__ import annotations
 
 from typing import Any, Callable, Generic, Iterator, Optional, Type, TypeVar
 
-from .core import PHASES, Core, Steps, extra
-from .errors import NotSent, Request
+from .core import BEGIN, PHASES, Core, Steps, extra
+from .errors import REFUSED, NotSent, Request
 from .library import NOT_ALLOWED
 from .results import Pulled, Record
 from .times import stored
@@ -40,7 +40,6 @@ class Queries(Generic[Kind, Found]):
     def __init__(self, session: Kind, fetch: int = 1000) -> None:
         self.session, self.fetch = session, fetch
         self._open_result: Optional[Found] = None
-        self._begun = 0  # how many transactions were
 
     @property
     def version(self) -> int:
@@ -89,18 +88,18 @@ class Queries(Generic[Kind, Found]):
         self._open_result = found = self._made(first, last, text)
         return found
 
-    def _asking(self, text: str, message: bytes) -> Steps[Request]:
-        """Asks one request, and hears its answer."""
+    def _piping(self) -> Steps[None]:
+        """Before a pipeline: what was asked and isn't settled would go out with it."""
+        self.session._alone()
         yield from self._settling_open()
-        return (yield from self.session._at_once(self.session._submit, text, message))
 
     def _beginning(self, write: bool, found: Transacting) -> Steps[None]:
-        return self._starting(found, *self.session._packed("BEGIN", 0x11, extra(write, found.token)))
+        return self._starting(found, *self.session._packed("BEGIN", BEGIN, extra(write, found.token)))
 
     def _starting(self, found: Transacting, text: str, message: bytes) -> Steps[None]:
-        yield from self._asking(text, message)
-        self._begun += 1
-        found.number, found.is_open = self._begun, True
+        yield from self._settling_open()
+        yield from self.session._at_once(self.session._submit, text, message)
+        found.number, found.is_open = self.session._begun, True
 
 
 class Pipeline(Generic[Found]):
@@ -111,22 +110,28 @@ class Pipeline(Generic[Found]):
         self.is_sent = False
         self._runs: list[tuple[Deferred[Found], Request, Request]] = []
 
+    @property
+    def _session(self) -> Core:
+        if self.is_sent:
+            raise NotSent(NOT_ALLOWED, hint="the pipeline has ended")
+        session: Core = self._connection.session
+        return session
+
     def begin(self, write: bool = True, token: Optional[str] = None) -> None:
-        self._connection.session.ask_begin(write, token)
-        self._connection._begun += 1
+        self._session.ask_begin(write, token)
 
     def run(self, text: str, /, **parameters: Any) -> Deferred[Found]:
         """Asks a query and all its records."""
-        session, found = self._connection.session, Deferred[Found]()
+        session, found = self._session, Deferred[Found]()
         pull = session.ask_run(text, self._connection._stored(parameters))
         self._runs.append((found, session.requests[-2], pull))
         return found
 
     def commit(self) -> None:
-        self._connection.session.ask_commit()
+        self._session.ask_commit()
 
     def rollback(self) -> None:
-        self._connection.session.ask_rollback()
+        self._session.ask_rollback()
 
     def _sending(self) -> Steps[list[Request]]:
         self.is_sent = True
@@ -143,23 +148,40 @@ class Transacting:
     def __init__(self, connection: Queries[Any, Any], token: Optional[str]) -> None:
         self._connection, self.token = connection, token
         self.is_open, self.number = False, 0
-        self.outcome: Optional[str] = None
-        self.bookmark: Optional[str] = None
+        self._last: Optional[Request] = None  # the COMMIT or ROLLBACK that was asked
+
+    @property
+    def outcome(self) -> Optional[str]:
+        """What became of its COMMIT or ROLLBACK; None as long as that isn't known, or neither was asked."""
+        return self._last.outcome if self._last else None
+
+    @property
+    def bookmark(self) -> Optional[str]:
+        return self._last.metadata.get("bookmark") if self._last else None
+
+    @property
+    def _code(self) -> Optional[str]:
+        """By which code its end was refused."""
+        return self._last.metadata.get("code") if self._last and self._last.outcome == REFUSED else None
 
     def _is_current(self) -> bool:
         """Whether what is asked is part of it, or is refused since the connection has ended. A FAILURE ends it, and so does a RESET."""
         session = self._connection.session
-        return self.number == self._connection._begun and (is_in_transaction(session) or bool(session._state().has_ended))
+        return self.number == session._begun and (is_in_transaction(session) or bool(session._state().has_ended))
 
     def _running(self, text: str, parameters: dict[str, Any]) -> Steps[Any]:
-        if not self.is_open or not self._is_current():
-            raise ValueError("the transaction has ended")
+        if not self.is_open:
+            raise self._over()
+        self._goes_on()
         return self._connection._running(self._goes_on, *self._connection._packed(text, parameters))
 
     def _goes_on(self) -> None:
         """Refused where it has ended meanwhile, as by a signal handler: what is run then would be committed by itself."""
         if not self._is_current():
-            raise NotSent(NOT_ALLOWED, hint="the transaction has ended")
+            raise self._over()
+
+    def _over(self) -> NotSent:
+        return NotSent(NOT_ALLOWED, hint="the transaction has ended")
 
     def _committing(self) -> Steps[None]:
         return self._ending("COMMIT", 0x12)
@@ -172,13 +194,16 @@ class Transacting:
 
     def _ends(self, text: str, message: bytes) -> Steps[None]:
         """Ends it, once: what ends one that has ended would end another that began since."""
-        if not self.is_open or self.number != self._connection._begun:
-            raise NotSent(NOT_ALLOWED, hint="the transaction has ended")
+        session = self._connection.session
+        if not self.is_open or self.number != session._begun:
+            raise self._over()
         self.is_open = False
         try:
-            asked = yield from self._connection._asking(text, message)
+            yield from self._connection._settling_open()
+            session._alone()
+            self._last = session._submit(text, message)
         except NotSent:
             # (nothing has changed, and it may be open)
             self.is_open = True
             raise
-        self.outcome, self.bookmark = asked.outcome, asked.metadata.get("bookmark")
+        yield from session._settling()

@@ -5,7 +5,7 @@ import dataclasses
 from typing import Any, Iterator, Mapping, Optional, Sequence, Union
 
 from .core import Core, Steps
-from .errors import COMMITTED, DONE, GONE, LOST, REFUSED, Broken, NotSent, Refused, Request
+from .errors import COMMITTED, DONE, GONE, INTERRUPTED, LOST, REFUSED, Broken, NotSent, Refused, Request
 from .library import NOT_ALLOWED
 from .times import heard
 
@@ -77,7 +77,7 @@ class Pulled:
     def __init__(self, session: Core, run: Request, pull: Request, text: str, fetch: int) -> None:
         self._session, self._run, self._last, self._text, self._fetch = session, run, pull, text, fetch
         self._rows: list[list[Any]] = list(pull.rows)
-        self._read = 0
+        self._read, self._taken = 0, pull  # whose rows are taken up to
 
     @property
     def _has_more(self) -> bool:
@@ -94,6 +94,7 @@ class Pulled:
         self._last = self._session._submit(*self._session._pull(self._text, count))
         yield from self._session._settling()
         self._rows += self._last.rows
+        self._taken = self._last
 
     def _finish(self) -> Steps[None]:
         """Pulls what is left, and keeps it."""
@@ -106,6 +107,9 @@ class Pulled:
             raise Refused(self._last.metadata.get("code", ""), self._last.metadata.get("message", ""), [self._last])
         if self._last.outcome not in (DONE, COMMITTED):
             raise Broken([self._last], self._session._why or GONE)
+        if self._last is not self._taken:
+            # (its rows may not be there)
+            raise Broken([self._last], self._session._why or INTERRUPTED)
         while self._is_read and self._has_more:
             self._rows, self._read = [], 0
             yield from self._more(self._fetch)

@@ -1,15 +1,16 @@
 """A transaction that is sent under its token until it is known what became of it."""
 from __future__ import annotations
 
+import contextlib
 import dataclasses
 import logging
 import random
 import secrets
 import time
-from typing import Any, Callable, Optional
+from typing import Any, Callable, Iterator, Optional, Sequence
 
 from .connection import Connection, Transaction
-from .errors import COMMITTED, UNKNOWN, BoltError, NotSent, Refused, Told, committed
+from .errors import COMMITTED, UNKNOWN, BoltError, NotSent, Refused, Request, Told, committed
 from .queries import Transacting
 
 LOG = logging.getLogger("bolt")
@@ -42,7 +43,12 @@ def pause(tried: int) -> float:
 
 
 class Tries:
-    """The tries of a transaction under a token, and what is known of it by how they ended."""
+    """The tries of a transaction under a token, and what is known of it by how they ended. Of the last: its transaction, what the work answered in it,
+    and what is known behind it, if that is the end of them."""
+
+    found: Optional[Transacting]
+    value: Any
+    known: Optional[Known]
 
     def __init__(self, token: Optional[str], tries: int, within: Optional[float], pause: Callable[[int], float]) -> None:
         self.token = secrets.token_hex(16) if token is None else token
@@ -55,7 +61,7 @@ class Tries:
 
     def pause(self) -> Optional[float]:
         """The seconds to wait before the next try, None where none is left."""
-        if self._tried == self._tries:
+        if self._tried >= self._tries:
             return None
         self._tried += 1
         return self._pause(self._tried - 1) if self._tried > 1 else 0
@@ -64,36 +70,49 @@ class Tries:
     def is_late(self) -> bool:
         return self._within is not None and self._tried > 1 and time.monotonic() - self._begun > self._within
 
-    def failed(self, why: BoltError, found: Optional[Transacting], value: Any) -> Optional[Known]:
-        """What is known behind a try that failed so, if that is the end of them; its transaction, and what the work answered in it, None where it didn't."""
+    @contextlib.contextmanager
+    def attempt(self) -> Iterator[None]:
+        """A try."""
+        self.found = self.value = self.known = None
+        try:
+            yield
+        except BoltError as why:
+            self.known = self._failed(why)
+        else:
+            self.known = self._ended()
+
+    def _failed(self, why: BoltError) -> Optional[Known]:
+        """What is known behind a try that failed so."""
         LOG.debug("%s, try %s: %s", self.token, self._tried, why)
-        self._error = why
+        self._error, found = why, self.found
         if found and found.outcome == COMMITTED:
-            # (the work committed by itself, and failed behind that)
-            return Known(STANDS, self.token, value, found.bookmark, why)
+            # (what came behind it failed)
+            return Known(STANDS, self.token, self.value, found.bookmark, why)
+        if found and found._code == CLASHES:
+            return Known(CLASH, self.token, error=why)
         if isinstance(why, Told):
-            if why.outcome == COMMITTED:
-                # (what came behind it was lost)
-                bookmarks = [it.metadata.get("bookmark") for it in why.requests if it.outcome == COMMITTED]
-                return Known(STANDS, self.token, value, bookmarks[0])
-            self._is_doubtful = self._is_doubtful or why.outcome == UNKNOWN
+            # (what the work asked beside its transaction, or of another connection, isn't known to be of this token)
+            self._doubt(why.requests)
             # (a FAILURE counts, whether or not the connection lives on)
             codes = [why.code] if isinstance(why, Refused) else [it.metadata.get("code", "") for it in why.requests if it.outcome == REFUSED]
-            if CLASHES in codes:
-                return Known(CLASH, self.token, error=why)
             if any(it.startswith(FINAL) for it in codes) and not self._is_doubtful:
                 return Known(REFUSED, self.token, error=why)
         if isinstance(why, NotSent) and not self._is_doubtful:
             raise why
         return None
 
-    def ended(self, found: Transacting, value: Any) -> Known:
+    def _ended(self) -> Known:
         """What is known behind a try of which nothing was raised: the work may have ended the transaction by itself."""
-        outcome = found.outcome or committed(found._connection.session.requests)
-        if outcome == COMMITTED:
-            return Known(STANDS, self.token, value, found.bookmark)
-        self._is_doubtful = self._is_doubtful or outcome == UNKNOWN
+        found = self.found
+        if found and found.outcome == COMMITTED:
+            return Known(STANDS, self.token, self.value, found.bookmark)
+        self._doubt(found._connection.session.requests if found else [])
         return self.over()
+
+    def _doubt(self, requests: Sequence[Request]) -> None:
+        """Whether it may stand behind a try that isn't known to have committed: by its own end, else by what was asked last."""
+        if self.found and (self.found.outcome or committed(requests)) in (COMMITTED, UNKNOWN):
+            self._is_doubtful = True
 
     def over(self) -> Known:
         return Known(OPEN if self._is_doubtful else ABSENT, self.token, error=self._error)
@@ -112,15 +131,12 @@ def until_known(connect: Callable[[], Connection], work: Callable[[Transaction],
             time.sleep(seconds)
             if sent.is_late:
                 break
-            found, value = None, None  # type: Optional[Transaction], Any
-            try:
-                with connect() as connection:
-                    with connection.transaction(token=sent.token) as found:
-                        value = work(found)
-                    return sent.ended(found, value)
-            except BoltError as why:
-                if known := sent.failed(why, found, value):
-                    return known
+            with sent.attempt():
+                with connect() as connection, connection.transaction(token=sent.token) as found:
+                    sent.found = found
+                    sent.value = work(found)
+            if sent.known:
+                return sent.known
         return sent.over()
     except BaseException as why:
         sent.ends_by(why)

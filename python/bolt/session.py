@@ -1,27 +1,20 @@
 """A session of a server over a socket: requests are asked, and go out as one pipeline when they are settled."""
 from __future__ import annotations
 
+import select
 import socket
 import ssl
 from typing import Any, Optional, Union
 
-from .core import Answer, Core, Steps, ends, extra, login_of
-from .errors import CLOSED_HERE, TIMED_OUT, UNREACHED, Broken, NotSent, Request
+from .core import BEGIN, Answer, Core, Stepped, Steps, ends, extra, is_from_elsewhere, login_of, own, port_of
+from .errors import TIMED_OUT, UNREACHED, Broken, NotSent, Request
 from .library import MESSAGE
 from .versions import NEWEST
 
 LATE = 1 << 22
-
-
-def own(failed: OSError) -> OSError:
-    """The error of a socket's call, without its frames. One that a signal handler raised while the call ran has the handler's frames, and is raised."""
-    frames = failed.__traceback__ and failed.__traceback__.tb_next
-    while frames and frames.tb_frame.f_code.co_filename in (socket.__file__, ssl.__file__):
-        frames = frames.tb_next
-    if frames:
-        raise failed
-    # (a time out has a class of its own before Python 3.10)
-    return TimeoutError(*failed.args) if isinstance(failed, socket.timeout) else failed.with_traceback(None)
+# The most seconds that a call of a socket is given at once: the system counts its milliseconds in 31 bits.
+AT_ONCE = 1_000_000
+BLOCKED = BlockingIOError, ssl.SSLWantReadError, ssl.SSLWantWriteError
 
 
 class Session(Core):
@@ -35,7 +28,7 @@ class Session(Core):
 
     def __init__(self, host: str, port: int, auth: tuple[str, str, str] = ("none", "", ""), agent: str = "bolt.py/1", versions: int = NEWEST,
                  timeout: Optional[float] = 10, tls: Union[None, bool, ssl.SSLContext] = None) -> None:
-        login = login_of(auth)
+        login, port = login_of(auth), port_of(port)
         self._tls = ssl.create_default_context() if tls is True else tls or None
         super().__init__(versions, timeout)
         try:
@@ -57,7 +50,7 @@ class Session(Core):
                 if (left := self._left()) == 0:
                     raise TimeoutError(TIMED_OUT)
                 self._socket = socket.socket(*kind)
-                self._socket.settimeout(left)
+                self._give(left)
                 self._socket.connect(address)
                 self._socket.setsockopt(socket.IPPROTO_TCP, socket.TCP_NODELAY, 1)
                 if self._tls:
@@ -78,7 +71,8 @@ class Session(Core):
         try:
             # (a call of another thread that waits hears the end by this)
             if self._socket and self._amid and self._is_ours():
-                self._socket.shutdown(socket.SHUT_RDWR)
+                # (of TLS too what goes below it: else what that call still sends would go out as it is)
+                socket.socket.shutdown(self._socket, socket.SHUT_RDWR)
         except OSError as why:
             own(why)
         try:
@@ -88,52 +82,77 @@ class Session(Core):
             # (whatever it says, it is closed)
             own(why)
 
-    def _send(self) -> None:
-        """Sends what waits. Where the server takes no more, what it has said may still be heard."""
-        while not self._cut and (piece := self._open.unsent()):
+    def _give(self, left: Optional[float]) -> None:
+        """Gives the next call of the socket so many seconds, None for no end."""
+        assert self._socket
+        self._socket.settimeout(left if left is None else min(left, AT_ONCE))
+
+    def _send(self) -> Optional[bytes]:
+        """Sends what waits. Where the server takes no more before it is heard, what it says is answered; where it takes none, it may still be heard."""
+        said = None
+        while said is None and not self._cut and (piece := self._open.unsent()):
             try:
                 if (left := self._left()) == 0:
                     raise TimeoutError(TIMED_OUT)
                 assert self._socket
-                self._socket.settimeout(left)
+                self._give(0)
                 self._open.went = True
-                self._socket.sendall(piece)
-                self._open.sent(len(piece))
+                self._open.sent(self._socket.send(piece))
+            except BLOCKED as why:
+                own(why)
+                said = self._overhear(left)
             except OSError as why:
                 self._cut = own(why)
+        return said
+
+    def _overhear(self, left: Optional[float]) -> Optional[bytes]:
+        """What has come where the socket takes nothing for now, none at the server's end; where nothing has, waits until either may be."""
+        try:
+            assert self._socket
+            return self._socket.recv(MESSAGE)
+        except BLOCKED as why:
+            own(why)
+        except OSError as why:
+            self._cut = own(why)
+            return None
+        waiting, number = select.poll(), self._socket.fileno()
+        # (not for long: another thread may close it, and what has its number then is another's)
+        if number >= 0:
+            waiting.register(number, select.POLLIN | select.POLLOUT)
+            waiting.poll(1000 * min(1, 1 if left is None else left))
+        return None
 
     def _receive(self) -> bytes:
         """The next bytes of the server, none where no more come. Once the call's time has passed, or a send took it up, what is there already is
         still heard, in one piece, and nothing else."""
-        try:
-            left = 0 if isinstance(self._cut, TimeoutError) else self._left()
-            if left == 0 and self._is_late:
-                raise TimeoutError(TIMED_OUT)
-            self._is_late = left == 0
-            assert self._socket
-            self._socket.settimeout(left)
-            return self._socket.recv(LATE if left == 0 else MESSAGE)
-        except OSError as why:
-            failed = own(why)
-            self._cut = self._cut or (TimeoutError(TIMED_OUT) if isinstance(failed, (BlockingIOError, ssl.SSLWantReadError)) else failed)
-            return b""
+        while True:
+            try:
+                left = 0 if isinstance(self._cut, TimeoutError) else self._left()
+                if left == 0 and self._is_late:
+                    raise TimeoutError(TIMED_OUT)
+                self._is_late = left == 0
+                assert self._socket
+                self._give(left)
+                return self._socket.recv(LATE if left == 0 else MESSAGE)
+            except OSError as why:
+                failed = own(why)
+                if left and left > AT_ONCE and isinstance(failed, TimeoutError):
+                    continue
+                self._cut = self._cut or (TimeoutError(TIMED_OUT) if isinstance(failed, BLOCKED) else failed)
+                return b""
 
     @ends
     def _do(self, steps: Steps[Answer], until: Optional[float]) -> Answer:
         """Does a call step by step, which has to be done by then."""
         self._until, self._is_late = until, False
-        while True:
+        call = Stepped(steps)
+        for _ in call:
             try:
-                next(steps)
-            except StopIteration as done:
-                answer: Answer = done.value
-                return answer
-            try:
-                self._send()
-                self._hear(self._receive())
-            except NotSent:
-                # (it was closed meanwhile)
-                self._lose(CLOSED_HERE)
+                said = self._send()
+                self._hear(self._receive() if said is None else said)
+            except NotSent as why:
+                self._closed_meanwhile(why)
+        return call.answer
 
     def _call(self, steps: Steps[Answer]) -> Answer:
         """Does a call in its time."""
@@ -150,7 +169,7 @@ class Session(Core):
 
     def begin(self, write: bool = True, token: Optional[str] = None) -> None:
         """Begins a transaction: to write unless `write` is False, under the token if there is one."""
-        self._call(self._at_once(self._submit, *self._packed("BEGIN", 0x11, extra(write, token))))
+        self._call(self._at_once(self._submit, *self._packed("BEGIN", BEGIN, extra(write, token))))
 
     def commit(self) -> Optional[str]:
         """COMMITTED, once it is; any other end is raised."""
@@ -166,11 +185,18 @@ class Session(Core):
     def close(self) -> None:
         """Says goodbye where nothing waits, and frees the client. What was asked and isn't settled isn't sent any more. A second close does nothing."""
         try:
-            self._until = self._by()
-            if self._socket and self._says_goodbye():
-                self._send()
-        except (NotSent, Broken):
-            pass
+            if self._socket:
+                self._part()
+        except (NotSent, Broken) as why:
+            if is_from_elsewhere(why):
+                raise
         finally:
             # (where that is broken off, a second close tells what became of each request)
             self._free()
+
+    @ends
+    def _part(self) -> None:
+        """Says goodbye, unless another call has the connection: what that sends would be sent twice."""
+        self._until = self._by()
+        if self._says_goodbye():
+            self._send()
