@@ -450,19 +450,21 @@ def hears_while_it_sends(_):
 
 def waits_for_long(_):
     """Whether a call is given the time that is set, however long: 31 bits of milliseconds, and those of which 32 bits leave few, and no end."""
-    def answer(peer):
+    def answer(wait):
+        peer, _ = listener.accept()
         with peer, contextlib.suppress(OSError):
             peer.recv(20, socket.MSG_WAITALL)
             peer.sendall(TOOK)
             peer.recv(4096)
-            time.sleep(0.3)
+            time.sleep(wait)
             peer.sendall(SUCCESS * 2)
             while peer.recv(4096):
                 pass
 
-    for seconds in (4_294_967.4, 1e10, float("inf")):
+    # (of the first 0.1 seconds are left)
+    for seconds, wait in ((4_294_967.4, 0.3), (1e10, 0), (float("inf"), 0)):
         with socket.create_server(("127.0.0.1", 0)) as listener:
-            threading.Thread(target=lambda: answer(listener.accept()[0]), daemon=True).start()
+            threading.Thread(target=answer, args=(wait,), daemon=True).start()
             with bolt.Session("127.0.0.1", listener.getsockname()[1], USER, timeout=seconds) as connection:
                 if connection.version != 51:
                     return False

@@ -292,7 +292,7 @@ async def leaves_nothing_open(port):
         number += 1
     async with await connected(port) as connection:
         leaving = asyncio.ensure_future(fails(connection))
-        while connection.session.requests[-1:] != [bolt.Request("RESET")]:
+        while not leaving.done() and connection.session.requests[-1:] != [bolt.Request("RESET")]:
             await asyncio.sleep(0)
         leaving.cancel()
         await asyncio.wait({leaving})
