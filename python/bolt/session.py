@@ -107,8 +107,8 @@ class Session(Core):
 
     def _overhear(self, left: Optional[float]) -> Optional[bytes]:
         """What has come where the socket takes nothing for now, none at the server's end; where nothing has, waits until either may be."""
+        assert self._socket
         try:
-            assert self._socket
             return self._socket.recv(MESSAGE)
         except BLOCKED as why:
             own(why)
