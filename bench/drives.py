@@ -129,6 +129,10 @@ def keeps_results_apart(port):
         with odd_servers.Server([(*begun, *ends)]) as server, connected(server.port, fetch=1) as connection:
             left = connection.run("ROWS", n=3)
             said += [next(left)[0], *(str(breaks.raised(lambda: list(left))) for _ in range(3)), left.summary.outcome]
+    # (a word that isn't true ends a result)
+    ends = row, more[:-1] + b"\x01"
+    with odd_servers.Server([(*begun[:2], odd_servers.told(DONE, *ends))]) as server, connected(server.port) as connection:
+        is_apart = is_apart and connection.run("ROWS").values() == [[1]]
     broken, refused = f"PULL of ROWS: UNKNOWN ({bolt.GONE})", f"{odd_servers.REFUSED}: no"
     return is_apart and said == [1, *[broken] * 3, bolt.UNKNOWN, 1, *[refused] * 3, bolt.REFUSED]
 

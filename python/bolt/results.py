@@ -81,7 +81,8 @@ class Pulled:
 
     @property
     def _has_more(self) -> bool:
-        return bool(self._last.metadata.get("has_more"))
+        # (whatever else it is ends the result, as the library has it)
+        return self._last.metadata.get("has_more") is True
 
     def _is_open(self) -> bool:
         """Whether nothing else was asked since: what is pulled then is its own."""
