@@ -24,14 +24,14 @@ Answer = TypeVar("Answer")
 # What a call does, step by step: behind each, what waits is to be sent, and a piece of the server's bytes to be heard.
 Steps = Generator[None, None, Answer]
 # Whose frames an error has that a call of this package meets: its own, and those of what it calls.
-FOLDERS = os.path.dirname(os.path.abspath(__file__)), os.path.join(os.path.dirname(socket.__file__), "asyncio")
+FOLDERS = os.path.dirname(__file__), os.path.join(os.path.dirname(socket.__file__), "asyncio")
 FILES = socket.__file__, ssl.__file__, contextlib.__file__
 
 
 def is_from_elsewhere(why: BaseException) -> bool:
     """Whether what is raised in the midst of a call comes from elsewhere, as from the handler of a signal, which has frames of its own."""
     files = [frame.f_code.co_filename for frame, _ in traceback.walk_tb(why.__traceback__)]
-    return any(it not in FILES and os.path.dirname(os.path.abspath(it)) not in FOLDERS for it in files)
+    return any(it not in FILES and os.path.dirname(it) not in FOLDERS for it in files)
 
 
 def own(failed: OSError) -> OSError:
