@@ -2,7 +2,7 @@
 
 use crate::error::{Error, Outcome, Request};
 use crate::ffi::{Client, CLOSED, FULL, HALTED, MEMORY, MESSAGE, NOT_ALLOWED, PIPELINE};
-use crate::value::{dict, put, Reading, Value};
+use crate::value::{dict, put, Reading, Value, ROOM};
 use std::fmt;
 use std::io::{self, Read, Write};
 use std::panic::{catch_unwind, resume_unwind, AssertUnwindSafe};
@@ -43,8 +43,8 @@ pub struct Answer {
     pub bookmark: Option<String>,
 }
 
-/// A session of a server over a stream. A stream's own times bound its reads and writes: one without them may wait without an end, also where what is asked at
-/// once and what answers it are both more than the sockets hold.
+/// A session of a server over a stream, on the thread that opened it. A stream's own times bound its reads and writes: one without them may wait without an
+/// end, also where what is asked at once and what answers it are both more than the sockets hold.
 ///
 /// Requests are asked, and go out as one pipeline when they are settled. [`requests`](Connection::requests) are those asked since all was settled, each
 /// with what became of it, after each call, also one that failed. Where a call of the stream panics, so does the connection's, and it has ended.
@@ -65,9 +65,9 @@ pub struct Connection<S> {
     why: Option<&'static str>,
 }
 
-fn message(tag: u8, fields: Vec<Value>) -> Vec<u8> {
-    let mut out = Vec::new();
-    put(&mut out, &Value::Structure(tag, fields));
+fn message(tag: u8, fields: &[&Value]) -> Vec<u8> {
+    let mut out = vec![0xB0 | fields.len() as u8, tag];
+    fields.iter().for_each(|it| put(&mut out, it, ROOM));
     out
 }
 
@@ -108,9 +108,9 @@ impl<S: Read + Write> Connection<S> {
         if !has_logon {
             hello.extend(who.clone().map(|(key, value)| (key.to_owned(), value)));
         }
-        connection.ask("HELLO", 0x01, vec![Value::Dict(hello)])?;
+        connection.ask("HELLO", 0x01, &[&Value::Dict(hello)])?;
         if has_logon {
-            connection.ask("LOGON", 0x6A, vec![dict(who)])?;
+            connection.ask("LOGON", 0x6A, &[&dict(who)])?;
         }
         connection.settle()?;
         Ok(connection)
@@ -127,31 +127,38 @@ impl<S: Read + Write> Connection<S> {
     }
 
     /// Submits a request; it goes out when it is settled. Answers its place among the requests.
-    fn ask(&mut self, text: &str, tag: u8, fields: Vec<Value>) -> Result<usize, Error> {
-        let state = self.client.state();
-        if self.is_settled && state.has_ended == 0 {
+    fn ask(&mut self, text: &str, tag: u8, fields: &[&Value]) -> Result<usize, Error> {
+        let has_ended = self.client.state().has_ended == 1;
+        let is_first = self.is_settled && !has_ended;
+        if let (false, Some(error)) = (has_ended, self.cut.take()) {
+            // (it would wait for its answer without an end)
+            if is_first {
+                self.requests.clear();
+            }
+            return Err(self.lose("the stream failed", Some(error)));
+        }
+        if is_first {
+            // (those before have what the account forgets)
             self.client.settle();
+        }
+        let ordinal = self.client.ask(&message(tag, fields)).map_err(|(code, told)| {
+            let rule: String = if told.rule == 0 { String::new() } else { [(told.rule >> 8) as u8 as char, told.rule as u8 as char].iter().collect() };
+            Error::NotSent { code, rule, place: told.place }
+        })?;
+        if is_first {
             self.requests.clear();
-            self.first = state.first;
+            self.first = ordinal;
             self.told = 0;
             self.is_settled = false;
             self.went_out = false;
         }
-        if let (0, Some(error)) = (state.has_ended, self.cut.take()) {
-            // (it would wait for its answer without an end)
-            return Err(self.lose("the stream failed", Some(error)));
-        }
-        self.client.ask(&message(tag, fields)).map_err(|(code, told)| {
-            let rule: String = if told.rule == 0 { String::new() } else { [(told.rule >> 8) as u8 as char, told.rule as u8 as char].iter().collect() };
-            Error::NotSent { code, rule, place: told.place }
-        })?;
         self.requests.push(Request { text: text.to_owned(), outcome: None, metadata: Value::Null, rows: Vec::new() });
         Ok(self.requests.len() - 1)
     }
 
     /// A BEGIN, under the token if there is one.
     pub fn ask_begin(&mut self, write: bool, token: Option<&str>) -> Result<usize, Error> {
-        self.ask("BEGIN", 0x11, vec![extra(write, token)])
+        self.ask("BEGIN", 0x11, &[&extra(write, token)])
     }
 
     /// A RUN and a PULL of all its rows, both or neither. Answers the place of the RUN; behind it stands the PULL.
@@ -159,8 +166,8 @@ impl<S: Read + Write> Connection<S> {
         if self.client.state().pending as usize > PIPELINE - 2 {
             return Err(refusal(FULL));
         }
-        let run = self.ask(&format!("RUN {}", query.text), 0x10, vec![Value::from(query.text.as_str()), query.params.clone(), extra(write, token)])?;
-        match self.ask(&format!("PULL of {}", query.text), 0x3F, vec![dict([("n", Value::Int(-1))])]) {
+        let run = self.ask(&format!("RUN {}", query.text), 0x10, &[&Value::from(query.text.as_str()), &query.params, &extra(write, token)])?;
+        match self.ask(&format!("PULL of {}", query.text), 0x3F, &[&dict([("n", Value::Int(-1))])]) {
             Ok(_) => Ok(run),
             // (memory ran out between the two)
             Err(_) => Err(self.lose("out of memory", None)),
@@ -168,15 +175,15 @@ impl<S: Read + Write> Connection<S> {
     }
 
     pub fn ask_commit(&mut self) -> Result<usize, Error> {
-        self.ask("COMMIT", 0x12, Vec::new())
+        self.ask("COMMIT", 0x12, &[])
     }
 
     pub fn ask_rollback(&mut self) -> Result<usize, Error> {
-        self.ask("ROLLBACK", 0x13, Vec::new())
+        self.ask("ROLLBACK", 0x13, &[])
     }
 
     pub fn ask_reset(&mut self) -> Result<usize, Error> {
-        self.ask("RESET", 0x0F, Vec::new())
+        self.ask("RESET", 0x0F, &[])
     }
 
     /// Sends all that waits. Where the stream takes no more, nothing more is sent, and what the server has said may still be heard.
@@ -184,7 +191,12 @@ impl<S: Read + Write> Connection<S> {
         while self.cut.is_none() {
             let count = self.client.unsent(&mut self.buffer);
             if count == 0 {
-                self.cut = self.stream.flush().err();
+                self.cut = loop {
+                    match self.stream.flush() {
+                        Err(error) if error.kind() == io::ErrorKind::Interrupted => {}
+                        flushed => break flushed.err(),
+                    }
+                };
                 break;
             }
             self.went_out = true;
@@ -232,9 +244,11 @@ impl<S: Read + Write> Connection<S> {
     /// Sends what waits, and hears a piece of the server's bytes.
     fn exchange(&mut self) -> Result<(), Error> {
         let mut piece = [0; 4096];
-        let read = catch_unwind(AssertUnwindSafe(|| {
+        let read = catch_unwind(AssertUnwindSafe(|| -> io::Result<usize> {
             self.send();
-            self.stream.read(&mut piece)
+            let count = self.stream.read(&mut piece)?;
+            assert!(count <= piece.len(), "a stream read more than it had room for");
+            Ok(count)
         }));
         // (where the stream panics bytes are gone, and no answer may be taken for another's)
         let read = read.unwrap_or_else(|panic| {
@@ -262,7 +276,7 @@ impl<S: Read + Write> Connection<S> {
     fn end(&mut self, why: &'static str) {
         self.why.get_or_insert(why);
         self.client.lose();
-        for (request, ordinal) in self.requests.iter_mut().zip(self.first..) {
+        for (request, ordinal) in self.requests.iter_mut().zip(self.first..).filter(|(it, _)| it.outcome.is_none()) {
             let told = self.client.outcome(ordinal);
             // (nothing was committed by what no byte of has gone out)
             request.outcome = if told == Some(Outcome::Unknown) && !self.went_out { Some(Outcome::Lost) } else { told };

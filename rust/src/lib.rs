@@ -2,13 +2,20 @@
 //!
 //! ```no_run
 //! use bolt::{until_known, Connection, Login, Query};
-//! use std::net::TcpStream;
+//! use std::{io, net::TcpStream, time::Duration};
+//!
+//! fn connect() -> io::Result<TcpStream> {
+//!     let stream = TcpStream::connect("127.0.0.1:7687")?;
+//!     stream.set_read_timeout(Some(Duration::from_secs(10)))?;
+//!     stream.set_write_timeout(Some(Duration::from_secs(10)))?;
+//!     Ok(stream)
+//! }
 //!
 //! let login = Login { agent: "example/1".into(), principal: "user".into(), credentials: "pass".into() };
 //! let put = Query::new("PUT", [("key", "a".into()), ("value", 1.into())]);
-//! let fate = until_known(|| TcpStream::connect("127.0.0.1:7687").ok(), &login, "my-token", &[put], 5);
+//! let fate = until_known(|| connect().ok(), &login, "my-token", &[put], 5).unwrap();
 //! println!("{fate:?}");
-//! let mut connection = Connection::open(TcpStream::connect("127.0.0.1:7687").unwrap(), &login).unwrap();
+//! let mut connection = Connection::open(connect().unwrap(), &login).unwrap();
 //! for row in connection.run(&Query::new("GET", [("key", "a".into())])).unwrap().rows {
 //!     println!("{row:?}");
 //! }

@@ -28,23 +28,27 @@ fn refusal(error: &Error) -> Option<&str> {
 }
 
 /// Sends queries, 15 at most, as one transaction under a token, each time over a stream of its own, until it is known what became of it, and `tries` times at
-/// most. `connect` opens the streams, waits between two tries as it likes, and answers None where it has none.
-pub fn until_known<S: Read + Write>(mut connect: impl FnMut() -> Option<S>, login: &Login, token: &str, queries: &[Query], tries: u32) -> Fate {
+/// most. `connect` opens the streams, waits between two tries as it likes, and answers None where it has none. The one error is `NotSent` before anything is
+/// in doubt: nothing of the transaction stands.
+pub fn until_known<S: Read + Write>(mut connect: impl FnMut() -> Option<S>, login: &Login, token: &str, queries: &[Query], tries: u32) -> Result<Fate, Error> {
     let mut is_doubtful = false;
     for _ in 0..tries {
         let Some(stream) = connect() else { continue };
         let told = Connection::open(stream, login).and_then(|mut connection| connection.transact(Some(token), queries));
-        let Err(error) = told else { return Fate::Stands };
+        let Err(error) = told else { return Ok(Fate::Stands) };
         if error.requests().iter().any(|it| it.outcome == Some(Outcome::Committed)) {
-            return Fate::Stands;
+            return Ok(Fate::Stands);
+        }
+        if matches!(error, Error::NotSent { .. }) && !is_doubtful {
+            return Err(error);
         }
         is_doubtful |= error.is_unknown();
         // (a FAILURE counts, whether or not the connection lives on)
         match refusal(&error) {
-            Some(CLASH) => return Fate::Clash,
-            Some(code) if code.starts_with(FINAL) && !is_doubtful => return Fate::Refused,
+            Some(CLASH) => return Ok(Fate::Clash),
+            Some(code) if code.starts_with(FINAL) && !is_doubtful => return Ok(Fate::Refused),
             _ => {}
         }
     }
-    if is_doubtful { Fate::Open } else { Fate::Absent }
+    Ok(if is_doubtful { Fate::Open } else { Fate::Absent })
 }

@@ -81,6 +81,10 @@ pub fn dict<const N: usize>(entries: [(&str, Value); N]) -> Value {
     Value::Dict(entries.into_iter().map(|(key, value)| (key.to_owned(), value)).collect())
 }
 
+/// How deep a field of a message may nest.
+pub(crate) const ROOM: u8 = 31;
+const NO_MARKER: u8 = 0xC4;
+
 fn put_sized(out: &mut Vec<u8>, length: usize, tiny: Option<u8>, first: u8) {
     match (tiny, length) {
         (Some(tiny), 0..=15) => out.push(tiny | length as u8),
@@ -89,10 +93,22 @@ fn put_sized(out: &mut Vec<u8>, length: usize, tiny: Option<u8>, first: u8) {
             out.push(first + 1);
             out.extend((length as u16).to_be_bytes());
         }
-        _ => {
-            out.push(first + 2);
-            out.extend((length as u32).to_be_bytes());
-        }
+        _ => match u32::try_from(length) {
+            Ok(length) => {
+                out.push(first + 2);
+                out.extend(length.to_be_bytes());
+            }
+            Err(_) => out.push(NO_MARKER),
+        },
+    }
+}
+
+#[test]
+fn a_length_past_32_bits_has_no_marker() {
+    for (tiny, first) in [(None, 0xCC), (Some(0x80), 0xD0), (Some(0x90), 0xD4), (Some(0xA0), 0xD8)] {
+        let mut out = Vec::new();
+        put_sized(&mut out, 1 << 32, tiny, first);
+        assert_eq!(Reading(&out).value(), None, "{first}");
     }
 }
 
@@ -113,8 +129,9 @@ fn put_int(out: &mut Vec<u8>, it: i64) {
     }
 }
 
-/// Appends the bytes of a value. Of a length past 32 bits, or a structure of more than 15 fields, they are no value, and the library refuses them.
-pub(crate) fn put(out: &mut Vec<u8>, value: &Value) {
+/// Appends the bytes of a value. A length past 32 bits and a structure of more than 15 fields have none: the library refuses the marker in their place. What nests
+/// deeper than there is room for it refuses at the head, behind which nothing is appended.
+pub(crate) fn put(out: &mut Vec<u8>, value: &Value, room: u8) {
     match value {
         Value::Null => out.push(0xC0),
         Value::Bool(it) => out.push(if *it { 0xC3 } else { 0xC2 }),
@@ -133,21 +150,26 @@ pub(crate) fn put(out: &mut Vec<u8>, value: &Value) {
         }
         Value::List(members) => {
             put_sized(out, members.len(), Some(0x90), 0xD4);
-            members.iter().for_each(|it| put(out, it));
+            put_all(out, members, room);
         }
         Value::Dict(entries) => {
             put_sized(out, entries.len(), Some(0xA0), 0xD8);
-            for (key, it) in entries {
+            for (key, it) in entries.iter().filter(|_| room > 0) {
                 put_sized(out, key.len(), Some(0x80), 0xD0);
                 out.extend(key.as_bytes());
-                put(out, it);
+                put(out, it, room - 1);
             }
         }
+        Value::Structure(_, fields) if fields.len() > 15 => out.push(NO_MARKER),
         Value::Structure(tag, fields) => {
-            out.extend([0xB0 | fields.len().min(15) as u8, *tag]);
-            fields.iter().for_each(|it| put(out, it));
+            out.extend([0xB0 | fields.len() as u8, *tag]);
+            put_all(out, fields, room);
         }
     }
+}
+
+fn put_all(out: &mut Vec<u8>, members: &[Value], room: u8) {
+    members.iter().filter(|_| room > 0).for_each(|it| put(out, it, room - 1));
 }
 
 /// Reads values from the front of bytes; None where they spell none.

@@ -5,6 +5,7 @@ use bolt::{until_known, Connection, Error, Fate, Login, Outcome, Query, Value};
 use std::cell::Cell;
 use std::collections::VecDeque;
 use std::io::{self, Read, Write};
+use std::mem::ManuallyDrop;
 use std::net::TcpStream;
 use std::panic::{catch_unwind, AssertUnwindSafe};
 use std::time::Duration;
@@ -64,6 +65,10 @@ fn open() -> Connection<Cut> {
     Connection::open(connect(WHOLE, WHOLE).unwrap(), &login()).unwrap()
 }
 
+fn outcomes<S: Read + Write>(connection: &Connection<S>) -> Vec<Option<Outcome>> {
+    connection.requests().iter().map(|it| it.outcome).collect()
+}
+
 fn stands(key: &str) -> bool {
     let answer = open().run(&Query::new("GET", [("key", key.into())])).unwrap();
     answer.rows == [[Value::Int(1)]]
@@ -115,7 +120,7 @@ fn it_is_sent_until_it_is_known() {
             &[put(&key)],
             3,
         );
-        assert_eq!((fate, stands(&key)), (Fate::Stands, true), "{key}");
+        assert_eq!((fate.unwrap(), stands(&key)), (Fate::Stands, true), "{key}");
     }
 }
 
@@ -129,16 +134,19 @@ fn what_is_refused_is_told() {
     assert_eq!(connection.settle().unwrap(), []);
     let unsent = connection.run(&Query::new("ECHO", [("x", Value::Structure(0x44, vec!["no".into()]))]));
     assert!(matches!(unsent, Err(Error::NotSent { ref rule, place: 0, .. }) if rule == "S3"));
+    assert_eq!(outcomes(&connection), [Some(Outcome::Refused), Some(Outcome::Ignored)]);
     let answer = connection.run(&Query::new("ROWS", [("n", 3.into())])).unwrap();
     assert_eq!((answer.fields.as_slice(), answer.rows.len()), (["i".to_owned()].as_slice(), 3));
     assert!(answer.bookmark.is_some());
     // (the server has one client at a time)
     drop(connection);
-    assert_eq!(until_known(|| connect(WHOLE, WHOLE), &login(), "rust clash", &[put("rust clash")], 3), Fate::Stands);
-    assert_eq!(until_known(|| connect(WHOLE, WHOLE), &login(), "rust clash", &[put("rust other")], 3), Fate::Clash);
-    assert_eq!(until_known(|| connect(WHOLE, WHOLE), &login(), "rust no", &[Query::new("NOPE", [])], 3), Fate::Refused);
-    assert_eq!(until_known(|| None::<Cut>, &login(), "rust none", &[], 3), Fate::Absent);
-    assert_eq!(until_known(|| connect(100, WHOLE), &login(), "rust open", &[put("rust open")], 2), Fate::Open);
+    let whole = || connect(WHOLE, WHOLE);
+    let known = |token: &str, queries: &[Query]| until_known(whole, &login(), token, queries, 3).unwrap();
+    assert_eq!(known("rust clash", &[put("rust clash")]), Fate::Stands);
+    assert_eq!(known("rust clash", &[put("rust other")]), Fate::Clash);
+    assert_eq!(known("rust no", &[Query::new("NOPE", [])]), Fate::Refused);
+    assert_eq!(until_known(|| None::<Cut>, &login(), "rust none", &[], 3).unwrap(), Fate::Absent);
+    assert_eq!(until_known(|| connect(100, WHOLE), &login(), "rust open", &[put("rust open")], 2).unwrap(), Fate::Open);
 }
 
 #[test]
@@ -201,7 +209,7 @@ fn an_answer_counts_though_the_stream_ends_behind_it() {
         (&[SUCCESS, &refused], Fate::Refused),
     ];
     for (messages, fate) in rows {
-        assert_eq!(until_known(|| answering(messages), &login(), "t", &[put("a")], 1), fate, "{messages:?}");
+        assert_eq!(until_known(|| answering(messages), &login(), "t", &[put("a")], 1).unwrap(), fate, "{messages:?}");
     }
     let refusal = Connection::open(answering(&[SUCCESS, SUCCESS, SUCCESS, &clash]).unwrap(), &login()).unwrap().transact(None, &[put("a")]);
     assert!(matches!(refusal, Err(Error::Refused { ref code, .. }) if code.ends_with(".TokenClash")), "{refusal:?}");
@@ -218,19 +226,45 @@ fn of_a_transaction_that_cant_be_asked_nothing_goes_out() {
 }
 
 #[test]
+fn a_value_of_any_depth_is_refused() {
+    let mut connection = Connection::open(answering(&[]).unwrap(), &login()).unwrap();
+    for (depth, is_taken) in [(30, true), (31, false), (1_000_000, false)] {
+        let value = (0..depth).fold(Value::Null, |it, _| vec![it].into());
+        // (it is dropped member within member)
+        let query = ManuallyDrop::new(Query::new("ECHO", [("x", value)]));
+        let asked = connection.ask_run(&query, true, None);
+        assert!(if is_taken { asked.is_ok() } else { matches!(asked, Err(Error::NotSent { code: 8, ref rule, .. }) if rule == "P6") }, "{depth}: {asked:?}");
+    }
+}
+
+#[test]
+fn what_isnt_sent_is_an_error_before_anything_is_in_doubt() {
+    let unsent = until_known(|| answering(&[]), &login(), "t", &vec![put("a"); 16], 3);
+    assert!(matches!(unsent, Err(Error::NotSent { code: 2, .. })), "{unsent:?}");
+    let unsent = until_known(|| answering(&[]), &login(), "", &[put("a")], 3);
+    assert!(matches!(unsent, Err(Error::NotSent { code: 8, ref rule, .. }) if rule == "M5"), "{unsent:?}");
+}
+
+#[test]
 fn what_was_asked_goes_out_where_it_is_settled() {
     let mut connection = Connection::open(answering(&[SUCCESS; 4]).unwrap(), &login()).unwrap();
     connection.ask_run(&put("a"), true, None).unwrap();
     let (run, transacted) = (connection.run(&put("b")), connection.transact(None, &[put("b")]));
     assert!(matches!(run, Err(Error::NotSent { code: 1, .. })), "{run:?}");
     assert!(matches!(transacted, Err(Error::NotSent { code: 1, .. })), "{transacted:?}");
-    assert_eq!(connection.requests().iter().map(|it| it.outcome).collect::<Vec<_>>(), [None, None]);
+    assert_eq!(outcomes(&connection), [None, None]);
 }
 
-/// A stream whose flushes fail if they are to.
+/// A stream whose flushes fail so if they are to, by an interrupt once.
 struct Unflushed {
     answers: Answers,
-    fails: Cell<bool>,
+    fails: Cell<Option<io::ErrorKind>>,
+}
+
+impl Unflushed {
+    fn answering(messages: &[&[u8]]) -> Connection<Unflushed> {
+        Connection::open(Unflushed { answers: answering(messages).unwrap(), fails: Cell::default() }, &login()).unwrap()
+    }
 }
 
 impl Read for Unflushed {
@@ -245,7 +279,11 @@ impl Write for Unflushed {
     }
 
     fn flush(&mut self) -> io::Result<()> {
-        if self.fails.get() { Err(io::ErrorKind::TimedOut.into()) } else { Ok(()) }
+        let Some(kind) = self.fails.take() else { return Ok(()) };
+        if kind != io::ErrorKind::Interrupted {
+            self.fails.set(Some(kind));
+        }
+        Err(kind.into())
     }
 }
 
@@ -255,8 +293,8 @@ fn nothing_is_asked_of_a_stream_that_takes_no_more() {
     let ignored = [0xB0, 0x7E];
     let rows: [&[&[u8]]; 2] = [&[SUCCESS; 4], &[&refused, &ignored, &ignored, &ignored]];
     for messages in rows {
-        let mut connection = Connection::open(Unflushed { answers: answering(messages).unwrap(), fails: Cell::new(false) }, &login()).unwrap();
-        connection.stream().fails.set(true);
+        let mut connection = Unflushed::answering(messages);
+        connection.stream().fails.set(Some(io::ErrorKind::TimedOut));
         let told = connection.transact(None, &[put("a")]);
         assert_eq!(told.is_ok(), messages[0] == SUCCESS, "{told:?}");
         assert!(!matches!(told, Err(Error::Broken { .. })), "{told:?}");
@@ -274,6 +312,14 @@ fn nothing_is_asked_of_a_stream_that_takes_no_more() {
     }
 }
 
+#[test]
+fn a_flush_that_is_interrupted_is_done_again() {
+    let mut connection = Unflushed::answering(&[SUCCESS; 4]);
+    connection.stream().fails.set(Some(io::ErrorKind::Interrupted));
+    connection.transact(None, &[put("a")]).unwrap();
+    connection.ask_begin(true, None).unwrap();
+}
+
 #[derive(Clone, Copy, Debug, Default, PartialEq)]
 enum Panic {
     #[default]
@@ -281,6 +327,8 @@ enum Panic {
     BeforeWrite,
     BehindWrite,
     BehindRead,
+    /// It says that it read more than it could.
+    PastRead,
 }
 
 /// A stream that keeps what is written, and panics where it is to.
@@ -300,7 +348,7 @@ impl Read for Panics {
     fn read(&mut self, into: &mut [u8]) -> io::Result<usize> {
         let count = self.answers.read(into)?;
         self.panic(Panic::BehindRead);
-        Ok(count)
+        Ok(if self.due.get() == Panic::PastRead { into.len() + 1 } else { count })
     }
 }
 
@@ -319,7 +367,7 @@ impl Write for Panics {
 
 #[test]
 fn behind_a_panic_of_the_stream_nothing_is_sent_or_heard() {
-    for (due, times) in [(Panic::BeforeWrite, 0), (Panic::BehindWrite, 1), (Panic::BehindRead, 1)] {
+    for (due, times) in [(Panic::BeforeWrite, 0), (Panic::BehindWrite, 1), (Panic::BehindRead, 1), (Panic::PastRead, 1)] {
         let stream = Panics { answers: answering(&[SUCCESS; 8]).unwrap(), written: Vec::new(), due: Cell::default() };
         let mut connection = Connection::open(stream, &login()).unwrap();
         connection.stream().due.set(due);
