@@ -7,15 +7,16 @@ use Rattle.engine.specs.Welcomes.{Welcome}
 use Rattle.server.specs.Serving.{Rest}
 use Rattle.server.specs.Running.{Event, after_events}
 use Rattle.listening.specs.declared.reasons.Reason.{Reason}
-use Rattle.listening.specs.declared.reasons.Reason.TheVariants.{Unbound}
+use Rattle.listening.specs.declared.reasons.Reason.TheVariants.{Unbound, OutputFailed}
 
 -- the line of a port at which connections are taken
 abbrev pub listening_line : ℕ → List ℕ
 listening_line port = codes "listening " ++ decimal port ++ 10 ∷ []
 
--- the port isn't had
+-- the port isn't had, or can't be printed
 abbrev pub IsUnbound : Reason → Type 0
 IsUnbound (Unbound e) = Unit {0}
+IsUnbound OutputFailed = Unit {0}
 IsUnbound _ = ⊥
 
 -- The server stands as some calls leave it, one after the other, of any of its sessions. What holds of every list of calls holds of it.

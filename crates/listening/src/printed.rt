@@ -11,21 +11,26 @@ use hosts::{Journal, Parting};
 use itoa::Buffer;
 use prints::{cause_code, tell};
 use server::Cause;
-use std::cell::Cell;
+use std::io::Eprint;
 use streams::{Sink, write_all};
 
-/// The journal of a server: prints `conn K En` of each connection whose session was given up, its number and the cause of its end. Takes no
-/// memory.
+/// The journal of a server: prints `conn K En` of each connection whose session was given up, its number and the cause of its end. That a line
+/// isn't taken is said on standard error, the first time alone. Takes no memory.
 #[derive(Drop)]
-pub(crate) struct Printed<'a, O> {
+pub(crate) struct Printed<'a, R, O> {
+    rt: &'a R,
     out: &'a mut O,
-    has_failed: &'a Cell<bool>,
+    has_failed: bool,
 }
 
-impl<'a, O: Sink> Printed<'a, O> {
-    /// Prints so, and sets the cell where a line isn't taken.
-    pub(crate) fn new(out: &'a mut O, has_failed: &'a Cell<bool>) -> Printed<'a, O> {
-        Printed { out, has_failed }
+impl<'a, R: Eprint, O: Sink> Printed<'a, R, O> {
+    /// Prints so.
+    pub(crate) fn new(rt: &'a R, out: &'a mut O) -> Printed<'a, R, O> {
+        Printed {
+            rt,
+            out,
+            has_failed: false,
+        }
     }
 }
 
@@ -75,7 +80,7 @@ fn put_end<O: Sink>(conn: u64, cause: Cause, out: &mut O) -> bool
     end_line(out)
 }
 
-impl<'a, O: Sink> Journal for Printed<'a, O> {
+impl<'a, R: Eprint, O: Sink> Journal for Printed<'a, R, O> {
     ghost use Rattle.std.specs.Prelude.{None};
 
     ghost told = { λ _. None };
@@ -85,8 +90,9 @@ impl<'a, O: Sink> Journal for Printed<'a, O> {
         ensures line { Gets (O.has_failed self.old.out.now) (O.has_failed self.new.out.now)
             (O.taken self.old.out.now) (O.taken self.new.out.now) (conn_line conn (cause_of parting)) }
     {
-        if !put_end(conn, cause_of(parting), self.out) {
-            self.has_failed.set(true);
+        if !put_end(conn, cause_of(parting), self.out) && !self.has_failed {
+            self.has_failed = true;
+            let _told = eprintln!(self.rt; "fault I2\nthe server goes on, and prints no more");
         }
     }
 }

@@ -17,7 +17,7 @@ pub enum Reason {
     Unbound(io::Error),
     /// The wait for all connections failed.
     Unwaited(io::Error),
-    /// The output failed.
+    /// The output failed as it was to have the port.
     OutputFailed,
     /// There was no memory to begin.
     Memory,

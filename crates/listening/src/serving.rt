@@ -12,8 +12,8 @@ use hosts::{Limits, Stopped, serve};
 use server::Server;
 use sockets::{Network, Place};
 use std::alloc::{AllocError, Global};
-use std::cell::Cell;
 use std::io;
+use std::io::Eprint;
 use std::net::Net;
 use std::time::Clock;
 use streams::{Sink, write_all};
@@ -40,9 +40,10 @@ fn put_listening<O: Sink>(alloc: Global, port: u16, out: &mut O) -> Result<(), R
 }
 
 /// Serves at this place whoever comes, many at once: prints `listening PORT`, and then `conn K En` as each connection ends, its number and
-/// the cause of its end. It answers why it ends: the port isn't had, the wait for all connections or the output fails, or no memory is there
-/// to begin. Want of memory later, and every failure of a connection, ends that connection alone.
-pub fn serve_at<R: Net + Clock + Drop, E: Engine, G: Gate, O: Sink>(
+/// the cause of its end. It answers why it ends: the port isn't had or can't be printed, the wait for all connections fails, or no memory is there
+/// to begin. Want of memory later, and every failure of a connection, ends that connection alone. If the output fails later, it goes on. That, and
+/// why a connection can't be accepted, it says on standard error, each once.
+pub fn serve_at<R: Net + Clock + Eprint + Drop, E: Engine, G: Gate, O: Sink>(
     rt: &R,
     alloc: Global,
     place: Place<'_>,
@@ -52,11 +53,10 @@ pub fn serve_at<R: Net + Clock + Drop, E: Engine, G: Gate, O: Sink>(
 ) -> Reason
     requires { (rest_of E.entries server.old).sessions ≡ [] }
     ensures reaches { Reaches E.answer G.welcomes (rest_of E.entries server.old) (rest_of E.entries server.new) }
-    // If the port isn't had, nothing is served.
+    // If the port isn't had, or can't be printed, nothing is served.
     ensures unbound { IsUnbound result → rest_of E.entries server.new ≡ rest_of E.entries server.old }
 {
-    let has_failed = Cell::new(false);
-    let mut network = match Network::bind(rt, alloc, place, &has_failed) {
+    let mut network = match Network::bind(rt, alloc, place) {
         Ok(network) => network,
         Err(error) => return unbound(error),
     };
@@ -67,12 +67,12 @@ pub fn serve_at<R: Net + Clock + Drop, E: Engine, G: Gate, O: Sink>(
     if let Err(reason) = put_listening(alloc, port, out) {
         return reason;
     }
-    let mut journal = Printed::new(out, &has_failed);
+    let mut journal = Printed::new(rt, out);
     match serve(alloc, server, &mut network, &mut journal, limits) {
         Stopped::Memory => Reason::Memory,
         Stopped::Failed => match network.error() {
             Some(error) => Reason::Unwaited(*error),
-            None => Reason::OutputFailed,
+            None => Reason::Unwaited(io::Error::other("2^64 rounds were made")),
         },
     }
 }

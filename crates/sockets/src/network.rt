@@ -9,9 +9,8 @@ use mio::event::Event;
 use mio::net::{TcpListener, TcpStream};
 use mio::{Events, Interest, Poll, Token};
 use std::alloc::Global;
-use std::cell::Cell;
 use std::io;
-use std::io::ErrorKind;
+use std::io::{Eprint, ErrorKind};
 use std::net::{Net, Shutdown, SocketAddr, ToSocketAddrs};
 use std::time::{Clock, Duration, Instant};
 
@@ -44,11 +43,10 @@ struct Peer {
     is_finished: bool,
 }
 
-/// A listener, its connections, and what is ready of them. It waits no longer once its output is told to have failed.
+/// A listener, its connections, and what is ready of them.
 #[derive(Drop)]
 pub struct Network<'a, R: Drop> {
     rt: &'a R,
-    has_failed: &'a Cell<bool>,
     poll: Poll,
     events: Events<Global>,
     /// How many of the events were handed out.
@@ -60,6 +58,8 @@ pub struct Network<'a, R: Drop> {
     most: Option<usize>,
     /// Whether somebody may wait who wasn't greeted since there were so many.
     waits: bool,
+    /// Whether it was said that somebody waits who can't be taken.
+    has_told: bool,
     start: Instant,
     /// Why the wait failed.
     error: Option<io::Error>,
@@ -77,16 +77,11 @@ fn listen<R: Net>(rt: &R, host: &str, port: u16) -> io::Result<TcpListener> {
     Err(last)
 }
 
-impl<'a, R: Net + Clock + Drop> Network<'a, R> {
+impl<'a, R: Net + Clock + Eprint + Drop> Network<'a, R> {
     ghost use Rattle.std.specs.Prelude.{◌≡◌, [], IfOk, option_copied};
 
-    /// Listens at this place. It waits no longer once the cell is set.
-    pub fn bind(
-        rt: &'a R,
-        alloc: Global,
-        place: Place<'_>,
-        has_failed: &'a Cell<bool>,
-    ) -> io::Result<Network<'a, R>>
+    /// Listens at this place.
+    pub fn bind(rt: &'a R, alloc: Global, place: Place<'_>) -> io::Result<Network<'a, R>>
         ensures peers { IfOk result (λ network. network.peers.items ≡ []) }
         ensures most { IfOk result (λ network. network.most ≡ place.entry.most) }
     {
@@ -96,7 +91,6 @@ impl<'a, R: Net + Clock + Drop> Network<'a, R> {
             .register(&mut listener, LISTENER, Interest::READABLE)?;
         Ok(Network {
             rt,
-            has_failed,
             poll,
             events: Events::with_capacity(alloc, MAX_EVENTS)?,
             seen: 0,
@@ -105,6 +99,7 @@ impl<'a, R: Net + Clock + Drop> Network<'a, R> {
             peers: Vec::new(alloc),
             most: place.most,
             waits: false,
+            has_told: false,
             start: Instant::now(rt)?,
             error: None,
         })
@@ -136,6 +131,15 @@ impl<'a, R: Net + Clock + Drop> Network<'a, R> {
         self.waits && !self.is_full()
     }
 
+    /// Says on standard error why somebody waits who can't be taken, the first time alone: nobody is answered meanwhile, and it is tried again
+    /// and again.
+    fn tell(&mut self, error: io::Error) {
+        if !self.has_told {
+            self.has_told = true;
+            let _told = eprintln!(self.rt; "a connection waits: {error}");
+        }
+    }
+
     /// The next who waits, past those who are gone.
     fn accept(&mut self) -> Greeting {
         for _ in 0..MAX_GONE {
@@ -147,7 +151,10 @@ impl<'a, R: Net + Clock + Drop> Network<'a, R> {
                 Err(error) => match refusal_of(error.kind()) {
                     Refusal::Nobody => return Greeting::Nobody,
                     Refusal::Next => {}
-                    Refusal::Later => return Greeting::Later,
+                    Refusal::Later => {
+                        self.tell(error);
+                        return Greeting::Later;
+                    }
                 },
             }
         }
@@ -173,7 +180,7 @@ fn readiness_of(event: &Event) -> Readiness {
     }
 }
 
-impl<'a, R: Net + Clock + Drop> Peers for Network<'a, R> {
+impl<'a, R: Net + Clock + Eprint + Drop> Peers for Network<'a, R> {
     ghost use Rattle.std.specs.Prelude.{None};
 
     // What sockets give and take isn't known.
@@ -181,9 +188,6 @@ impl<'a, R: Net + Clock + Drop> Peers for Network<'a, R> {
 
     fn wait(&mut self, most: u64) -> Result<(), Failed> {
         self.seen = 0;
-        if self.has_failed.get() {
-            return Err(Failed);
-        }
         let most = if self.is_to_greet() { 0 } else { most };
         match self
             .poll
