@@ -66,16 +66,17 @@ ATTEMPTS = [
 ]
 # Tokens of which no request can have been sent.
 TOKENS = [("of no byte", ""), ("of 65 bytes", "t" * 65)]
-# What a query is told, of which HELLO and LOGON are asked, and then RUN and PULL; the lines that are printed, and the error.
+# What a query is told behind a transaction that stands, of which HELLO and LOGON are asked, and then RUN and PULL; the lines that are printed, and what fails.
 IN = (V51, told(DONE, DONE))
 QUERIES = [
-    ("that is refused", (*IN, told(failure(REFUSED, "no such text"), IGNORED)), [], f"Error: {REFUSED}: no such text"),
-    ("whose login is refused", V51 + told(DONE, failure("Neo.ClientError.Security.Unauthorized", "who")), [], "Error: Neo.ClientError.Security.Unauthorized: who"),
+    ("that is refused", (*IN, told(failure(REFUSED, "no such text"), IGNORED)), [], f"{REFUSED}: no such text"),
+    ("that is refused by lines", (*IN, told(failure(REFUSED, "no\nAbsent"), IGNORED)), [], f"{REFUSED}: no\\nAbsent"),
+    ("whose login is refused", V51 + told(DONE, failure("Neo.ClientError.Security.Unauthorized", "who")), [], "Neo.ClientError.Security.Unauthorized: who"),
     ("of 999 rows", (*IN, told(DONE, *[ROW] * 999, DONE)), ["row [Int(1)]"] * 999, ""),
-    ("of 1,000 rows, as many as are kept", (*IN, told(DONE, *[ROW] * 1000, DONE)), [], "Error: broken off"),
-    ("with a row before its columns", (*IN, told(ROW, DONE)), [], "Error: broken off"),
-    ("without an answer", IN, [], "Error: broken off"),
-    ("with half an answer", (*IN, told(DONE, ROW)), [], "Error: broken off"),
+    ("of 1,000 rows, as many as are kept", (*IN, told(DONE, *[ROW] * 1000, DONE)), [], "broken off"),
+    ("with a row before its columns", (*IN, told(ROW, DONE)), [], "broken off"),
+    ("without an answer", IN, [], "broken off"),
+    ("with half an answer", (*IN, told(DONE, ROW)), [], "broken off"),
 ]
 
 
@@ -116,7 +117,7 @@ def fault(words):
     """What isn't said as it should be, or None."""
     for what, answers, tries, fate in ATTEMPTS:
         said, error, status, _ = queried(words, answers, "t", tries)
-        if said[:1] != [fate] or (status != 0) != bool(error) or fate != "Stands" and status != 1:
+        if said[:1] != [fate] or (status != 0) != bool(error) or status not in ((0, 3) if fate == "Stands" else (1,)):
             return f"a server that {what}: {said[:2]}, {error}, {status}"
     for what, token in TOKENS:
         said, _, _, asked = queried(words, [STANDS], token, 2)
@@ -124,7 +125,7 @@ def fault(words):
             return f"a token {what}: {said[:1]}, {asked}"
     for what, answer, rows, error in QUERIES:
         said = queried(words, [STANDS, answer], "t", 1)[:3]
-        if said != (["Stands", *rows], error, int(bool(error))):
+        if said != (["Stands", *rows], *((f"Error: Stands, and then: {error}", 3) if error else ("", 0))):
             return f"a query {what}: {said[0][:2]}, {said[1:]}"
     return None
 

@@ -5,6 +5,7 @@ use client::{Client, ClientFault, Heard, Outcome};
 use messages::{Auth, Count, Mode, Request};
 use std::alloc::{AllocError, Global};
 use std::io;
+use std::io::Print;
 use std::net::TcpStream;
 use streams::Over;
 use structures::Cell;
@@ -102,21 +103,21 @@ fn is_committed(told: &Told) -> bool {
 }
 
 /// Prints each row, and what came of each request.
-fn print(rt: &HostRuntime, told: &Told) -> io::Result<()> {
+fn print<P: Print>(out: &P, told: &Told) -> io::Result<()> {
     for heard in &told.heard {
         match heard {
-            Heard::Row(cells) => println!(rt; "row {cells:?}")?,
+            Heard::Row(cells) => println!(out; "row {cells:?}")?,
             Heard::Summary {
                 ordinal,
                 outcome,
                 response,
                 ..
-            } => println!(rt; "{ordinal}: {outcome:?}, {response:?}")?,
+            } => println!(out; "{ordinal}: {outcome:?}, {response:?}")?,
             _ => {}
         }
     }
     for (ordinal, outcome) in told.losses.as_slice() {
-        println!(rt; "{ordinal}: {outcome:?}, the connection was lost")?;
+        println!(out; "{ordinal}: {outcome:?}, the connection was lost")?;
     }
     Ok(())
 }
@@ -159,35 +160,55 @@ impl From<io::Error> for Stopped {
     }
 }
 
-/// Asks over a connection and prints what came of it. What it answers is why the transaction isn't known to be committed, if it isn't.
-fn ask(rt: &HostRuntime, stream: &TcpStream) -> Result<Option<String>, Stopped> {
+/// How the driver ends that has asked.
+enum Ended {
+    /// The transaction is committed. Why standard output didn't take that, if it didn't.
+    Committed(Option<io::Error>),
+    /// It isn't known to be committed, for this reason.
+    Unknown(String),
+}
+
+/// Asks over a connection and prints what came of it, on standard error if standard output doesn't take it.
+fn ask(rt: &HostRuntime, stream: &TcpStream) -> Result<Ended, Stopped> {
     let alloc = rt.alloc();
     let (mut source, mut sink) = (Over::new(stream), Over::new(stream));
     let mut client = Client::new(alloc, Wish::Only(Version::V51))?;
     // The version has to be heard before the first request is submitted.
     let told = ask_all(alloc, &mut client, &mut source, &mut sink);
     if let Some(why) = broken(alloc, &told, &source, &sink)? {
-        return Ok(Some(why));
+        return Ok(Ended::Unknown(why));
     }
     if let Some(why) = submit(alloc, &mut client, asked(alloc)?)? {
-        return Ok(Some(why));
+        return Ok(Ended::Unknown(why));
     }
     let told = ask_all(alloc, &mut client, &mut source, &mut sink);
-    print(rt, &told)?;
+    let printed = print(&rt.stdout(), &told);
+    if printed.is_err() {
+        let _told = print(&rt.stderr(), &told);
+    }
     if is_committed(&told) {
-        return Ok(None);
+        return Ok(Ended::Committed(printed.err()));
     }
     match broken(alloc, &told, &source, &sink)? {
-        Some(why) => Ok(Some(why)),
-        None => Ok(Some(String::from_str(alloc, "not known to be committed")?)),
+        Some(why) => Ok(Ended::Unknown(why)),
+        None => Ok(Ended::Unknown(String::from_str(alloc, "not known to be committed")?)),
     }
 }
 
-/// Drives a client over a connection to a port of this machine.
-pub(crate) fn drive(rt: &HostRuntime, port: u16) -> io::Result<Option<String>> {
+/// Drives a client over a connection to a port of this machine. It answers the exit status: 0 if the transaction is committed, 3 if it is and
+/// standard output didn't take that, else 1.
+pub(crate) fn drive(rt: &HostRuntime, port: u16) -> io::Result<u8> {
     let stream = TcpStream::connect(rt, ("127.0.0.1", port))?;
     match ask(rt, &stream) {
-        Ok(why) => Ok(why),
+        Ok(Ended::Committed(None)) => Ok(0),
+        Ok(Ended::Committed(Some(error))) => {
+            let _told = eprintln!(rt; "Error: {error}");
+            Ok(3)
+        }
+        Ok(Ended::Unknown(why)) => {
+            let _told = eprintln!(rt; "Error: {why}");
+            Ok(1)
+        }
         Err(Stopped::Memory) => Err(io::Error::from(AllocError)),
         Err(Stopped::Io(error)) => Err(error),
     }

@@ -13,6 +13,7 @@ mod serving;
 mod tracked;
 mod values;
 
+use prints::fill_closed;
 use std::io;
 use std::process::ExitCode;
 
@@ -21,8 +22,16 @@ fn port_of(word: Option<&String>) -> Option<u16> {
     word?.parse::<u16>().ok()
 }
 
-/// Runs the program that these words name. What it answers is why it failed, if it did for a reason of its own.
-fn run(rt: &HostRuntime, words: &[String]) -> io::Result<Option<String>> {
+/// Says how the programs are used. It answers the exit status of words that name none.
+fn refuse(rt: &HostRuntime) -> u8 {
+    let _told = eprintln!(rt;
+        "usage: examples query PORT TOKEN TRIES PUTS, examples driver PORT, examples server PORT or examples engine"
+    );
+    2
+}
+
+/// Runs the program that these words name. It answers the exit status.
+fn run(rt: &HostRuntime, words: &[String]) -> io::Result<u8> {
     let name = match words.get(1) {
         Some(word) => word.as_str(),
         None => "",
@@ -34,30 +43,31 @@ fn run(rt: &HostRuntime, words: &[String]) -> io::Result<Option<String>> {
                 && let Some(tries) = tries.parse::<u32>().ok()
                 && let Some(puts) = puts.parse::<u32>().ok()
             {
-                return querying::run(rt, port, token, tries, puts);
+                return Ok(querying::run(rt, port, token, tries, puts));
             }
-            println!(rt; "usage: examples query PORT TOKEN TRIES PUTS")?
+            return Ok(refuse(rt));
         }
         ("server", Some(port)) => serving::serve(rt, port)?,
         ("engine", None) => noting::note_all(rt)?,
-        _ => println!(rt;
-            "usage: examples query PORT TOKEN TRIES PUTS, examples driver PORT, examples server PORT or examples engine"
-        )?,
+        _ => return Ok(refuse(rt)),
     }
-    Ok(None)
+    Ok(0)
 }
 
-/// Runs the program that the words of the command line name.
-fn run_words(rt: &HostRuntime) -> io::Result<Option<String>> {
+/// Runs the program that the words of the command line name. It answers the exit status.
+fn run_words(rt: &HostRuntime) -> io::Result<u8> {
     let words: Vec<String> = std::env::args(rt)?.collect(rt.alloc())?;
     run(rt, words.as_slice())
 }
 
 fn main(rt: HostRuntime) -> ExitCode {
-    let _told = match run_words(&rt) {
-        Ok(None) => return ExitCode::SUCCESS,
-        Ok(Some(why)) => eprintln!(rt; "Error: {why}"),
-        Err(error) => eprintln!(rt; "Error: {error}"),
-    };
-    ExitCode::FAILURE
+    // Before anything else is opened, and kept until the end: what is printed never goes to a socket.
+    let _closed = fill_closed(&rt);
+    match run_words(&rt) {
+        Ok(status) => ExitCode::from(status),
+        Err(error) => {
+            let _told = eprintln!(rt; "Error: {error}");
+            ExitCode::FAILURE
+        }
+    }
 }

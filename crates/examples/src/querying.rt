@@ -5,6 +5,7 @@ use client::ClientFault;
 use connects::{Asked, Connection, Connects, Fault, Query, text_cell, until_known};
 use driver::{Fate, Rows};
 use messages::{Auth, Count, Mode};
+use prints::escape;
 use std::alloc::{AllocError, Global};
 use std::io;
 use std::net::TcpStream;
@@ -14,6 +15,7 @@ use structures::Cell;
 use wire::Wish;
 
 /// Why the program ends before it knows.
+#[derive(Drop)]
 enum Stopped {
     Memory,
     Io(io::Error),
@@ -106,16 +108,19 @@ fn asked(alloc: Global, token: &str, puts: u32) -> Result<Asked, AllocError> {
     })
 }
 
-/// Puts a value so many times under a token, and gets it. The answer is what is known of the transaction.
+/// Puts a value so many times under a token, and gets it. The answer is what is known of the transaction; `known` has it too, whatever fails
+/// behind it.
 fn put_and_get(
     rt: &HostRuntime,
     port: &mut Port<'_>,
     token: &str,
     tries: u32,
     puts: u32,
+    known: &mut Option<Fate>,
 ) -> Result<Fate, Stopped> {
     let alloc = rt.alloc();
     let fate = until_known(alloc, &asked(alloc, token, puts)?, port, tries);
+    *known = Some(fate);
     println!(rt; "{fate:?}")?;
 
     let Some((source, sink)) = port.connect() else {
@@ -131,21 +136,44 @@ fn put_and_get(
     Ok(fate)
 }
 
-/// Puts a value and gets it, at a port. What it answers is why the transaction isn't known to stand, if it isn't.
-pub(crate) fn run(
-    rt: &HostRuntime,
-    port: u16,
-    token: &str,
-    tries: u32,
-    puts: u32,
-) -> io::Result<Option<String>> {
-    let silence = Duration::from_secs(10);
-    let why = match put_and_get(rt, &mut Port { rt, port, silence }, token, tries, puts) {
-        Ok(Fate::Stands) => return Ok(None),
-        Ok(_) => "not known to be committed",
-        Err(Stopped::Memory) => return Err(io::Error::from(AllocError)),
-        Err(Stopped::Io(error)) => return Err(error),
-        Err(Stopped::Fault(fault)) => return Ok(Some(format!(in rt.alloc(); "{fault}")?)),
+/// Why the program ends before it knows all, or want of memory. What a server says in a refusal is escaped.
+fn why(alloc: Global, stopped: &Stopped) -> Result<String, AllocError> {
+    let text = match stopped {
+        Stopped::Memory => return Err(AllocError),
+        Stopped::Io(error) => format!(in alloc; "{error}")?,
+        Stopped::Fault(fault) => format!(in alloc; "{fault}")?,
     };
-    Ok(Some(String::from_str(rt.alloc(), why)?))
+    escape(alloc, text.as_str())
+}
+
+/// Says on standard error what is known of the transaction, if anything is, and what failed then.
+fn tell(rt: &HostRuntime, known: Option<Fate>, stopped: &Stopped) {
+    let why = why(rt.alloc(), stopped);
+    let why = match &why {
+        Ok(why) => why.as_str(),
+        Err(_) => "out of memory",
+    };
+    let _told = match known {
+        Some(fate) => eprintln!(rt; "Error: {fate:?}, and then: {why}"),
+        None => eprintln!(rt; "Error: {why}"),
+    };
+}
+
+/// Puts a value and gets it, at a port. It answers the exit status: 0 if the transaction stands and all is printed, 3 if it stands and something
+/// failed behind it, 1 if it isn't known to stand. What isn't 0 is told on standard error, with what is known of the transaction.
+pub(crate) fn run(rt: &HostRuntime, port: u16, token: &str, tries: u32, puts: u32) -> u8 {
+    let silence = Duration::from_secs(10);
+    let mut known = None;
+    let mut port = Port { rt, port, silence };
+    match put_and_get(rt, &mut port, token, tries, puts, &mut known) {
+        Ok(Fate::Stands) => return 0,
+        Ok(_) => {
+            let _told = eprintln!(rt; "Error: not known to be committed");
+        }
+        Err(stopped) => tell(rt, known, &stopped),
+    }
+    match known {
+        Some(Fate::Stands) => 3,
+        _ => 1,
+    }
 }
