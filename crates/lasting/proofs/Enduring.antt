@@ -1,11 +1,10 @@
 -- What an engine shows of its ledger, and what the database keeps of it, before and after a call.
-use Rattle.std.proofs.Common.{◌≡◌, inl, inr, refl, sym, ap, subst, ◌∙◌, ℕ, ◌+◌, Bool, true, false, if◌then◌else◌, List, [], ◌∷◌, ◌++◌, length, take, length-append, arith}
+use Rattle.std.proofs.Common.{◌≡◌, inl, inr, sym, ap, subst, ◌∙◌, ℕ, ◌+◌, Bool, true, false, if◌then◌else◌, List, [], ◌∷◌, ◌++◌, length, take, length-append, arith}
 use Rattle.engine.specs.Tokens.{Found, Free, added_by}
 use Rattle.engine.specs.Views.{EntryView}
 use Rattle.lasting.specs.Ledger.{HasLedger, HoldsLedger, Lasts, LeavesEither, LeavesLedger}
 use Rattle.lasting.proofs.Front.{take_front, take_whole}
-use Rattle.sqlite.specs.State.{State, Survives}
-use Rattle.sqlite.specs.Tree.{Trees}
+use Rattle.sqlite.specs.State.{State}
 
 -- an engine that shows all its entries leaves them
 pub leaves_all : (s : State) (all : List EntryView) (n : ℕ) → length all ≡ n → LeavesEither s (take n all) all → LeavesLedger s (take n all)

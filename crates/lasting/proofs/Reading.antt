@@ -1,14 +1,9 @@
 -- Rows that are shown, and one more.
-use Rattle.std.proofs.Common.{◌≡◌, ◌≢◌, ◌<◌, refl, sym, ap, subst, ◌∙◌, ℕ, suc, ◌+◌, Option, Some, None, List, [], ◌∷◌, ◌++◌, length, take, get_or, MatchOption, String, Global, string_bytes, arith}
+use Rattle.std.proofs.Common.{◌≡◌, ◌<◌, refl, sym, ap, subst, ◌∙◌, ℕ, suc, ◌+◌, List, [], ◌∷◌, ◌++◌, length, take, get_or, arith}
 use Rattle.std.proofs.lemmas.List.{length-take-le, take_more}
-use Rattle.engine.specs.Tokens.{Found, Free, There, Other, commit_by}
-use Rattle.engine.specs.Views.{EntryView, token_view}
-use Rattle.engine.specs.declared.ledger.Commit.TheVariants.{Added}
+use Rattle.engine.specs.Views.{EntryView}
 use Rattle.lasting.specs.Shown.{AreShownAs, IsShownAs, TakesRow}
 use Rattle.sqlite.specs.Order.{Row}
-use Rattle.sqlite.specs.Values.{or_null}
-use Rattle.sqlite_value.specs.declared.value.Value.{Value}
-use Rattle.sqlite_value.specs.declared.value.Value.TheVariants.{Null, Text}
 
 -- a row more
 pub shown_more : (n m : ℕ) (old new : List EntryView) (rows : List Row) (row : Row) → m ≡ n + length old → AreShownAs n old rows → TakesRow m row old new → AreShownAs n new (rows ++ row ∷ [])
