@@ -1,44 +1,130 @@
 -- What two ends have come to, and how far they have where a fault breaks them off.
-use Rattle.std.proofs.Common.{◌≡◌, refl, sym, ap, subst, ◌∙◌, ℕ, ◌+◌, ◌<◌, Bool, true, false, List, [], ◌++◌, length, take, append_assoc, length-append, arith}
-use Rattle.std.proofs.Common.{Option, Some, None, Ok, inl, inr, IsSome, ◌∷◌, drop, append-nil, take-append-drop, ◌⊎◌, Result, Err, MatchResult, OnOk, OnErr}
-use Rattle.std.proofs.Common.{IsErrOf, ⊎_elim, fold, ◌≤◌, take_all}
-use Rattle.std.proofs.lemmas.List.{append_cancel_left, take-append-le}
-use Rattle.std.specs.Io.KnownBytes.{Appends, Consumes}
-use Rattle.std.proofs.KnownBytes.{Appends-nil, Appends-trans, Consumes-nil, Consumes-trans}
-use Rattle.std.proofs.Math.Seq.{take-append_seam, drop-append_seam, drop-length, take-nil}
-use Rattle.std.proofs.lemmas.List.Sums.{fold-append}
-use Rattle.std.proofs.lemmas.Bool.{cases_lt}
-use Rattle.wire.specs.Prelude.{Opened, at_server, state, Item, items_received, outputs}
-use Rattle.wire.proofs.Readers.{outputs-append}
-use Rattle.messages.specs.View.{RequestView}
-use Rattle.engine.specs.Prelude.{EntryView}
-use Rattle.session.specs.Prelude.{Setting, begun}
-use Rattle.server.specs.Prelude.{Live, Rest, find, fresh, opened}
-use Rattle.client.specs.declared.SubmitFault.{SubmitFault}
-use Rattle.client.specs.Prelude.{Rest as ClientRest, refuses, rest_of, taken_out}
-use Rattle.streams.specs.declared.fault.StreamFault.{StreamFault}
-use Rattle.streams.specs.Prelude.{AppendsFront}
-use Rattle.streams.specs.declared.fault.StreamFault.TheVariants.{ReadFailed, WriteFailed}
-use Rattle.streams.proofs.Fronts.{front_after}
-use Rattle.asks.proofs.Asked.{all_taken}
-use Rattle.serves.specs.declared.liveness.Liveness.{Liveness}
-use Rattle.serves.specs.declared.liveness.Liveness.TheVariants.{Open, Over}
-use Rattle.serves.specs.Prelude.{Grows, Talk, with_talk, TakesPiece, told_by, item_talk}
-use Rattle.serves.proofs.Talks.{talk_by_items, told_over, item_talk-append}
-use Rattle.serves.proofs.Called.{lives_same, replace-itself, still_found}
-use Rattle.scripts.specs.Prelude.{ScriptRequestView}
-use Rattle.prints.specs.Prelude.{entries_text}
-use Rattle.prints.proofs.Stops.{cause_of}
-use Rattle.one_by_one.specs.Prelude.{HasOpened}
-use Rattle.one_by_one.proofs.Served.{found_by}
-use Rattle.shells.specs.declared.caller.Caller.{Caller}
-use Rattle.shells.specs.Prelude.{IsAt, Submits, first_place, Place, place_after, text_of}
-use Rattle.shells.proofs.Printed.{place_more}
-use Rattle.loops.specs.declared.loops.Pair.{Pair}
-use Rattle.loops.specs.Prelude.{BreaksAtSource, Comes, IsOn, IsOpened, LetsReadWaiting, Passes, Sits, with_item, StandsAt, Way, Ways, Turns, all_sent, asked}
-use Rattle.loops.specs.Prelude.{given, place_by, talk_for, text_by, with_line, AreQuiet, Breaks, BreaksAt, BreaksIn, EndsAt, Goes, IsHeardAll, ReadsUpTo}
-use Rattle.loops.specs.Prelude.{answer_to, due, end, exchanged, next_turn, no_turns, stage, turns_of, IsQuiet}
-use Rattle.loops.proofs.Heard.{front_in, reads_past, text_more}
+pub use Rattle.std.proofs.Common.{Bool, Err, IsErrOf, IsSome, List, MatchResult, None, Ok, OnErr, OnOk, Option, Result, Some, [], ap, append-nil, append_assoc}
+pub use Rattle.std.proofs.Common.{arith, bytes_eq, drop, false, fold, inl, inr, is_ok, length, length-append, length-take, map, not, refl, rules, subst, sym}
+pub use Rattle.std.proofs.Common.{take, take-append-drop, take_all, take_at, true, true≢false, ℕ, ⊎_elim, ◌++◌, ◌+◌, ◌-◌, ◌<◌, ◌∙◌, ◌∷◌, ◌≡◌, ◌≤◌, ◌⊎◌}
+pub use Rattle.std.proofs.KnownBytes.{Appends-nil, Appends-trans, Consumes-nil, Consumes-trans}
+pub use Rattle.std.proofs.Math.Seq.{drop-append_seam, drop-length, take-append-add, take-append_seam, take-nil}
+pub use Rattle.std.proofs.lemmas.Bool.{cases_Bool, cases_lt, false_from_ne_true, not-false, not-true}
+pub use Rattle.std.proofs.lemmas.List.{append_cancel_left, length-take-le, nil_from_length, take-append-le}
+pub use Rattle.std.proofs.lemmas.List.Sums.{fold-append}
+pub use Rattle.std.specs.Io.KnownBytes.{Appends, Consumes}
+pub use borrow.Rule.Slice.PartMut.{post_of, put_mid}
+pub use Rattle.wire.proofs.Readers.{outputs-append}
+pub use Rattle.wire.specs.Prelude.{Item, Opened, at_client, at_server, items_received, outputs, state}
+pub use Rattle.wire.specs.declared.Version.{Version}
+pub use Rattle.cells.proofs.Equality.{bytes_are, bytes_is}
+pub use Rattle.messages.specs.View.{RequestView}
+pub use Rattle.engine.specs.Prelude.{EntryView, entries_view}
+pub use Rattle.session.specs.Prelude.{Setting, begun}
+pub use Rattle.server.specs.Prelude.{Fits, Live, Rest, find, fresh, opened, setting}
+pub use Rattle.client.specs.Prelude.{Note, Rest as ClientRest, awaits, note, refuses, rest_of, taken_out}
+pub use Rattle.client.specs.declared.SubmitFault.{SubmitFault}
+pub use Rattle.client.specs.declared.heard.Heard.{Heard}
+pub use Rattle.streams.proofs.Fronts.{front_after, front_whole}
+pub use Rattle.streams.proofs.Parts.{all_done, empty_nil}
+pub use Rattle.streams.specs.Limits.{max_piece}
+pub use Rattle.streams.specs.Prelude.{AppendsFront}
+pub use Rattle.streams.specs.declared.fault.StreamFault.{StreamFault}
+pub use Rattle.streams.specs.declared.fault.StreamFault.TheVariants.{Memory, ReadFailed, WriteFailed}
+pub use Rattle.asks.proofs.Asked.{all_taken}
+pub use Rattle.asks.proofs.Tales.{hears_all-append, over_tale}
+pub use Rattle.asks.specs.Prelude.{FeedsPiece, Tale, after_all, after_notes, hears_all}
+pub use Rattle.serves.proofs.Called.{grows_by, lives_same, replace-itself}
+pub use Rattle.serves.proofs.Talks.{item_talk-append, talk_by_items, told_over}
+pub use Rattle.serves.specs.Prelude.{Grows, IsLive, TakesPiece, Talk, item_talk, told_by, with_talk}
+pub use Rattle.serves.specs.declared.liveness.Liveness.{Liveness}
+pub use Rattle.serves.specs.declared.liveness.Liveness.TheVariants.{Open, Over}
+pub use Rattle.scripts.specs.Prelude.{ScriptRequestView, filled_lines, lines_read, request_line_of, said_requests, script_request_view}
+pub use Rattle.prints.proofs.Stops.{cause_of}
+pub use Rattle.prints.specs.Prelude.{Gets, PutsLine, entries_text, note_text, stop_status, stop_text}
+pub use Rattle.prints.specs.declared.stop.StopReason.{StopReason}
+pub use Rattle.prints.specs.declared.stop.StopReason.TheVariants.{Broken, Unreadable}
+pub use Rattle.one_by_one.proofs.Served.{found_by}
+pub use Rattle.one_by_one.specs.Prelude.{HasOpened}
+pub use Rattle.shells.proofs.Printed.{place_more, texts_more}
+pub use Rattle.shells.specs.Prelude.{IsAt, Place, Submits, first_place, notes_text, place_after, text_of, version_after, versions_after}
+pub use Rattle.shells.specs.declared.caller.Caller.{Caller}
+pub use Rattle.loops.specs.Prelude.{AreQuiet, Breaks, BreaksAt, BreaksAtSource, BreaksIn, Comes, EndsAt, Goes, HasHeard, HearsFront, HearsUpTo, IsHeardAll}
+pub use Rattle.loops.specs.Prelude.{IsOpened, IsQuiet, LetsReadWaiting, Meets, Numbers, Outset, Passes, ReadsUpTo, Sits, StandsAt, TellsLine, Turns, Way, Ways}
+pub use Rattle.loops.specs.Prelude.{all_sent, answer_to, asked, due, end, exchanged, given, next_turn, no_turns, outset, place_by, stage, talk_for, text_by}
+pub use Rattle.loops.specs.Prelude.{turns_of, with_item, with_line}
+pub use Rattle.loops.specs.declared.loops.Pair.{Pair}
+
+pub ruleset parts = (take-append-drop, length-take)
+
+-- nothing is heard after the end
+was_open : (r : ClientRest) (bytes : List ℕ) → (hears_all r bytes).knows.over ≡ false → r.knows.over ≡ false
+was_open r bytes e =
+    let same = λ (o : r.knows.over ≡ true). ap (λ (t : Tale). t.knows.over) (over_tale r.wish r.knows (outputs at_client r.item bytes) o) in
+    false_from_ne_true r.knows.over (λ o. true≢false (sym (same o ∙ o) ∙ e))
+
+over_heard : (r : ClientRest) (fed unheard : List ℕ) → (hears_all r fed).knows.over ≡ true → hears_all r (fed ++ unheard) ≡ hears_all r fed
+over_heard r fed unheard over =
+    let t = hears_all r fed in
+    hears_all-append r fed unheard
+    ∙ ap (after_notes t.notes) (over_tale r.wish t.knows (outputs at_client (state at_client r.item fed) unheard) over)
+    ∙ ap (λ z. record { knows = t.knows; notes = z }) (append-nil t.notes)
+
+module _ {b : Caller} {p : Place} (s : StandsAt b p) where
+  abbrev here : ClientRest
+  here = (with_item p s.item).rest
+
+  -- so it doesn't matter then which item isn't whole
+  hears_alike : (bytes : List ℕ) → hears_all here bytes ≡ hears_all p.rest bytes
+  hears_alike bytes =
+      let ended = λ (i : Opened) (o : p.rest.knows.over ≡ true). over_tale p.rest.wish p.rest.knows (outputs at_client i bytes) o in
+      ⊎_elim (λ o. ended s.item o ∙ sym (ended p.rest.item o)) (λ o. ap (λ (z : Opened). hears_all (with_item p z).rest bytes) (s.same o))
+      (cases_Bool p.rest.knows.over)
+
+  module _ {piece : List ℕ} {notes : List Note} {whole : Bool} {Now : ClientRest → Type 0} (h : FeedsPiece here piece [] notes whole Now) where
+    -- what is heard of some of a piece
+    pub heard_front : (x y : Option (List ℕ)) → AppendsFront x y (notes_text b.version notes) → HearsFront [] p piece x y
+    heard_front x y k =
+        let told = ap (λ (v : Version). notes_text v notes) s.at.version
+        ∙ ap (notes_text p.version) (h.told ∙ ap (λ (t : Tale). t.notes) (hears_alike h.fed)) in
+        record { heard = h.fed; rest = h.unheard; parts = sym h.parts; prints = subst (AppendsFront x y) told k }
+
+    -- a piece that was fed whole, or up to the client's end, was heard as the whole piece is
+    heard_whole : (h.unheard ≡ []) ⊎ ((hears_all here h.fed).knows.over ≡ true) → (hears_all here h.fed ≡ hears_all p.rest piece)
+        × ((hears_all p.rest piece).knows.over ≡ false → state at_client s.item h.fed ≡ state at_client p.rest.item piece)
+    heard_whole (inl none) =
+        let same = sym (h.parts ∙ ap (λ z. h.fed ++ z) none ∙ append-nil h.fed) in (
+          hears_alike h.fed ∙ ap (hears_all p.rest) same,
+          λ e. ap (λ (z : Opened). state at_client z h.fed) (s.same (was_open p.rest piece e)) ∙ ap (state at_client p.rest.item) same,
+        )
+    heard_whole (inr over) =
+        let tale = sym (over_heard here h.fed h.unheard over) ∙ ap (hears_all here) (sym h.parts) ∙ hears_alike piece in
+        (tale, λ e. absurd (true≢false (sym over ∙ ap (λ (t : Tale). t.knows.over) tale ∙ e)))
+
+  -- as far as it was fed
+  pub heard_as_fed : {piece : List ℕ} {notes : List Note} {Now : ClientRest → Type 0} (c : Caller) (x y : Option (List ℕ)) (fed : Result (Unit {0}) StreamFault)
+      → FeedsPiece here piece [] notes (is_ok fed) Now → ((q : ClientRest) → Now q → rest_of c.client ≡ q) → c.version ≡ versions_after b.version notes
+      → Appends x y (notes_text b.version notes) → MatchResult fed (λ _. IsHeardAll p piece c x y) (λ _. HearsFront [] p piece x y)
+  heard_as_fed {notes = notes} c x y (Ok done) h fits v k =
+      let w = heard_whole h (h.ends refl) in
+      let told = h.told ∙ ap (λ (t : Tale). t.notes) w.0 in
+      let item = state at_client s.item h.fed in
+      let rest = fits _ h.now ∙ ap (λ (t : Tale). record here { knows = t.knows; item = item }) w.0 in
+      let version = v ∙ ap (λ (u : Version). versions_after u notes) s.at.version ∙ ap (versions_after p.version) told in
+      let printed = subst (Appends x y) (ap (λ (u : Version). notes_text u notes) s.at.version ∙ ap (notes_text p.version) told) k in
+      record { stands = record { item = item; at = record { fits = rest; version = version }; same = w.1 }; printed = printed }
+  heard_as_fed c x y (Err fault) h fits v k = heard_front h x y (front_whole x y _ k)
+
+-- one piece after another
+pub text_more : (p : Place) (a b : List ℕ) → text_of p (a ++ b) ≡ text_of p a ++ text_of (place_after p a) b
+text_more p a b =
+    ap (λ (t : Tale). notes_text p.version t.notes) (hears_all-append p.rest a b)
+    ∙ texts_more note_text p.version (hears_all p.rest a).notes (hears_all (after_all p.rest a) b).notes
+
+-- a beginning of a text begins what has more behind it
+pub front_in : (a b : Option (List ℕ)) (xs ys : List ℕ) → AppendsFront a b xs → AppendsFront a b (xs ++ ys)
+front_in a b xs ys h = (h.0, h.1 ++ ys, sym (append_assoc h.0 h.1 ys) ∙ ap (λ z. z ++ ys) h.2, h.3)
+
+-- of a line that isn't put out whole a beginning is
+pub line_front : (line : List ℕ) (a b : Option (List ℕ)) (fault : StreamFault) → PutsLine line a b (Err fault) → AppendsFront a b line
+line_front line a b Memory e = ([], line, refl, subst (λ (z : Option (List ℕ)). Appends a z []) (sym e) (Appends-nil a))
+line_front line a b WriteFailed h = h
+line_front line a b ReadFailed h = absurd h
 
 -- ---- the streams between them
 
@@ -66,17 +152,38 @@ lets_after {left = left} {a = a} {b = b} {xs = xs} h lets s taken count k =
     let enough : length (xs ++ k.read) + count ≤ length (xs ++ k.written) = omega (arith, length-append xs k.read, length-append xs k.written, k.enough) in
     lets s taken count (record { written = xs ++ k.written; read = xs ++ k.read; took = took; gave = gave; enough = enough })
 
-module _ {G : Type 0} {Near Far : Way → Type 0} {setting_at : Rest G → Setting} {conn : ℕ} {Now : Rest G → Type 0} {now : Ways} {pair : Pair}
-    {turns : Turns} (o : IsOn Near Far setting_at conn Now now pair turns) where
-  pub on_lives : (x : Rest G) × Now x × IsSome (find conn x.sessions)
-  on_lives =
-      let g = o.comes.lives in
-      let l = o.rest.ledger ++ g.more in
-      (with_talk o.rest conn g.unfinished l g.kept, g.now, still_found conn o.rest o.found g.unfinished l g.kept)
+-- ---- while an answer is heard
 
-  pub on_at : {Then : Rest G → Type 0} {next : Ways} {t : Turns} {y : Pair} → Comes o.rest conn (setting_at o.rest) o.start next t y Then
-      → IsOn Near Far setting_at conn Then next y t
-  on_at h = record { rest = o.rest; start = o.start; found = o.found; near = o.near; far = o.far; comes = h }
+module _ {o : Outset} {heard : List ℕ} {mid : Way} {x : Option (List ℕ)} {c : Caller} (h : HasHeard o heard mid x c) where
+  -- a part more
+  pub heard_more : {now : Way} {y : Option (List ℕ)} {d : Caller} (part : List ℕ) → Passes mid now part → IsHeardAll (place_after o.place heard) part d x y
+      → HasHeard o (heard ++ part) now y d
+  heard_more {now = now} {y = y} {d = d} part passes k =
+      let text = append_assoc o.text (text_of o.place heard) _ ∙ ap (λ z. o.text ++ z) (sym (text_more o.place heard part)) in record {
+        stands = subst (StandsAt d) (sym (place_more o.place heard part)) k.stands;
+        passes = subst (Passes o.way now) (append_assoc o.behind heard part) (passes_then h.passes passes);
+        printed = subst (Appends o.out y) text (Appends-trans o.out x y _ _ h.printed k.printed);
+      }
+
+  -- or nothing more, though some was read
+  pub reads_none : {left : Option (List ℕ)} (rest whole unheard : List ℕ) → heard ++ rest ≡ whole → Consumes mid.left left unheard → length unheard ≤ max_piece
+      → HearsUpTo o whole left x
+  reads_none {left = left} rest whole unheard parts gave few =
+      let read = subst (Consumes o.way.left left) (append_assoc o.behind heard unheard) (Consumes-trans o.way.left mid.left left _ _ h.passes.gave gave) in
+      let prints = front_whole o.out x _ h.printed in
+      record { hears = record { heard = heard; rest = rest; parts = parts; prints = prints }; unheard = unheard; read = read; few = few }
+
+  -- or a beginning of what was read
+  pub reads_front : {left y : Option (List ℕ)} (part after whole : List ℕ) → heard ++ (part ++ after) ≡ whole → Consumes mid.left left part
+      → length part ≤ max_piece → HearsFront [] (place_after o.place heard) part x y → HearsUpTo o whole left y
+  reads_front {left = left} {y = y} part after whole parts gave few k =
+      let all : (heard ++ k.heard) ++ (k.rest ++ after) ≡ whole = rw (← parts, ← k.parts) (simp append_assoc) in
+      let text = append_assoc o.text (text_of o.place heard) _ ∙ ap (λ z. o.text ++ z) (sym (text_more o.place heard k.heard)) in
+      let prints = subst (AppendsFront o.out y) text (front_after o.out x y _ _ h.printed k.prints) in
+      let read : Consumes o.way.left left (o.behind ++ ((heard ++ k.heard) ++ k.rest)) =
+      rw (append_assoc heard k.heard k.rest, k.parts, ← append_assoc o.behind heard part) (Consumes-trans o.way.left mid.left left _ _ h.passes.gave gave) in
+      let least : length k.rest ≤ max_piece = omega (arith, few, ap length k.parts, length-append k.heard k.rest) in
+      record { hears = record { heard = heard ++ k.heard; rest = k.rest ++ after; parts = all; prints = prints }; unheard = k.rest; read = read; few = least }
 
 -- ---- what a session makes of one piece after another, and of one line after another
 
@@ -102,17 +209,6 @@ module _ (S : Setting) (conn : ℕ) (ledger : List EntryView) where
       let both = sym (answer_is s (a ++ b)) ∙ ap said (sym (append_assoc s a b)) ∙ answer_is (s ++ a) b ∙ ap (λ z. z ++ second) (answer_is s a) in
       append_cancel_left (said s) _ _ (both ∙ append_assoc (said s) first second)
 
-  pub given_more : (t : Turns) (a b : List ℕ) → given S conn ledger t (a ++ b) ≡ given S conn ledger (given S conn ledger t a) b
-  given_more t a b =
-      let first = answer_to S conn ledger t.sent a in
-      let second = answer_to S conn ledger (t.sent ++ a) b in
-      rw (answer_more t.sent a b, place_more (all_sent t.place) first second, text_more (all_sent t.place) first second) (simp append_assoc)
-
-  pub given_none : (t : Turns) → given S conn ledger t [] ≡ record { place = all_sent t.place; sent = t.sent; text = t.text }
-  given_none t =
-      let none : answer_to S conn ledger t.sent [] ≡ [] = ap (λ z. drop (length (said t.sent)) (said z)) (append-nil t.sent) ∙ drop-length (said t.sent) in
-      rw none (simp append-nil)
-
   -- one line after another
   abbrev At : List (ℕ × ScriptRequestView) → Type 0
   At ls = IsQuiet (turns_of S conn ledger ls)
@@ -125,11 +221,9 @@ module _ (S : Setting) (conn : ℕ) (ledger : List EntryView) where
       → Came (turns_of S conn ledger (ls ++ l ∷ [])) × AreQuiet S conn ledger (ls ++ l ∷ [])
   lines_more Came ls l before now =
       let same = sym (ap (exchanged S conn ledger) (fold-append (next_turn S conn ledger) no_turns ls (l ∷ []))) in
-      let all = λ (n : ℕ) (m : length ls < n). take_all n (ls ++ l ∷ []) (omega (arith, m, length-append ls (l ∷ []))) in (
-        subst Came same now.0,
-        λ n. ⊎_elim (λ m. subst At (sym (all n m)) (subst IsQuiet same now.1)) (λ m. subst At (sym (take-append-le n ls (l ∷ []) m)) (before n))
-            (cases_lt (length ls) n),
-      )
+      let all = λ (n : ℕ) (m : length ls < n). take_all n (ls ++ l ∷ []) (omega (arith, m, length-append ls (l ∷ []))) in
+      let last = λ (n : ℕ) (m : length ls < n). subst At (sym (all n m)) (subst IsQuiet same now.1) in
+      (subst Came same now.0, λ n. ⊎_elim (last n) (λ m. subst At (sym (take-append-le n ls (l ∷ []) m)) (before n)) (cases_lt (length ls) n))
 
 -- the session, as a talk leaves it
 abbrev Left : {G : Type 0} → Rest G → ℕ → (Rest G → Type 0) → List ℕ → Talk → Type 0
@@ -154,6 +248,11 @@ module _ {G : Type 0} (r : Rest G) (conn : ℕ) (S : Setting) (Now : Rest G → 
   sits_takes piece out Over h =
       let parts = append_assoc up h.front h.rest ∙ ap (λ z. up ++ z) h.parts in
       record { front = up ++ h.front; rest = h.rest; parts = parts; stands = h.stands; over = h.over }
+
+-- where all went well, what follows from what is so then
+pub on_ok : {T E P Q : Type 0} (x : Result T E) → OnOk x P → (P → Q) → OnOk x Q
+on_ok (Ok t) p f = f p
+on_ok (Err e) p f = tt
 
 -- a request was submitted, or refused
 pub line_put : (p : Place) (q : RequestView) (n : ℕ) (x y : Option (List ℕ)) (Now : Place → Type 0) (b : Bool) → Submits p q n x y Now (Ok b)
@@ -180,28 +279,6 @@ taken_whole {old = old} {bytes = bytes} max e o l =
     let none = ap (λ (z : List ℕ). record old { unsent = z }) all.1 ∙ ap (λ (z : ClientRest). record z { unsent = [] }) e in
     (all.0 ∙ ap (λ (z : ClientRest). z.unsent) e, o.1 ∙ none)
 
--- and none of it is given
-pub comes_out : {G : Type 0} {r : Rest G} {conn : ℕ} {S : Setting} {start a : Ways} {t : Turns} {x : Pair} {Now : Rest G → Type 0} {c : Caller}
-    (h : Comes r conn S start a t x Now) → rest_of c.client ≡ record (with_item t.place h.client.item).rest { unsent = [] } → c.version ≡ x.caller.version
-    → Comes r conn S start a (given S conn r.ledger t []) (record { caller = c; said = x.said; liveness = x.liveness }) Now
-comes_out {r = r} {conn = conn} {S = S} {start = start} {a = a} {t = t} {x = x} {Now = Now} {c = c} h e v =
-    let old = h.client in
-    let client : StandsAt c (all_sent t.place) = record { item = old.item; at = record { fits = e; version = v ∙ old.at.version }; same = old.same } in
-    subst (λ (z : Turns). Comes r conn S start a z (record { caller = c; said = x.said; liveness = x.liveness }) Now) (sym (given_none S conn r.ledger t))
-    (record { lives = h.lives; client = client; session = h.session; up = h.up; down = h.down; printed = h.printed })
-
--- a line was submitted
-pub comes_line : {G : Type 0} {r : Rest G} {conn : ℕ} {S : Setting} {start a : Ways} {x : Pair} {Now : Rest G → Type 0} {c : Caller} {out : Option (List ℕ)}
-    {failed : Bool} {t : Turns} (l : ℕ × ScriptRequestView) (b : Bool) (h : Comes r conn S start a t x Now)
-    → Submits (with_item t.place h.client.item) (asked t l) l.0 a.out out (IsAt c) (Ok b)
-    → Comes r conn S start (record { up = a.up; down = a.down; out = out; out_failed = failed }) (with_line t l)
-    (record { caller = c; said = x.said; liveness = x.liveness }) Now
-comes_line {start = start} {a = a} {c = c} {out = out} {t = t} l b h s =
-    let k = line_put (with_item t.place h.client.item) (asked t l) l.0 a.out out (IsAt c) b s in
-    let client = stands_by t.place (asked t l) h.client.item (refuses t.place.rest.knows (asked t l)) h.client.same k.1 in
-    let printed = Appends-trans start.out a.out out t.text _ h.printed k.0 in
-    record { lives = h.lives; client = client; session = h.session; up = h.up; down = h.down; printed = printed }
-
 -- before the first exchange, on a server on which no session lives
 pub loop_begins : {G : Type 0} (r : Rest G) (S : Setting) {p : Pair} {Now : Rest G → Type 0} {conn : ℕ} → r.sessions ≡ [] → HasOpened r conn Now
     → p.said.bytes.items ≡ [] → p.liveness ≡ Open → IsAt p.caller first_place → IsOpened r S conn p Now
@@ -214,6 +291,7 @@ loop_begins r S {Now = Now} {conn = conn} none o e g at =
     record {
       number = o.number;
       found = found;
+      now = o.now;
       comes = λ a. record {
         lives = lives_same conn Now (opened r) o.now found;
         client = record { item = first_place.rest.item; at = at; same = λ e. refl };
@@ -226,13 +304,10 @@ loop_begins r S {Now = Now} {conn = conn} none o e g at =
 
 -- ---- in an exchange
 
--- how far it has come in one
-abbrev InOne : Setting → ℕ → List EntryView → Turns → Option (List ℕ) → Option (List ℕ) → Option (List ℕ) → Option (List ℕ) → Type 0
-InOne S conn ledger t l left x out = ReadsUpTo (talk_for S conn ledger t.sent).out t.text (all_sent t.place) (due S conn ledger t) l left x out
-
 -- nothing is heard in it
 pub breaks_before : (S : Setting) (conn : ℕ) (ledger : List EntryView) (t : Turns) {l left x out : Option (List ℕ)}
-    → Consumes l left (talk_for S conn ledger t.sent).out → AppendsFront x out t.text → InOne S conn ledger t l left x out
+    → Consumes l left (talk_for S conn ledger t.sent).out → AppendsFront x out t.text
+    → ReadsUpTo (talk_for S conn ledger t.sent).out t.text (all_sent t.place) (due S conn ledger t) l left x out
 breaks_before S conn ledger t gave prints = record {
   hears = record { heard = []; rest = due S conn ledger t; parts = refl; prints = rw append-nil prints };
   unheard = [];
@@ -240,51 +315,74 @@ breaks_before S conn ledger t gave prints = record {
   few = omega arith;
 }
 
--- behind some that was given and heard
-pub breaks_given : {G : Type 0} {r : Rest G} {conn : ℕ} {S : Setting} {start a : Ways} {x : Pair} {Now : Rest G → Type 0} {left out : Option (List ℕ)}
-    (t : Turns) (done piece after : List ℕ) → done ++ (piece ++ after) ≡ t.place.rest.unsent → Comes r conn S start a (given S conn r.ledger t done) x Now
-    → ReadsUpTo [] [] (given S conn r.ledger t done).place (answer_to S conn r.ledger (t.sent ++ done) piece) a.down.left left a.out out
-    → InOne S conn r.ledger t start.down.left left start.out out
-breaks_given {r = r} {conn = conn} {S = S} {start = start} {a = a} t done piece after parts h k =
-    let to = answer_to S conn r.ledger in
-    let first = to t.sent done in
-    let last = to ((t.sent ++ done) ++ piece) after in
-    let all : first ++ (to (t.sent ++ done) piece ++ last) ≡ due S conn r.ledger t =
-    ap (λ z. first ++ z) (sym (answer_more S conn r.ledger (t.sent ++ done) piece after)) ∙ sym (answer_more S conn r.ledger t.sent done (piece ++ after))
-    ∙ ap (to t.sent) parts in
-    let gave = subst (Consumes start.down.left a.down.left) (answer_is S conn r.ledger t.sent done) h.down.gave in
-    reads_past first last (due S conn r.ledger t) all gave h.printed k
+module _ {G : Type 0} {r : Rest G} {conn : ℕ} {S : Setting} {start a : Ways} {t : Turns} {x : Pair} {Now : Rest G → Type 0} where
+  -- a line was submitted
+  pub comes_line : {c : Caller} {out : Option (List ℕ)} {failed : Bool} (l : ℕ × ScriptRequestView) (b : Bool) (h : Comes r conn S start a t x Now)
+      → Submits (with_item t.place h.client.item) (asked t l) l.0 a.out out (IsAt c) (Ok b)
+      → Comes r conn S start (record { up = a.up; down = a.down; out = out; out_failed = failed }) (with_line t l)
+      (record { caller = c; said = x.said; liveness = x.liveness }) Now
+  comes_line {c = c} {out = out} l b h s =
+      let k = line_put (with_item t.place h.client.item) (asked t l) l.0 a.out out (IsAt c) b s in
+      let client = stands_by t.place (asked t l) h.client.item (refuses t.place.rest.knows (asked t l)) h.client.same k.1 in
+      let printed = Appends-trans start.out a.out out t.text _ h.printed k.0 in
+      record { lives = h.lives; client = client; session = h.session; up = h.up; down = h.down; printed = printed }
 
--- what is put out for a piece is the answer to it
-pub answer_due : {G : Type 0} {r : Rest G} {conn : ℕ} {S : Setting} {start a : Ways} {x : Pair} {Now : Rest G → Type 0} {t : Turns} {answer : List ℕ}
-    (Then : Rest G → Type 0) (piece said : List ℕ) (liveness : Liveness) → Comes r conn S start a t x Now → Sits r conn S Then (t.sent ++ piece) said liveness
-    → answer ≡ drop (length x.said.bytes.items) said → answer ≡ answer_to S conn r.ledger t.sent piece
-answer_due {r = r} {conn = conn} {S = S} {x = x} {Now = Now} {t = t} Then piece said liveness h s e =
-    let old = sits_talk r conn S Now t.sent x.said.bytes.items x.liveness h.session in
-    let new = sits_talk r conn S Then (t.sent ++ piece) said liveness s in
-    e ∙ ap (λ z. drop (length z) said) old.2 ∙ ap (drop (length (talk_for S conn r.ledger t.sent).out)) new.2
+  -- all that the client has to send was taken out
+  pub meets : {c : Caller} (h : Comes r conn S start a t x Now) → rest_of c.client ≡ record (with_item t.place h.client.item).rest { unsent = [] }
+      → c.version ≡ x.caller.version → Meets r conn S start a t [] (record { caller = c; said = x.said; liveness = x.liveness }) Now
+  meets {c = c} h e v =
+      let old = h.client in
+      let stands : StandsAt c (all_sent t.place) = record { item = old.item; at = record { fits = e; version = v ∙ old.at.version }; same = old.same } in
+      let all = said S conn r.ledger in
+      let none = ap (λ z. drop (length (all t.sent)) (all z)) (append-nil t.sent) ∙ drop-length (all t.sent) in
+      let heard : HasHeard (outset r conn S start t) [] a.down a.out c =
+      record { stands = stands; passes = rw append-nil h.down; printed = rw append-nil h.printed } in
+      record { lives = h.lives; session = rw append-nil h.session; up = rw append-nil h.up; heard = rw none heard }
 
--- it is heard, or a fault comes
-pub turn_goes : {G : Type 0} {r : Rest G} {conn : ℕ} {S : Setting} {start a : Ways} {x : Pair} {Now Then : Rest G → Type 0} (b : Ways) (y : Pair) (t : Turns)
-    (done piece after : List ℕ) (result : Result (Unit {0}) StreamFault) → done ++ (piece ++ after) ≡ t.place.rest.unsent
-    → Comes r conn S start a (given S conn r.ledger t done) x Now → Grows r conn Then → Passes a.up b.up piece
-    → Sits r conn S Then ((t.sent ++ done) ++ piece) y.said.bytes.items y.liveness
-    → (let p = (given S conn r.ledger t done).place in let answer = answer_to S conn r.ledger (t.sent ++ done) piece in
-    MatchResult result (λ _. Passes a.down b.down answer × IsHeardAll p answer y.caller a.out b.out)
-    (λ _. ReadsUpTo [] [] p answer a.down.left b.down.left a.out b.out))
-    → (IsErrOf result ReadFailed → BreaksAtSource a.down b.down) → (IsErrOf result WriteFailed → (b.down.write_failed ≡ true) ⊎ (b.out_failed ≡ true))
-    → Goes r conn start b Then (Comes r conn S start b (given S conn r.ledger t (done ++ piece)) y Then) (BreaksIn S conn r.ledger start b t) result
-turn_goes {r = r} {conn = conn} {S = S} {start = start} {a = a} {Then = Then} b y t done piece after (Ok u) parts h lives up s heard read written =
-    let here = given S conn r.ledger t done in
-    let down = subst (Passes start.down b.down) (sym (answer_is S conn r.ledger here.sent piece)) (passes_then h.down heard.0) in
-    let printed = Appends-trans start.out a.out b.out here.text _ h.printed heard.1.printed in
-    subst (λ (z : Turns). Comes r conn S start b z y Then) (sym (given_more S conn r.ledger t done piece))
-    (record { lives = lives; client = heard.1.stands; session = s; up = passes_then h.up up; down = down; printed = printed })
-turn_goes b y t done piece after (Err fault) parts h lives up s k read written = (
-  lives,
-  cause_of fault _ _ (λ e. inr (source_after h.down (read (ap Err e)))) (λ e. inr (written (ap Err e))),
-  breaks_given t done piece after parts h k,
-)
+  module _ {sent : List ℕ} (m : Meets r conn S start a t sent x Now) where
+    abbrev to : List ℕ → List ℕ → List ℕ
+    to = answer_to S conn r.ledger
+
+    -- so much is sent and heard
+    pub comes_given : Comes r conn S start a (given S conn r.ledger t sent) x Now
+    comes_given =
+        let down = subst (Passes start.down a.down) (sym (answer_is S conn r.ledger t.sent sent)) m.heard.passes in
+        record { lives = m.lives; client = m.heard.stands; session = m.session; up = m.up; down = down; printed = m.heard.printed }
+
+    due_more : (rest : List ℕ) → sent ++ rest ≡ t.place.rest.unsent → to t.sent sent ++ to (t.sent ++ sent) rest ≡ due S conn r.ledger t
+    due_more rest parts = sym (answer_more S conn r.ledger t.sent sent rest) ∙ ap (to t.sent) parts
+
+    -- a fault comes
+    pub breaks_here : (rest : List ℕ) → sent ++ rest ≡ t.place.rest.unsent → BreaksIn S conn r.ledger start a t
+    breaks_here rest parts = reads_none m.heard (to (t.sent ++ sent) rest) _ [] (due_more rest parts) (Consumes-nil a.down.left) (omega arith)
+
+    -- what is put out for a piece is the answer to it
+    pub answer_due : (Then : Rest G → Type 0) (piece said : List ℕ) (liveness : Liveness) {answer : List ℕ}
+        → Sits r conn S Then ((t.sent ++ sent) ++ piece) said liveness → answer ≡ drop (length x.said.bytes.items) said → answer ≡ to (t.sent ++ sent) piece
+    answer_due Then piece said liveness s e =
+        let old = sits_talk r conn S Now (t.sent ++ sent) x.said.bytes.items x.liveness m.session in
+        let new = sits_talk r conn S Then ((t.sent ++ sent) ++ piece) said liveness s in
+        e ∙ ap (λ z. drop (length z) said) old.2 ∙ ap (drop (length (talk_for S conn r.ledger (t.sent ++ sent)).out)) new.2
+
+    -- it is heard, or a fault comes
+    pub turn_goes : {Then : Rest G → Type 0} (b : Ways) (y : Pair) (piece after : List ℕ) (result : Result (Unit {0}) StreamFault)
+        → sent ++ (piece ++ after) ≡ t.place.rest.unsent → Grows r conn Then → Passes a.up b.up piece
+        → Sits r conn S Then ((t.sent ++ sent) ++ piece) y.said.bytes.items y.liveness
+        → (let answer = to (t.sent ++ sent) piece in let o = outset r conn S start t in
+        MatchResult result (λ _. HasHeard o (to t.sent sent ++ answer) b.down b.out y.caller)
+        (λ _. HearsUpTo o (to t.sent sent ++ (answer ++ to ((t.sent ++ sent) ++ piece) after)) b.down.left b.out))
+        → (IsErrOf result ReadFailed → BreaksAtSource a.down b.down) → (IsErrOf result WriteFailed → (b.down.write_failed ≡ true) ⊎ (b.out_failed ≡ true))
+        → Goes r conn start b Then (Meets r conn S start b t (sent ++ piece) y Then) (BreaksIn S conn r.ledger start b t) result
+    turn_goes b y piece after (Ok u) parts lives up s heard read written =
+        let same = append_assoc t.sent sent piece in
+        let more = answer_more S conn r.ledger t.sent sent piece in
+        record { lives = lives; session = rw (← same) s; up = rw (← same) (passes_then m.up up); heard = rw more heard }
+    turn_goes b y piece after (Err fault) parts lives up s heard read written =
+        let whole = ap (λ z. to t.sent sent ++ z) (sym (answer_more S conn r.ledger (t.sent ++ sent) piece after)) ∙ due_more (piece ++ after) parts in (
+          lives,
+          cause_of fault _ _ (λ e. inr (source_after m.heard.passes (read (ap Err e)))) (λ e. inr (written (ap Err e))),
+          subst (λ z. HearsUpTo (outset r conn S start t) z b.down.left b.out) whole heard,
+        )
 
 -- ---- in a whole run
 
@@ -320,32 +418,28 @@ module _ (S : Setting) (conn : ℕ) (ledger : List EntryView) where
 
 module _ {G : Type 0} (r : Rest G) (S : Setting) (lines : List (ℕ × ScriptRequestView)) {start : Ways} where
   -- in the lines
-  pub breaks_lines : {last : Ways} (conn : ℕ) → conn ≡ r.next → BreaksAt S conn r.ledger start last lines → Breaks r S lines start last
-  breaks_lines {last = last} conn e k =
-      let h = subst (λ (n : ℕ). BreaksAt S n r.ledger start last lines) e k in
-      record { begins = front_in start.out last.out _ _ (begins_in S r.next r.ledger start last lines h); printed = inl h }
+  pub breaks_lines : {last : Ways} → BreaksAt S r.next r.ledger start last lines → Breaks r S lines start last
+  breaks_lines {last = last} k = record { begins = front_in start.out last.out _ _ (begins_in S r.next r.ledger start last lines k); printed = inl k }
 
   -- before them
   pub breaks_none : Breaks r S lines start start
   breaks_none =
       let none = ap (λ (t : Talk). t.out) (talk_by_items S r.next r.ledger []) in
       let gave = subst (Consumes start.down.left start.down.left) (sym none) (Consumes-nil start.down.left) in
-      breaks_lines r.next refl (0, breaks_before S r.next r.ledger no_turns gave ([], [], refl, Appends-nil start.out))
+      breaks_lines (0, breaks_before S r.next r.ledger no_turns gave ([], [], refl, Appends-nil start.out))
 
   -- behind them, where the entries that are printed are those of the ledger then
-  pub ends_at : {b : Ways} {p : Pair} {Now : Rest G → Type 0} {failed : Bool} (out : Option (List ℕ)) (conn : ℕ) → conn ≡ r.next
-      → Comes (opened r) conn S start b (turns_of S conn r.ledger lines) p Now × AreQuiet S conn r.ledger lines → (es : List EntryView)
+  pub ends_at : {b : Ways} {p : Pair} {Now : Rest G → Type 0} {failed : Bool} (out : Option (List ℕ))
+      → Comes (opened r) r.next S start b (end r S lines) p Now × AreQuiet S r.next r.ledger lines → (es : List EntryView)
       → ((x : Rest G) → Now x → es ≡ x.ledger) → (result : Result (Unit {0}) StreamFault) → OnOk result (Appends b.out out (entries_text es))
       → OnErr result (AppendsFront b.out out (entries_text es)) → (IsErrOf result ReadFailed → ⊥) → (IsErrOf result WriteFailed → failed ≡ true)
       → EndsAt r S lines Now start (record { up = b.up; down = b.down; out = out; out_failed = failed }) result
-  ends_at {b = b} {p = p} {Now = Now} out conn e came es same (Ok u) told front read written =
-      let h = subst (λ (n : ℕ). Comes (opened r) n S start b (turns_of S n r.ledger lines) p Now × AreQuiet S n r.ledger lines) e came in
+  ends_at {b = b} {p = p} {Now = Now} out h es same (Ok u) told front read written =
       let left = sits_talk (opened r) r.next S Now (end r S lines).sent p.said.bytes.items p.liveness h.0.session in
       let text = subst (λ (z : List EntryView). Appends b.out out (entries_text z)) (same _ left.1) told in
       let printed = Appends-trans start.out b.out out (end r S lines).text _ h.0.printed text in
       record { unfinished = left.0; printed = printed; up = h.0.up; down = h.0.down; quiet = h.1; now = left.1 }
-  ends_at {b = b} {p = p} {Now = Now} out conn e came es same (Err fault) told front read written =
-      let h = subst (λ (n : ℕ). Comes (opened r) n S start b (turns_of S n r.ledger lines) p Now) e came.0 in
+  ends_at {b = b} {p = p} {Now = Now} out (h, quiet) es same (Err fault) told front read written =
       let left = sits_talk (opened r) r.next S Now (end r S lines).sent p.said.bytes.items p.liveness h.session in
       let text = subst (λ (z : List EntryView). AppendsFront b.out out (entries_text z)) (same _ left.1) front in
       let begins = front_after start.out b.out out (end r S lines).text _ h.printed text in (

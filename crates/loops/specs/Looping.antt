@@ -13,7 +13,7 @@ use Rattle.prints.specs.declared.stop.StopReason.{StopReason}
 use Rattle.prints.specs.declared.stop.StopReason.TheVariants.{Unreadable, Broken}
 use Rattle.prints.specs.Stopping.{Gets, IsStopOf, stop_text}
 use Rattle.shells.specs.Talking.{Place, IsAt, text_of, place_after}
-use Rattle.loops.specs.Turns.{Turns, no_turns, AreQuiet, talk_for, turns_of}
+use Rattle.loops.specs.Turns.{Turns, no_turns, AreQuiet, all_sent, answer_to, talk_for, turns_of}
 use Rattle.loops.specs.Ways.{Way, Ways}
 use Rattle.loops.specs.Passing.{FailsToRead, FailsToWrite, Passes}
 use Rattle.server.specs.Serving.{Rest, find, opened}
@@ -61,6 +61,19 @@ pub record ReadsUpTo (behind text : List ℕ) (p : Place) (answer : List ℕ)
   pub read : Consumes left left_now (behind ++ (hears.heard ++ unheard))
   pub few : length unheard ≤ max_piece
 
+-- Where a client stands before it hears an answer, the bytes that it has read by then, and the text that is printed, since the way to it and what is
+-- printed were so.
+pub record Outset : Type 0 where
+  pub place : Place
+  pub behind : List ℕ
+  pub text : List ℕ
+  pub way : Way
+  pub out : Option (List ℕ)
+
+-- a fault came then while it read and heard this answer
+abbrev pub HearsUpTo : Outset → List ℕ → Option (List ℕ) → Option (List ℕ) → Type 0
+HearsUpTo o answer left out = ReadsUpTo o.behind o.text o.place answer o.way.left left o.out out
+
 -- the place of a client of which this item isn't whole
 abbrev pub with_item : Place → Opened → Place
 with_item p i = record {
@@ -78,6 +91,12 @@ pub record StandsAt (c : Caller) (p : Place) : Type 0 where
 pub record IsHeardAll (p : Place) (bytes : List ℕ) (c : Caller) (before after : Option (List ℕ)) : Type 0 where
   pub stands : StandsAt c (place_after p bytes)
   pub printed : Appends before after (text_of p bytes)
+
+-- The client has heard so much since it stood there: that passed, and what is printed of it was.
+pub record HasHeard (o : Outset) (heard : List ℕ) (way : Way) (out : Option (List ℕ)) (c : Caller) : Type 0 where
+  pub stands : StandsAt c (place_after o.place heard)
+  pub passes : Passes o.way way (o.behind ++ heard)
+  pub printed : Appends o.out out (o.text ++ text_of o.place heard)
 
 -- a stop is I1 only if a way breaks at its source, and I2 only if a sink has failed
 abbrev pub HasCause : StopReason → Ways → Ways → Type 0
@@ -106,21 +125,30 @@ module _ {G : Type 0} (r : Rest G) (conn : ℕ) (S : Setting) where
       pub down : Passes start.down now.down (talk_for S conn r.ledger t.sent).out
       pub printed : Appends start.out now.out t.text
 
+  -- where the client stands before it hears what is answered in the exchange that follows
+  abbrev pub outset : Ways → Turns → Outset
+  outset start t = record {
+    place = all_sent t.place;
+    behind = (talk_for S conn r.ledger t.sent).out;
+    text = t.text;
+    way = start.down;
+    out = start.out;
+  }
+
+  -- In that exchange these bytes were sent of all that the client has to send, and all that is answered to them is heard.
+  pub record Meets (start now : Ways) (t : Turns) (sent : List ℕ) (pair : Pair) (Now : Rest G → Type 0) : Type 0
+    where
+      pub lives : Grows r conn Now
+      pub session : Sits Now (t.sent ++ sent) pair.said.bytes.items pair.liveness
+      pub up : Passes start.up now.up (t.sent ++ sent)
+      pub heard : HasHeard (outset start t) (answer_to S conn r.ledger t.sent sent) now.down now.out pair.caller
+
 -- A session was opened with this number, the next, on a server on which none lives, and a client has heard nothing of it.
 pub record IsOpened {G : Type 0} (r : Rest G) (S : Setting) (conn : ℕ) (pair : Pair) (Now : Rest G → Type 0) : Type 0 where
   pub number : conn ≡ r.next
   pub found : IsSome (find conn (opened r).sessions)
+  pub now : Now (opened r)
   pub comes : (at : Ways) → Comes (opened r) conn S at at no_turns pair Now
-
--- A loop has come so far since its sources, near the client and far from it, let themselves be read of what waits.
-pub record IsOn {G : Type 0} (Near Far : Way → Type 0) (setting_at : Rest G → Setting) (conn : ℕ)
-    (Now : Rest G → Type 0) (now : Ways) (pair : Pair) (turns : Turns) : Type 0 where
-  pub rest : Rest G
-  pub start : Ways
-  pub found : IsSome (find conn rest.sessions)
-  pub near : Near start.down
-  pub far : Far start.up
-  pub comes : Comes rest conn (setting_at rest) start now turns pair Now
 
 module _ {G : Type 0} (r : Rest G) (S : Setting) (lines : List (ℕ × ScriptRequestView)) where
   -- how far a client comes with these lines, and a session on a server on which no other lives

@@ -3,10 +3,11 @@ ghost use Rattle.std.specs.Prelude.{◌≡◌, ◌⊎◌, ◌<◌, ◌++◌, ℕ
 ghost use Rattle.server.specs.Serving.{Rest, find, setting};
 ghost use Rattle.server.specs.Views.{Fits};
 ghost use Rattle.loops.specs.Passing.{FailsToRead, FailsToWrite, LetsReadWaiting};
-ghost use Rattle.loops.specs.Looping.{Comes, Goes, HasCause, HasLooped, IsOn, IsOpened, Loops, Numbers, RunsNothing, TellsLine};
+ghost use Rattle.loops.specs.Looping.{Comes, Goes, HasCause, HasLooped, IsOpened, Loops, Meets, Numbers, RunsNothing, TellsLine};
 ghost use Rattle.loops.specs.Breaking.{Breaks, BreaksIn, EndsAt, Exchanges, RunsLines};
 ghost use Rattle.one_by_one.specs.Serving.{IsVacant};
-ghost use Rattle.loops.specs.Turns.{Turns, given, no_turns, with_line};
+ghost use Rattle.loops.specs.Turns.{Turns, no_turns, with_line};
+ghost use Rattle.serves.specs.Settling.{IsLive};
 ghost use Rattle.loops.specs.Ways.{Ways};
 ghost use Rattle.scripts.specs.Rows.{request_line_of};
 ghost use Rattle.scripts.specs.Script.{filled_lines, lines_read, said_requests, unreadable};
@@ -52,18 +53,19 @@ fn turn<E: Engine, G: Gate, A: PeerSource, B: Sink, C: PeerSource, D: Sink, O: S
     piece: &[u8],
     ways: &mut BothWays<A, B, C, D, O>,
 ) -> Result<(), StreamFault>
-    requires { (t : Turns) × IsOn (LetsReadWaiting A.left A.may_read)
-        (LetsReadWaiting C.left C.may_read) (setting E.answer G.welcomes) conn
-        (Fits E.entries server.old) ways.old.at pair.old t }
-    ensures { (r : Rest G) (start : Ways) (t : Turns) (done after : List ℕ)
-        → IsSome (find conn r.sessions) → done ++ (piece.now ++ after) ≡ t.place.rest.unsent
-        → Comes r conn (setting E.answer G.welcomes r) start ways.old.at
-        (given (setting E.answer G.welcomes r) conn r.ledger t done) pair.old
+    requires { IsLive E.entries conn server.old
+        × LetsReadWaiting A.left A.may_read ways.old.at.down
+        × LetsReadWaiting C.left C.may_read ways.old.at.up }
+    ensures on { OnOk result (IsLive E.entries conn server.new
+        × LetsReadWaiting A.left A.may_read ways.new.at.down
+        × LetsReadWaiting C.left C.may_read ways.new.at.up) }
+    ensures goes { (r : Rest G) (start : Ways) (t : Turns) (sent after : List ℕ)
+        → IsSome (find conn r.sessions) → sent ++ (piece.now ++ after) ≡ t.place.rest.unsent
+        → Meets r conn (setting E.answer G.welcomes r) start ways.old.at t sent pair.old
         (Fits E.entries server.old)
         → Goes r conn start ways.new.at (Fits E.entries server.new)
-        (Comes r conn (setting E.answer G.welcomes r) start ways.new.at
-        (given (setting E.answer G.welcomes r) conn r.ledger t (done ++ piece.now)) pair.new
-        (Fits E.entries server.new))
+        (Meets r conn (setting E.answer G.welcomes r) start ways.new.at t (sent ++ piece.now)
+        pair.new (Fits E.entries server.new))
         (BreaksIn (setting E.answer G.welcomes r) conn r.ledger start ways.new.at t) result }
 {
     match pass(pair.caller.alloc, piece, &mut ways.up) {
@@ -86,10 +88,13 @@ fn exchange<E: Engine, G: Gate, A: PeerSource, B: Sink, C: PeerSource, D: Sink, 
     conn: u64,
     ways: &mut BothWays<A, B, C, D, O>,
 ) -> Result<(), StreamFault>
-    requires { (t : Turns) × IsOn (LetsReadWaiting A.left A.may_read)
-        (LetsReadWaiting C.left C.may_read) (setting E.answer G.welcomes) conn
-        (Fits E.entries server.old) ways.old.at pair.old t }
-    ensures { (r : Rest G) (start : Ways) (t : Turns) → IsSome (find conn r.sessions)
+    requires { IsLive E.entries conn server.old
+        × LetsReadWaiting A.left A.may_read ways.old.at.down
+        × LetsReadWaiting C.left C.may_read ways.old.at.up }
+    ensures on { OnOk result (IsLive E.entries conn server.new
+        × LetsReadWaiting A.left A.may_read ways.new.at.down
+        × LetsReadWaiting C.left C.may_read ways.new.at.up) }
+    ensures goes { (r : Rest G) (start : Ways) (t : Turns) → IsSome (find conn r.sessions)
         → Comes r conn (setting E.answer G.welcomes r) start ways.old.at t pair.old
         (Fits E.entries server.old)
         → Exchanges r conn (setting E.answer G.welcomes r) start ways.new.at t pair.new
@@ -121,10 +126,13 @@ fn run_line<E: Engine, G: Gate, A: PeerSource, B: Sink, C: PeerSource, D: Sink, 
     line: Numbered<ScriptRequest>,
     ways: &mut BothWays<A, B, C, D, O>,
 ) -> Result<(), StreamFault>
-    requires { (t : Turns) × IsOn (LetsReadWaiting A.left A.may_read)
-        (LetsReadWaiting C.left C.may_read) (setting E.answer G.welcomes) conn
-        (Fits E.entries server.old) ways.old.at pair.old t }
-    ensures { (r : Rest G) (start : Ways) (t : Turns) → IsSome (find conn r.sessions)
+    requires { IsLive E.entries conn server.old
+        × LetsReadWaiting A.left A.may_read ways.old.at.down
+        × LetsReadWaiting C.left C.may_read ways.old.at.up }
+    ensures on { OnOk result (IsLive E.entries conn server.new
+        × LetsReadWaiting A.left A.may_read ways.new.at.down
+        × LetsReadWaiting C.left C.may_read ways.new.at.up) }
+    ensures goes { (r : Rest G) (start : Ways) (t : Turns) → IsSome (find conn r.sessions)
         → Comes r conn (setting E.answer G.welcomes r) start ways.old.at t pair.old
         (Fits E.entries server.old)
         → Exchanges r conn (setting E.answer G.welcomes r) start ways.new.at
@@ -146,8 +154,9 @@ fn run_lines<E: Engine, G: Gate, A: PeerSource, B: Sink, C: PeerSource, D: Sink,
     lines: Vec<Numbered<ScriptRequest>>,
     ways: &mut BothWays<A, B, C, D, O>,
 ) -> Result<(), StreamFault>
-    requires { IsOn (LetsReadWaiting A.left A.may_read) (LetsReadWaiting C.left C.may_read)
-        (setting E.answer G.welcomes) conn (Fits E.entries server.old) ways.old.at pair.old no_turns }
+    requires { IsLive E.entries conn server.old
+        × LetsReadWaiting A.left A.may_read ways.old.at.down
+        × LetsReadWaiting C.left C.may_read ways.old.at.up }
     ensures { (r : Rest G) (start : Ways) → IsSome (find conn r.sessions)
         → Comes r conn (setting E.answer G.welcomes r) start ways.old.at no_turns pair.old
         (Fits E.entries server.old)

@@ -5,7 +5,7 @@ ghost use Rattle.server.specs.Serving.{Rest, find, setting};
 ghost use Rattle.server.specs.Views.{Fits};
 ghost use Rattle.serves.specs.Settling.{IsLive, LivesOn};
 ghost use Rattle.loops.specs.Passing.{BreaksAtSource, GivesNoMore, GivesSome, LetsReadWaiting, Passes};
-ghost use Rattle.loops.specs.Looping.{HearsFront, IsHeardAll, ReadsUpTo, Sits, StandsAt};
+ghost use Rattle.loops.specs.Looping.{HasHeard, HearsFront, HearsUpTo, IsHeardAll, Outset, Sits, StandsAt};
 ghost use Rattle.shells.specs.Talking.{Place};
 
 use crate::ways::OneWay;
@@ -54,6 +54,7 @@ pub(crate) fn pass<T: Sink, S: PeerSource>(
 ) -> Result<(), StreamFault>
     requires { LetsReadWaiting S.left S.may_read way.old.at }
     ensures passes { OnOk result (Passes way.old.at way.new.at bytes.now) }
+    ensures lets { OnOk result (LetsReadWaiting S.left S.may_read way.new.at) }
     ensures some { OnErr result (GivesSome way.old.at.left way.new.at.left (length bytes.now)) }
     ensures read { IsErrOf result StreamFault.ReadFailed → BreaksAtSource way.old.at way.new.at }
     ensures written { IsErrOf result StreamFault.WriteFailed → way.new.at.write_failed ≡ true }
@@ -92,7 +93,7 @@ fn hear<O: Sink>(caller: &mut Caller, part: &[u8], out: &mut O) -> Result<(), St
 }
 
 /// The next part of bytes, at most 4,096 of them, and those after it.
-#[tactic(auto, using(crate::proofs::Heard::parts))]
+#[tactic(auto, using(crate::proofs::Looped::parts))]
 pub(crate) fn next_part(bytes: &[u8]) -> (&[u8], &[u8])
     ensures parts { result.0.now ++ result.1.now ≡ bytes.now }
     ensures short { length result.0.now ≤ 4096 }
@@ -109,12 +110,12 @@ pub(crate) fn hand_over<T: Sink, S: PeerSource, O: Sink>(
     out: &mut O,
 ) -> Result<(), StreamFault>
     requires { LetsReadWaiting S.left S.may_read way.old.at }
-    ensures hears { (p : Place) → StandsAt caller.old p
+    ensures hears { (o : Outset) (heard after : List ℕ)
+        → HasHeard o heard way.old.at (O.taken out.old) caller.old
         → MatchResult result
-        (λ _. Passes way.old.at way.new.at bytes.now
-        × IsHeardAll p bytes.now caller.new (O.taken out.old) (O.taken out.new))
-        (λ _. ReadsUpTo [] [] p bytes.now way.old.at.left way.new.at.left (O.taken out.old)
-        (O.taken out.new)) }
+        (λ _. HasHeard o (heard ++ bytes.now) way.new.at (O.taken out.new) caller.new)
+        (λ _. HearsUpTo o (heard ++ (bytes.now ++ after)) way.new.at.left (O.taken out.new)) }
+    ensures lets { OnOk result (LetsReadWaiting S.left S.may_read way.new.at) }
     ensures read { IsErrOf result StreamFault.ReadFailed → BreaksAtSource way.old.at way.new.at }
     ensures written { IsErrOf result StreamFault.WriteFailed
         → (way.new.at.write_failed ≡ true) ⊎ (O.has_failed out.new ≡ true) }
@@ -144,6 +145,7 @@ pub(crate) fn give<E: Engine, G: Gate>(
     liveness: &mut Liveness,
 ) -> Result<(), StreamFault>
     requires { IsLive E.entries conn server.old }
+    ensures live { IsLive E.entries conn server.new }
     ensures grows { LivesOn conn (Fits E.entries server.old) (Fits E.entries server.new) }
     ensures sits { (r : Rest G) (sent : List ℕ) → IsSome (find conn r.sessions)
         → Sits r conn (setting E.answer G.welcomes r) (Fits E.entries server.old) sent

@@ -1,6 +1,4 @@
-use Rattle.std.proofs.Common.{[], refl, rules, ◌≡◌}
-use Rattle.server.specs.Prelude.{setting}
-use Rattle.loops.proofs.Looped.{loop_begins}
+use Rattle.loops.proofs.Looped.{[], loop_begins, refl, rules, setting, ◌≡◌}
 use Rattle.loops.proofs.loops.open_pair.Goals as goal
 
 pub returns-clause-opens : goal.returns-clause-opens

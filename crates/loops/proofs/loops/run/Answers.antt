@@ -1,7 +1,4 @@
-use Rattle.std.proofs.Common.{inl, refl}
-use Rattle.server.specs.Prelude.{setting}
-use Rattle.scripts.specs.Prelude.{filled_lines, lines_read, request_line_of}
-use Rattle.loops.proofs.Looped.{breaks_none}
+use Rattle.loops.proofs.Looped.{breaks_none, filled_lines, inl, lines_read, refl, request_line_of, setting}
 use Rattle.loops.proofs.loops.run.Goals as goal
 
 pub returns-in-Err-Unreadable-clause-loops : goal.returns-in-Err-Unreadable-clause-loops

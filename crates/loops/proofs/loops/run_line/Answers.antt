@@ -1,26 +1,15 @@
-use Rattle.std.proofs.Common.{ap, inr, ℕ, Err}
-use Rattle.server.specs.Prelude.{setting}
-use Rattle.scripts.specs.Prelude.{ScriptRequestView, script_request_view}
-use Rattle.streams.proofs.Fronts.{front_after}
-use Rattle.prints.proofs.Stops.{cause_of}
-use Rattle.shells.specs.Prelude.{IsAt}
-use Rattle.loops.specs.Prelude.{with_item, with_line}
-use Rattle.loops.proofs.Looped.{breaks_before, comes_line, line_cut, on_at}
+use Rattle.loops.proofs.Looped.{Err, IsAt, ScriptRequestView, ap, breaks_before, cause_of, comes_line, front_after, inr, line_cut, script_request_view, setting}
+use Rattle.loops.proofs.Looped.{with_item, with_line, ℕ}
 use Rattle.loops.proofs.loops.run_line.Goals as goal
 
-pub exchange-requires : goal.exchange-requires
-exchange-requires g c =
-    let o = (rw (← c.ways.view_is) at c.requires).1 in
-    (_, on_at o (comes_line (c.args.line.number, script_request_view c.args.line.said) _ o.comes (c.in-Ok.ensures.submits _ o.comes.client.at)))
-
-pub returns : goal.returns
-returns g c = λ r start t i h0.
+pub returns-clause-goes : goal.returns-clause-goes
+returns-clause-goes g c = λ r start t i h0.
     let h = rw (← c.ways.view_is) at h0 in
     let line : ℕ × ScriptRequestView = (c.args.line.number, script_request_view c.args.line.said) in
-    c.exchange.ensures r start (with_line t line) i (comes_line line _ h (c.in-Ok.ensures.submits _ h.client.at))
+    c.exchange.ensures.goes r start (with_line t line) i (comes_line line _ h (c.in-Ok.ensures.submits _ h.client.at))
 
-pub returns-in-Err : goal.returns-in-Err
-returns-in-Err g c = λ r start t i h0.
+pub returns-in-Err-clause-goes : goal.returns-in-Err-clause-goes
+returns-in-Err-clause-goes g c = λ r start t i h0.
     let h = rw (← c.ways.view_is) at h0 in
     let k = c.in-Err.ensures in
     let n = with_line t (c.args.line.number, script_request_view c.args.line.said) in

@@ -1,49 +1,47 @@
-use Rattle.std.proofs.Common.{◌∙◌, ◌++◌, ◌∷◌, [], append_assoc, rules, sym, ap, subst, ℕ}
-use Rattle.std.proofs.lemmas.List.{nil_from_length}
-use Rattle.server.specs.Prelude.{setting, Fits}
-use Rattle.scripts.specs.Prelude.{said_requests, ScriptRequestView, script_request_view}
-use Rattle.streams.proofs.Parts.{all_done}
-use Rattle.loops.specs.Prelude.{BreaksAt, BreaksIn, Comes, Turns, no_turns, turns_of}
-use Rattle.loops.proofs.Looped.{breaks_line, lines_more, on_at, quiet_none}
+use Rattle.loops.proofs.Looped.{BreaksAt, BreaksIn, Comes, Fits, ScriptRequestView, Turns, [], all_done, ap, append_assoc, breaks_line, lines_more}
+use Rattle.loops.proofs.Looped.{nil_from_length, no_turns, quiet_none, rules, said_requests, script_request_view, setting, subst, sym, turns_of, ℕ, ◌++◌, ◌∙◌}
+use Rattle.loops.proofs.Looped.{◌∷◌}
 use Rattle.loops.proofs.loops.run_lines.Goals as goal
 
 pub returns-in-Err : goal.returns-in-Err
-returns-in-Err g c = λ r start i h. let k = c.in-Err.ensures r start no_turns i h in (k.0, k.1, (0, k.2))
+returns-in-Err g c = λ r start i h. let k = c.in-Err.ensures.goes r start no_turns i h in (k.0, k.1, (0, k.2))
 
 pub loop-line-init : goal.loop-line-init
-loop-line-init g c = λ r start i h.
-    let k = c.in-Ok.ensures r start no_turns i h in
-    let parts = ap said_requests c.into_iter-line-iterator.ensures.into_iter_gives.0 in
-    ([], parts, k.0, quiet_none (setting g.E.Engine.answer g.G.Gate.welcomes r) c.args.conn r.ledger k.1)
-
-pub run_line-requires : goal.run_line-requires
-run_line-requires g c = let o = c.requires in (_, on_at o (c.loop-line.invariant o.rest o.start o.found o.comes).2)
+loop-line-init g c = record {
+  on = c.in-Ok.ensures.on;
+  goes = λ r start i h.
+      let k = c.in-Ok.ensures.goes r start no_turns i h in
+      let parts = ap said_requests c.into_iter-line-iterator.ensures.into_iter_gives.0 in
+      ([], parts, k.0, quiet_none (setting g.E.Engine.answer g.G.Gate.welcomes r) c.args.conn r.ledger k.1);
+}
 
 pub loop-line-preserved : goal.loop-line-preserved
-loop-line-preserved g c = λ r start i h.
-    let p = c.loop-line.invariant r start i h in
-    let S = setting g.E.Engine.answer g.G.Gate.welcomes r in
-    let one : ℕ × ScriptRequestView = (c.in-Some.line.number, script_request_view c.in-Some.line.said) in
-    let parts = ap (λ xs. p.0 ++ said_requests xs) (sym c.in-Some.ensures.steps.0) ∙ p.1 in
-    let n = c.in-Ok-run_line.ensures r start (turns_of S c.args.conn r.ledger p.0) i p.2 in
-    let Came = λ (z : Turns). Comes r c.args.conn S start c.run_line.new.ways.at z c.run_line.new.pair (Fits g.E.Engine.entries c.run_line.new.server) in
-    let all = lines_more S c.args.conn r.ledger Came p.0 one p.3 n in
-    (p.0 ++ one ∷ [], append_assoc p.0 (one ∷ []) (said_requests c.next.new.self.rest.items) ∙ parts, all.0, all.1)
+loop-line-preserved g c = record {
+  on = c.in-Ok-run_line.ensures.on;
+  goes = λ r start i h.
+      let p = c.loop-line.invariant.goes r start i h in
+      let S = setting g.E.Engine.answer g.G.Gate.welcomes r in
+      let one : ℕ × ScriptRequestView = (c.in-Some.line.number, script_request_view c.in-Some.line.said) in
+      let parts = ap (λ xs. p.0 ++ said_requests xs) (sym c.in-Some.ensures.steps.0) ∙ p.1 in
+      let Came = λ (z : Turns). Comes r c.args.conn S start c.run_line.new.ways.at z c.run_line.new.pair (Fits g.E.Engine.entries c.run_line.new.server) in
+      let all = lines_more S c.args.conn r.ledger Came p.0 one p.3 (c.in-Ok-run_line.ensures.goes r start (turns_of S c.args.conn r.ledger p.0) i p.2) in
+      (p.0 ++ one ∷ [], append_assoc p.0 (one ∷ []) (said_requests c.next.new.self.rest.items) ∙ parts, all.0, all.1);
+}
 
 pub returns-in-Err-run_line : goal.returns-in-Err-run_line
 returns-in-Err-run_line g c = λ r start i h.
-    let p = c.loop-line.invariant r start i h in
+    let p = c.loop-line.invariant.goes r start i h in
     let S = setting g.E.Engine.answer g.G.Gate.welcomes r in
     let one : ℕ × ScriptRequestView = (c.in-Some.line.number, script_request_view c.in-Some.line.said) in
     let parts = ap (λ xs. p.0 ++ said_requests xs) (sym c.in-Some.ensures.steps.0) ∙ p.1 in
-    let k = c.in-Err-run_line.ensures r start (turns_of S c.args.conn r.ledger p.0) i p.2 in
+    let k = c.in-Err-run_line.ensures.goes r start (turns_of S c.args.conn r.ledger p.0) i p.2 in
     let now = c.run_line.new.ways.at in
     let there = breaks_line S c.args.conn r.ledger (BreaksIn S c.args.conn r.ledger start now) p.0 one (said_requests c.next.new.self.rest.items) k.2 in
     (k.0, k.1, subst (BreaksAt S c.args.conn r.ledger start now) parts there)
 
 pub returns : goal.returns
 returns g c = λ r start i h.
-    let p = c.loop-line.invariant r start i h in
+    let p = c.loop-line.invariant.goes r start i h in
     let rest = c.loop-line.line-iterator.rest.items in
     let none = ap said_requests (nil_from_length rest (search rules)) in
     rw (← all_done p.0 (said_requests rest) (said_requests c.args.lines.items) none p.1) (p.2, p.3)

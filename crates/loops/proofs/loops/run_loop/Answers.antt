@@ -1,9 +1,5 @@
-use Rattle.std.proofs.Common.{◌≡◌, ◌∙◌, sym, ℕ, Bool, List, Option, Some, ⊎_elim}
-use Rattle.streams.specs.declared.fault.StreamFault.TheVariants.{ReadFailed, WriteFailed, Memory}
-use Rattle.prints.specs.declared.stop.StopReason.{StopReason}
-use Rattle.prints.specs.declared.stop.StopReason.TheVariants.{Unreadable, Broken}
-use Rattle.prints.specs.Prelude.{Gets, stop_status, stop_text}
-use Rattle.loops.specs.Prelude.{Numbers, TellsLine}
+use Rattle.loops.proofs.Looped.{Bool, Broken, Gets, List, Memory, Numbers, Option, ReadFailed, Some, StopReason, TellsLine, Unreadable, WriteFailed}
+use Rattle.loops.proofs.Looped.{stop_status, stop_text, sym, ℕ, ⊎_elim, ◌∙◌, ◌≡◌}
 use Rattle.loops.proofs.loops.run_loop.Goals as goal
 
 -- a status of 0 is that of no stop, and 2 that of a line that can't be read, whose number is told

@@ -1,45 +1,35 @@
-use Rattle.std.proofs.Common.{◌∙◌, ℕ, List, Err, length, drop, inl, ap}
-use Rattle.server.specs.Prelude.{Fits, setting}
-use Rattle.serves.proofs.Called.{grows_by}
-use Rattle.prints.proofs.Stops.{cause_of}
-use Rattle.loops.specs.Prelude.{given}
-use Rattle.loops.proofs.Heard.{reads_nothing}
-use Rattle.loops.proofs.Looped.{answer_due, breaks_given, lets_after, on_lives, source_after, turn_goes}
+use Rattle.loops.proofs.Looped.{Err, Fits, List, answer_due, answer_to, ap, breaks_here, cause_of, drop, grows_by, inl, length, on_ok, outset, setting}
+use Rattle.loops.proofs.Looped.{source_after, turn_goes, ℕ, ◌++◌, ◌∙◌}
 use Rattle.loops.proofs.loops.turn.Goals as goal
 
-pub pass-requires : goal.pass-requires
-pass-requires g c = let o = (rw (← c.ways.view_is) at c.requires).1 in lets_after o.comes.up o.far
-
-pub give-requires : goal.give-requires
-give-requires g c = on_lives c.requires.1
-
-pub hand_over-requires : goal.hand_over-requires
-hand_over-requires g c = let o = (rw (← c.ways.view_is) at c.requires).1 in lets_after o.comes.down o.near
-
-pub returns-in-Err : goal.returns-in-Err
-returns-in-Err g c = λ r start t done after i parts h0.
-    let h = rw (← c.ways.view_is) at h0 in
+pub returns-in-Err-clause-goes : goal.returns-in-Err-clause-goes
+returns-in-Err-clause-goes g c = λ r start t sent after i parts m0.
+    let m = rw (← c.ways.view_is) at m0 in
     let k = c.in-Err.ensures in (
-      h.lives,
-      cause_of c.in-Err.fault _ _ (λ e. inl (source_after h.up (k.read (ap Err e)))) (λ e. inl (k.written (ap Err e))),
-      breaks_given t done c.args.piece.now after parts h reads_nothing,
+      m.lives,
+      cause_of c.in-Err.fault _ _ (λ e. inl (source_after m.up (k.read (ap Err e)))) (λ e. inl (k.written (ap Err e))),
+      breaks_here m (c.args.piece.now ++ after) parts,
     )
 
-pub returns-in-Err-give : goal.returns-in-Err-give
-returns-in-Err-give g c = λ r start t done after i parts h0.
-    let h = rw (← c.ways.view_is) at h0 in
-    let lives = grows_by c.args.conn (Fits g.E.Engine.entries c.args.server.now) (Fits g.E.Engine.entries c.give.new.server) c.give.ensures.grows r i h.lives in
-    rw c.in-Err-give.ensures.fault (lives, tt, breaks_given t done c.args.piece.now after parts h reads_nothing)
+pub returns-in-Err-give-clause-goes : goal.returns-in-Err-give-clause-goes
+returns-in-Err-give-clause-goes g c = λ r start t sent after i parts m0.
+    let m = rw (← c.ways.view_is) at m0 in
+    let lives = grows_by c.args.conn (Fits g.E.Engine.entries c.args.server.now) (Fits g.E.Engine.entries c.give.new.server) c.give.ensures.grows r i m.lives in
+    rw c.in-Err-give.ensures.fault (lives, tt, breaks_here m (c.args.piece.now ++ after) parts)
 
-pub returns : goal.returns
-returns g c = λ r start t done after i parts h0.
-    let h = rw (← c.ways.view_is) at h0 in
+pub returns-clause-on : goal.returns-clause-on
+returns-clause-on g c = on_ok c.hand_over.result c.hand_over.ensures.lets (λ near. (c.give.ensures.live, near, c.in-Ok.ensures.lets))
+
+pub returns-clause-goes : goal.returns-clause-goes
+returns-clause-goes g c = λ r start t sent after i parts m0.
+    let m = rw (← c.ways.view_is) at m0 in
     let Then = Fits g.E.Engine.entries c.give.new.server in
-    let lives = grows_by c.args.conn (Fits g.E.Engine.entries c.args.server.now) Then c.give.ensures.grows r i h.lives in
-    let here = given (setting g.E.Engine.answer g.G.Gate.welcomes r) c.args.conn r.ledger t done in
-    let s = c.in-Ok-give.ensures.sits r here.sent i h.session in
+    let S = setting g.E.Engine.answer g.G.Gate.welcomes r in
+    let to = answer_to S c.args.conn r.ledger in
+    let lives = grows_by c.args.conn (Fits g.E.Engine.entries c.args.server.now) Then c.give.ensures.grows r i m.lives in
+    let s = c.in-Ok-give.ensures.sits r (t.sent ++ sent) i m.session in
     let behind = c.put_out_behind-answer.ensures ∙ ap (λ (z : List ℕ). drop (length z) c.give.new.said.bytes.items) c.bytes-before.ensures in
+    let due = answer_due m Then c.args.piece.now c.give.new.said.bytes.items c.give.new.liveness s behind in
     let k = c.hand_over.ensures in
-    let due = answer_due Then c.args.piece.now c.give.new.said.bytes.items c.give.new.liveness h s behind in
-    turn_goes _ _ t done c.args.piece.now after c.hand_over.result parts h lives c.in-Ok.ensures.passes s
-    (rw due at (k.hears here.place h.client)) k.read k.written
+    let heard = rw due at (k.hears (outset r c.args.conn S start t) (to t.sent sent) (to ((t.sent ++ sent) ++ c.args.piece.now) after) m.heard) in
+    turn_goes m _ _ c.args.piece.now after c.hand_over.result parts lives c.in-Ok.ensures.passes s heard k.read k.written

@@ -1,7 +1,4 @@
-use Rattle.std.proofs.Common.{[], Some}
-use Rattle.server.specs.Prelude.{Fits, setting}
-use Rattle.serves.proofs.Called.{lives_same}
-use Rattle.loops.proofs.Looped.{sits_over, sits_takes}
+use Rattle.loops.proofs.Looped.{Fits, Some, [], lives_same, setting, sits_over, sits_takes}
 use Rattle.loops.proofs.passing.give.Goals as goal
 
 pub returns-in-Over-clause-grows : goal.returns-in-Over-clause-grows

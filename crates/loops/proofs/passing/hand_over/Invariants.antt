@@ -1,6 +1,4 @@
-use Rattle.std.proofs.Common.{◌≡◌, ◌++◌, ℕ, List, length}
-use Rattle.shells.specs.Prelude.{Place}
-use Rattle.loops.specs.Prelude.{IsHeardAll, Passes, StandsAt}
+use Rattle.loops.proofs.Looped.{HasHeard, LetsReadWaiting, List, Outset, Passes, length, ℕ, ◌++◌, ◌≡◌}
 use Rattle.loops.proofs.passing.hand_over.Given as goal
 
 -- some of it passed, was heard and is printed
@@ -9,7 +7,9 @@ invariant-loop-rest g l = record {
   done : List ℕ;
   parts : done ++ l.rest ≡ l.fn.bytes;
   passes : Passes l.fn.way.at l.way.at done;
-  heard : (p : Place) → StandsAt l.fn.caller p → IsHeardAll p done l.caller (g.O.Sink.taken l.fn.out) (g.O.Sink.taken l.out);
+  lets : LetsReadWaiting g.S.PeerSource.left g.S.PeerSource.may_read l.way.at;
+  heard : (o : Outset) (before : List ℕ) → HasHeard o before l.fn.way.at (g.O.Sink.taken l.fn.out) l.fn.caller
+      → HasHeard o (before ++ done) l.way.at (g.O.Sink.taken l.out) l.caller;
 }
 
 abbrev pub decreases-loop-rest : goal.decreases-loop-rest

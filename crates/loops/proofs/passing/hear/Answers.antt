@@ -1,13 +1,6 @@
-use Rattle.std.proofs.Common.{◌≡◌, ◌∙◌, ◌++◌, [], append_assoc, append-nil, rules, refl, sym, ap, map, List}
-use Rattle.std.proofs.lemmas.List.{nil_from_length}
-use Rattle.std.proofs.KnownBytes.{Appends-nil, Appends-trans}
-use Rattle.client.specs.declared.heard.Heard.{Heard}
-use Rattle.client.specs.Prelude.{note, rest_of}
-use Rattle.streams.proofs.Fronts.{front_after}
-use Rattle.prints.specs.Prelude.{note_text}
-use Rattle.shells.specs.Prelude.{notes_text, version_after, versions_after}
-use Rattle.loops.specs.Prelude.{with_item}
-use Rattle.loops.proofs.Heard.{front_in, heard_as_fed, heard_front, line_front}
+use Rattle.loops.proofs.Looped.{Appends-nil, Appends-trans, Heard, List, [], ap, append-nil, append_assoc, front_after, front_in, heard_as_fed, heard_front}
+use Rattle.loops.proofs.Looped.{line_front, map, nil_from_length, note, note_text, notes_text, refl, rest_of, rules, sym, version_after, versions_after}
+use Rattle.loops.proofs.Looped.{with_item, ◌++◌, ◌∙◌, ◌≡◌}
 use Rattle.loops.proofs.passing.hear.Goals as goal
 
 pub loop-one-init : goal.loop-one-init

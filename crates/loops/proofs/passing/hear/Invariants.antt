@@ -1,7 +1,4 @@
-use Rattle.std.proofs.Common.{◌≡◌, ◌++◌, ℕ, List, map}
-use Rattle.std.specs.Io.KnownBytes.{Appends}
-use Rattle.client.specs.Prelude.{note}
-use Rattle.shells.specs.Prelude.{versions_after, notes_text}
+use Rattle.loops.proofs.Looped.{Appends, List, map, note, notes_text, versions_after, ℕ, ◌++◌, ◌≡◌}
 use Rattle.loops.proofs.passing.hear.Given as goal
 
 -- some of what was told is printed, and the rest follows at the version that is known by then

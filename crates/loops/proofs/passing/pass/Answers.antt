@@ -1,7 +1,5 @@
-use Rattle.std.proofs.Common.{◌≡◌, ◌∙◌, ℕ, List, true, true≢false, sym, ap, subst, not, bytes_eq, take_at, inr, rules}
-use Rattle.std.proofs.lemmas.Bool.{not-false, not-true}
-use Rattle.std.specs.Io.KnownBytes.{Consumes}
-use Rattle.cells.proofs.Equality.{bytes_are, bytes_is}
+use Rattle.loops.proofs.Looped.{Consumes, List, ap, bytes_are, bytes_eq, bytes_is, inr, lets_after, not, not-false, not-true, rules, subst, sym, take_at, true}
+use Rattle.loops.proofs.Looped.{true≢false, ℕ, ◌∙◌, ◌≡◌}
 use Rattle.loops.proofs.passing.pass.Goals as goal
 
 -- what was compared
@@ -16,6 +14,9 @@ returns-clause-passes g c =
     let same = bytes_are got c.args.bytes.now (not-false (bytes_eq got c.args.bytes.now) (sym c.ne.ensures ∙ c.if-ne.false)) in
     let gave = subst (Consumes (left c.way.inside.source) (left c.read_known.new.source)) (sym read ∙ same) c.in_ok-read_known.ensures.reads in
     rw (← c.way.view_is) (record { took = search rules; gave = gave })
+
+pub returns-clause-lets : goal.returns-clause-lets
+returns-clause-lets g c = lets_after (returns-clause-passes g c) c.requires
 
 pub returns-then-ne-clause-read : goal.returns-then-ne-clause-read
 returns-then-ne-clause-read g c = λ e.

@@ -1,9 +1,5 @@
-use Rattle.std.proofs.Common.{◌≡◌, ◌∙◌, ◌++◌, ◌+◌, ◌-◌, ◌≤◌, ℕ, List, length, take, ap, sym, subst, rules}
-use Rattle.std.proofs.Math.Seq.{take-append-add}
-use Rattle.std.proofs.lemmas.List.{length-take-le, take-append-le}
-use Rattle.std.specs.Io.KnownBytes.{Consumes}
-use Rattle.std.proofs.KnownBytes.{Consumes-trans}
-use borrow.Rule.Slice.PartMut.{post_of, put_mid}
+use Rattle.loops.proofs.Looped.{Consumes, Consumes-trans, List, ap, length, length-take-le, post_of, put_mid, rules, subst, sym, take, take-append-add}
+use Rattle.loops.proofs.Looped.{take-append-le, ℕ, ◌++◌, ◌+◌, ◌-◌, ◌∙◌, ◌≡◌, ◌≤◌}
 use Rattle.loops.proofs.passing.read_known.Goals as goal
 
 -- bytes that were read into the rest of a buffer

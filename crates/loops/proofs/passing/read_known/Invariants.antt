@@ -1,5 +1,4 @@
-use Rattle.std.proofs.Common.{◌≡◌, ◌≤◌, ◌-◌, length, take}
-use Rattle.std.specs.Io.KnownBytes.{Consumes}
+use Rattle.loops.proofs.Looped.{Consumes, length, take, ◌-◌, ◌≡◌, ◌≤◌}
 use Rattle.loops.proofs.passing.read_known.Given as goal
 
 -- so many were read
