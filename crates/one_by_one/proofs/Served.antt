@@ -1,11 +1,9 @@
 -- One connection after another, on a server that has no other.
-use Rattle.std.proofs.Common.{◌≡◌, refl, sym, ap, subst, ◌∙◌, ℕ, ◌+◌, List, [], ◌++◌, eqb, true, Some, Ok, Err, arith, IsSome}
+use Rattle.std.proofs.Common.{◌≡◌, refl, sym, ap, subst, ℕ, ◌+◌, List, [], ◌++◌, eqb, true, Some, Err, arith, IsSome}
 use Rattle.std.proofs.lemmas.Bool.Decides.{nat_tests}
 use Rattle.server.specs.declared.kinds.Refused.{Refused}
 use Rattle.server.specs.declared.kinds.Refused.TheVariants.{NoSuchConnection, SessionsFull, Memory}
-use Rattle.engine.specs.Prelude.{EntryView}
-use Rattle.server.specs.declared.server.Server.{Server}
-use Rattle.server.specs.Prelude.{Fits, Live, Rest, find, without, fresh, opened, Opens, rest_of}
+use Rattle.server.specs.Prelude.{Live, Rest, find, without, fresh, opened, Opens}
 use Rattle.serves.specs.Prelude.{LeavesOthers}
 use Rattle.one_by_one.specs.Prelude.{HasOpened, HasServed}
 
@@ -13,14 +11,10 @@ eqb-same : (n : ℕ) → eqb n n ≡ true
 eqb-same n = grind (arith, nat_tests)
 
 -- nothing was opened
-pub not_opened : {E G : Type 0} (entries : E → List EntryView) (a b : Server E G) (e : Refused) → Opens (Err e) (rest_of entries a) (rest_of entries b) → (r : Rest G) → Fits entries a r → Fits entries b r
-not_opened entries a b NoSuchConnection h r f = absurd h
-not_opened entries a b SessionsFull h r f = h.1 ∙ f
-not_opened entries a b Memory h r f = h.1 ∙ f
-
--- or a session, with the next number
-pub has_opened : {E G : Type 0} (entries : E → List EntryView) (a b : Server E G) (conn : ℕ) → Opens (Ok conn) (rest_of entries a) (rest_of entries b) → (r : Rest G) → Fits entries a r → HasOpened r conn (Fits entries b)
-has_opened {G = G} entries a b conn h r f = record { number = h.1 ∙ ap (λ (x : Rest G). x.next) f; now = h.2 ∙ ap opened f }
+pub not_opened : {G : Type 0} (a b : Rest G) (e : Refused) → Opens (Err e) a b → b ≡ a
+not_opened a b NoSuchConnection h = absurd h
+not_opened a b SessionsFull h = h.1
+not_opened a b Memory h = h.1
 
 pub found_by : {G : Type 0} (r : Rest G) {conn : ℕ} → r.sessions ≡ [] → conn ≡ r.next → find conn (opened r).sessions ≡ Some (fresh conn)
 found_by r {conn = conn} none e = rw (none, e, eqb-same r.next) refl

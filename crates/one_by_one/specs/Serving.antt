@@ -1,5 +1,5 @@
 -- What serving one connection after another does.
-use Rattle.std.specs.Prelude.{◌≡◌, ◌⊎◌, ◌≤◌, ℕ, ◌+◌, Bool, true, List, [], ◌++◌, length, Option, Some, None, Result, Ok, Err, IfErr}
+use Rattle.std.specs.Prelude.{◌≡◌, ◌⊎◌, ◌≤◌, ℕ, ◌+◌, true, List, [], ◌++◌, length, Some, None, Result, Ok, Err, IfErr}
 use Rattle.std.specs.Io.KnownBytes.{Consumes, IsAtEnd}
 use Rattle.engine.specs.Views.{EntryView}
 use Rattle.session.specs.declared.kinds.Cause.{Cause}

@@ -1,10 +1,9 @@
 //! A server of one connection after another.
-ghost use Rattle.std.specs.Prelude.{◌≡◌, [], Some, IsSome, true, IfErr, IfOk, MatchResult, OnOk, OnErr, IsErrOf};
+ghost use Rattle.std.specs.Prelude.{◌≡◌, [], true, IfErr, IfOk, MatchResult, OnOk, OnErr, IsErrOf};
 ghost use Rattle.std.specs.Io.KnownBytes.{Appends};
-ghost use Rattle.server.specs.Serving.{Rest, find, fresh, opened, setting};
+ghost use Rattle.server.specs.Serving.{Rest, opened, setting};
 ghost use Rattle.server.specs.Views.{Fits};
 ghost use Rattle.serves.specs.Settling.{IsLive};
-ghost use Rattle.serves.specs.Serving.{LeavesOthers};
 ghost use Rattle.prints.specs.Telling.{conn_line};
 ghost use Rattle.one_by_one.specs.Serving.{Drains, IsVacant, HasOpened, HasServed, MayHaveServed, ServesSo, told_of};
 
@@ -104,7 +103,7 @@ pub fn open_session<E: Engine, G: Gate>(server: &mut Server<E, G>) -> Result<u64
     }
 }
 
-/// Serves a session, and gives it up. If a stream fails, or memory runs out, it was lost, by that fault.
+/// Serves a session that was opened, and gives it up. If a stream fails, or memory runs out, it was lost, by that fault.
 fn serve_opened<E: Engine, G: Gate, I: Source, O: Sink>(
     alloc: Global,
     server: &mut Server<E, G>,
@@ -112,11 +111,10 @@ fn serve_opened<E: Engine, G: Gate, I: Source, O: Sink>(
     streams: &mut ServerStreams<I, O>,
 ) -> ServedOne
     requires { IsLive E.entries conn server.old }
-    ensures leaves { (r : Rest G) → Fits E.entries server.old r → IsSome (find conn r.sessions)
-        → LeavesOthers r conn (Fits E.entries server.new) }
-    ensures serves { (r : Rest G) → Fits E.entries server.old r
-        → find conn r.sessions ≡ Some (fresh conn)
-        → ServesSo r conn (setting E.answer G.welcomes r) (Fits E.entries server.new)
+    ensures served { (r : Rest G) → HasOpened r conn (Fits E.entries server.old) → r.sessions ≡ []
+        → HasServed r (Fits E.entries server.new) }
+    ensures serves { (r : Rest G) → HasOpened r conn (Fits E.entries server.old) → r.sessions ≡ []
+        → ServesSo (opened r) r.next (setting E.answer G.welcomes r) (Fits E.entries server.new)
         streams.old.at streams.new.at result }
 {
     let served = serve_one(alloc, server, conn, &mut streams.source, &mut streams.sink);

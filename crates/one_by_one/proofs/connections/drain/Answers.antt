@@ -12,7 +12,8 @@ loop-preserved g c =
     let lower : g.I.Source.reads c.read.new.self < g.I.Source.reads c.loop.streams-inside.source = c.in-Ok.ensures.lowers some in
     record {
       dropped = i.dropped ++ piece;
-      read = Consumes-trans c.args.streams.now.at.left (g.I.Source.left c.loop.streams-inside.source) (g.I.Source.left c.read.new.self) i.dropped piece i.read c.in-Ok.ensures.bytes.0;
+      read = Consumes-trans c.args.streams.now.at.left (g.I.Source.left c.loop.streams-inside.source) (g.I.Source.left c.read.new.self) i.dropped piece i.read
+          c.in-Ok.ensures.bytes.0;
       few = omega (arith, i.few, few, all);
       reads = omega (arith, i.reads, lower);
       written = i.written;
