@@ -1,19 +1,6 @@
--- The lines of a shell, one after the other, and how it stops.
-use Rattle.std.proofs.lemmas.List.Splits.{slice_split_at, slice_split_none}
-use Rattle.std.specs.Option.{option_map}
-use Rattle.client.specs.declared.SubmitFault.{SubmitFault}
-use Rattle.shells.specs.declared.shells.Conversation.{Conversation}
-use Rattle.prints.specs.declared.stop.StopReason.{StopReason}
-use Rattle.prints.proofs.Stops.{cause_of}
-use Rattle.shells.proofs.Words.{◌≡◌, refl, sym, ap, subst, ◌∙◌, ℕ, ◌+◌, ◌==◌, Bool, false, List, [], ◌∷◌, ◌++◌, append_assoc, append-nil, Option, Some, None}
-use Rattle.shells.proofs.Words.{Result, Ok, Err, inl, inr, All, not-suc-le-zero, length, take, drop, get_or, ◌<◌, drop-cons, add-one, take-append-drop, Appends}
-use Rattle.shells.proofs.Words.{Consumes, IsAtEnd, Appends-nil, Consumes-nil, result_err, RequestView, refuses, StreamFault, WriteFailed, Memory, ReadFailed}
-use Rattle.shells.proofs.Words.{StaysSound, UnlessTold, Text, ScriptRequestView, lines, filled_from, filled_lines, meant, request_line_of, Caller, AreDone}
-use Rattle.shells.proofs.Words.{Asks, Does, DoesMore, Exchanges, IsAt, IsPart, Place, Progress, Reaches, Runs, StopsIn, Streams, Submits, Talked, TalksLine}
-use Rattle.shells.proofs.Words.{answers_line, first_place, greeting, greeting_of, if_filled, next_line, breaks_off, fails_first, refuses_line}
-use Rattle.shells.proofs.Words.{submitted, fault_in, Unreadable, Broken, Gets, refusal_code, refused_line, IsStopOf, stop_status}
-use Rattle.shells.proofs.Heard.{nothing_heard}
-use Rattle.shells.proofs.Moved.{moves_none, moves_printed, moves_sent, moves_then, moves_weak}
+-- The lines of a shell, one after the other, how it stops, and that each request has one line.
+pub mod Exchanged
+pub use Exchanged.*
 
 filled_first : (n : ℕ) (l : Text) (ls : List Text) → filled_from n (l ∷ ls) ≡ if_filled n l ++ filled_from (n + 1) ls
 filled_first n [] ls = refl
@@ -34,18 +21,19 @@ pub does_none : {start now : Streams} {done : List (ℕ × Text)} {c : Caller} (
     → Reaches start now done c → Does (Some stop) start now all
 does_none (Unreadable n) e r = record { done = _; lines = e; place = r.place; talked = r.talked }
 does_none {now = now} {done = done} (Broken f) e r =
-    record { done = done; lines = e; place = r.place; talked = breaks_off f done now now r.place r.talked (moves_weak (Some f) (moves_none now)) }
-
-pub greeted : {c : Caller} {p : Place} {ended : Bool} (d e : Bool) (a b : Option (List ℕ)) → IsAt c p → ended ≡ p.rest.knows.over
-    → Gets d e a b (greeting_of ended c.version) → Gets d e a b (greeting p)
-greeted d e a b at same h = rw (← same, ← at.version) h
+    record { done = done; lines = e; place = r.place; talked = breaks_off f done now now r.place r.talked (moves_none now) }
 
 -- nothing was done, for want of memory
 pub nothing_done : (now : Streams) → Does (Some (Broken Memory)) now now []
 nothing_done now =
     let unsent = first_place.rest.unsent in
-    let moves = moves_sent (Some Memory) now now.written now.write_failed unsent ([], unsent, refl, Appends-nil now.written) (λ _ f. f) in
-    let x : Exchanges (Some Memory) first_place now now = record { out = 0; heard = nothing_heard (Some Memory) _; moves = moves; ends = λ e. absurd cc } in
+    let none = moves_none {fault = Some Memory} now in
+    let sent : AppendsFront now.written now.written unsent = ([], unsent, refl, Appends-nil now.written) in
+    let moves : Moves (Some Memory) now now (record (said [] []) { sent = unsent }) =
+    record { read = none.read; sent = sent; printed = none.printed; told = none.told; source = none.source; sinks = none.sinks } in
+    let heard : HeardUpTo (Some Memory) (sent_out first_place 0) =
+    record { fed = []; unheard = []; needed = inl refl; whole = λ _. inl refl; printed = []; told = []; prints = inl prints_none } in
+    let x : Exchanges (Some Memory) first_place now now = record { out = 0; heard = heard; moves = moves; ends = λ e. absurd cc } in
     record { done = []; lines = ([], refl); place = _; talked = fails_first Memory now x }
 
 -- those of some lines, and others behind them that weren't looked at
@@ -158,3 +146,202 @@ sound_unless (Broken f) ends n fault one e = let same : f ≡ fault = cc in n (e
 pub unless_so : {T E : Type 0} (x : Result T E) (f : E) (A : Type 0) → A → UnlessTold x f A
 unless_so (Ok t) f A a = a
 unless_so (Err e) f A a = λ n. a
+
+-- the summary of the request with this ordinal is among notes
+abbrev IsAnswered : ℕ → List Note → Type 0
+IsAnswered n notes = (phase : Phase) × (outcome : Outcome) × (said : ResponseView) × Contains notes (Summary n phase outcome said)
+
+-- Of requests that waited, from this ordinal on, some were answered, and the others wait.
+abbrev Answers : List RequestView → ℕ → List Note → Knows → Type 0
+Answers [] n notes k = (k.waiting ≡ []) × (k.first ≡ n)
+Answers (q ∷ qs) n notes k = ((k.waiting ≡ q ∷ qs) × (k.first ≡ n)) ⊎ (IsAnswered n notes × Answers qs (suc n) notes k)
+
+answers_none : (k : Knows) (ws : List RequestView) → k.waiting ≡ ws → Answers ws k.first [] k
+answers_none k [] e = (e, refl)
+answers_none k (q ∷ qs) e = inl (e, refl)
+
+answers_behind : (front : List Note) (ws : List RequestView) (n : ℕ) (notes : List Note) (k : Knows) → Answers ws n notes k → Answers ws n (front ++ notes) k
+answers_behind front [] n notes k h = h
+answers_behind front (q ∷ qs) n notes k (inl h) = inl h
+answers_behind front (q ∷ qs) n notes k (inr h) =
+    inr ((h.0.0, h.0.1, h.0.2, Contains-append_right front notes _ h.0.3), answers_behind front qs (suc n) notes k h.1)
+
+answers_step : (wish : Wish) (k : Knows) (x : Heard) (h : Hearing) (t : Tale) → Makes wish k x h → Answers h.knows.waiting h.knows.first t.notes t.knows
+    → Answers k.waiting k.first (notes_of x h ++ t.notes) t.knows
+answers_step wish k x h t (tells_summary a s) more =
+    let told = Summary k.first s.next (outcome_of k.phase (kind_of s.first) s.verdict) a in
+    rw s.waits (inr ((_, _, _, (0, zero-lt-suc _, refl)), answers_behind (told ∷ []) s.later (suc k.first) t.notes t.knows (rw s.waits at more)))
+answers_step wish k x h t _ more = answers_behind (notes_of x h) k.waiting k.first t.notes t.knows more
+
+answers : (wish : Wish) (k : Knows) (items : List Item) → (let t = tale_of wish k items in Answers k.waiting k.first t.notes t.knows)
+answers wish k [] = answers_none k k.waiting refl
+answers wish k (x ∷ xs) =
+    let said = heard_as k.version x in
+    let h = hears_item wish k said in
+    let rest = tale_of wish h.knows xs in
+    cond_both k.over (record { knows = k; notes = [] }) (after_notes (notes_of said h) rest) (λ (t : Tale). Answers k.waiting k.first t.notes t.knows)
+    (λ _. answers_none k k.waiting refl) (λ _. answers_step wish k said h rest (makes wish k said) (answers wish h.knows xs))
+
+has_before : (line : List ℕ) {text : List ℕ} (front : List ℕ) → Has line text → Has line (front ++ text)
+has_before line front h = (front ++ h.0, h.1, simp (h.2, append_assoc))
+
+has_behind : (line : List ℕ) {text : List ℕ} (more : List ℕ) → Has line text → Has line (text ++ more)
+has_behind line more h = (h.0, h.1 ++ more, simp (h.2, append_assoc))
+
+module _ (n : ℕ) (phase : Phase) (outcome : Outcome) (said : ResponseView) where
+  abbrev summary : Note
+  summary = Summary n phase outcome said
+
+  abbrev line : List ℕ
+  line = heard_line n (outcome_name outcome) (phase_name phase)
+
+  in_summaries : (notes : List Note) → Contains notes summary → Has line (summaries_text notes)
+  in_summaries [] i = absurd (not-suc-le-zero i.1)
+  in_summaries (x ∷ xs) (zero, lt, e) = ([], summaries_text xs, ap (λ (z : Note). summary_line z ++ summaries_text xs) e)
+  in_summaries (x ∷ xs) (suc k, lt, e) = has_before line (summary_line x) (in_summaries xs (k, le_of_suc-le-suc lt, e))
+
+  -- it is printed, or told
+  has_line : {v : Version} {fault : Option StreamFault} {notes : List Note} {printed told : List ℕ} → Prints v fault notes printed told → Contains notes summary
+      → Has line printed ⊎ Has line told
+  has_line prints_none i = absurd (not-suc-le-zero i.1)
+  has_line (prints_one {printed = printed} x) (zero, lt, e) = rw e (inl ([], failure_told summary ++ printed, simp append_assoc))
+  has_line (prints_one {v = v} {n = n} x) (suc k, lt, e) =
+      ⊎_elim (λ h. inl (has_before line (explained (version_after v n) n) h)) inr (has_line x (k, le_of_suc-le-suc lt, e))
+  has_line (cut_at (unmade cells is)) (zero, lt, e) = absurd cc
+  has_line (cut_at {n = n} {rest = rest} (in_line front p)) (zero, lt, e) = inr (in_summaries (n ∷ rest) (zero, lt, e))
+  has_line (cut_at {v = v} {n = n} (behind_line fault front p)) (zero, lt, e) =
+      inl ([], front, ap (λ (z : Note). note_text (version_after v n) z ++ front) e)
+  has_line (cut_at {rest = rest} {told = told} c) (suc k, lt, e) = inr (has_before line told (in_summaries rest (k, le_of_suc-le-suc lt, e)))
+
+-- one that waits is lost, unless nothing but a GOODBYE does
+lost_by : (over none goodbye : Bool) (ls : List (ℕ × Outcome)) → (goodbye ≡ true)
+    ⊎ (let awaits = cond over false (cond none true (not goodbye || false)) in cond (not awaits && not over) [] (cond (not awaits && false) [] ls) ≡ ls)
+lost_by over none true ls = inl refl
+lost_by true none false ls = inr refl
+lost_by false true false ls = inr refl
+lost_by false false false ls = inr refl
+
+module _ (k : Knows) (q : RequestView) (waits : k.waiting ≡ q ∷ []) where
+  not_answered : all_answered k ≡ false
+  not_answered = unanswered_waits k (rw waits (omega arith))
+
+  lost_one : (is_goodbye (kind_of q) ≡ true) ⊎ (lost_of k ≡ losses k)
+  lost_one = rw waits (lost_by k.over (is_none k.version) (is_goodbye (kind_of q)) _)
+
+-- nothing waits, and so many were answered
+abbrev NoneWaits : ℕ → Knows → Type 0
+NoneWaits n k = (k.waiting ≡ []) × (k.first ≡ n)
+
+module _ {fault : Option StreamFault} {p : Place} {a b : Streams} (x : Exchanges fault p a b) where
+  abbrev heard : Rest
+  heard = (heard_place x.heard).rest
+
+  abbrev then : Rest
+  then = (parted x.heard).rest
+
+  sent_all : fault ≡ None → then.unsent ≡ []
+  sent_all e = cond_both (all_answered heard.knows) heard (after_drop heard) (λ (r : Rest). r.unsent ≡ []) (λ _. (x.ends e).0) (λ _. (x.ends e).0)
+
+  -- a client that goes on had all answered
+  goes_on : then.knows.over ≡ false → (then.knows ≡ heard.knows) × (all_answered heard.knows ≡ true)
+  goes_on = cond_both (all_answered heard.knows) heard (after_drop heard)
+      (λ (r : Rest). r.knows.over ≡ false → (r.knows ≡ heard.knows) × (all_answered heard.knows ≡ true)) (λ e o. (refl, e)) (λ e o. absurd (true≢false o))
+
+  then_none : {n : ℕ} → then.knows.over ≡ false → NoneWaits n heard.knows → NoneWaits n then.knows
+  then_none {n = n} o h = subst (NoneWaits n) (sym (goes_on o).0) h
+
+  -- what was heard of those that waited
+  so_answered : (ws : List RequestView) (n : ℕ) → p.rest.knows.waiting ≡ ws → p.rest.knows.first ≡ n
+      → Answers ws n (hears_all p.rest x.heard.fed).notes heard.knows
+  so_answered ws n e f =
+      let notes = (hears_all p.rest x.heard.fed).notes in
+      subst (λ (m : ℕ). Answers ws m notes heard.knows) f (subst (λ (us : List RequestView). Answers us p.rest.knows.first notes heard.knows) e
+      (answers p.rest.wish p.rest.knows (outputs at_client p.rest.item x.heard.fed)))
+
+  module _ (q : RequestView) (n : ℕ) where
+    abbrev Fated : ℕ → Type 0
+    Fated m = HasFate m q x.heard.printed (x.heard.told ++ parting fault heard.knows)
+
+    no_answer : heard.knows.waiting ≡ q ∷ [] → Fated heard.knows.first
+    no_answer e =
+        let k = heard.knows in
+        let v = unwrap_or k.version V51 in
+        let o = lost_outcome v k 0 in
+        let first : k.first + 0 ≡ k.first = omega arith in
+        let lost : lost_of k ≡ losses k → Has (lost_line (k.first, o)) (losses_text (lost_of k) ++ why_text fault k) =
+        λ l. rw (l ∙ ap (losses_from v k 0) e ∙ ap (λ (m : ℕ). (m, o) ∷ []) first) ([], why_text fault k, simp append_assoc) in
+        ⊎_elim unanswered (λ l. at_loss o (has_before (lost_line (k.first, o)) x.heard.told (lost l))) (lost_one k q e)
+
+    an_answer : IsAnswered n (hears_all p.rest x.heard.fed).notes → Fated n
+    an_answer (phase, outcome, said, i) = ⊎_elim (on_output phase outcome) (λ h. on_errors phase outcome (has_behind (line n phase outcome said) _ h))
+        (⊎_elim (λ h. has_line n phase outcome said h i) (λ h. has_line n phase outcome said h.1 i) x.heard.prints)
+
+    -- its summary came, or none, and where the client stands then
+    one_exchange : p.rest.knows.waiting ≡ q ∷ [] → p.rest.knows.first ≡ n → Fated n × (then.knows.over ≡ false → NoneWaits (suc n) then.knows)
+    one_exchange e f = ⊎_elim (λ h. (subst Fated h.1 (no_answer h.0), λ o. absurd (true≢false (sym (goes_on o).1 ∙ not_answered heard.knows q h.0))))
+        (λ h. (an_answer h.0, λ o. then_none o h.1)) (so_answered (q ∷ []) n e f)
+
+-- what the streams got of it, and what became of its requests
+pub record SoFar (fault : Option StreamFault) (start now : Streams) (p : Place) : Type 0 where
+  log : Log
+  moves : Moves fault start now log
+  requests : ℕ
+  lines : EachHasALine requests log.sent log.printed log.told
+  next : fault ≡ None → p.rest.knows.over ≡ false → NoneWaits requests p.rest.knows
+  unsent : fault ≡ None → p.rest.unsent ≡ []
+
+-- more is printed and told
+more_said : {fault : Option StreamFault} {start mid now : Streams} {p : Place} (part told : List ℕ) → SoFar None start mid p
+    → Moves fault mid now (said part told) → SoFar fault start now p
+more_said part told so m =
+    let lines : EachHasALine so.requests (so.log.sent ++ []) (so.log.printed ++ part) (so.log.told ++ told) = rw append-nil (other_text part told so.lines) in
+    record { log = _; moves = moves_then so.moves m; requests = so.requests; lines = lines; next = λ _. so.next refl; unsent = λ _. so.unsent refl }
+
+first_so_far : {fault : Option StreamFault} {a b : Streams} (x : Exchanges fault first_place a b) → SoFar fault a b (parted x.heard)
+first_so_far x =
+    let lines = other_text x.heard.printed (parting_log [] x.heard).told no_request in
+    record { log = _; moves = x.moves; requests = 0; lines = lines; next = λ _ o. then_none x o (so_answered x [] 0 refl refl); unsent = sent_all x }
+
+line_so_far : {fault : Option StreamFault} {l : ℕ × Text} {start mid now : Streams} {p r : Place} → SoFar None start mid p → TalksLine fault p l mid now r
+    → SoFar fault start now r
+line_so_far so (refuses_line q why code part e r c some m) = more_said part [] so m
+line_so_far {p = p} so (answers_line q e d x) =
+    let asked = meant p.version q in
+    let known = p.rest.knows.version in
+    let w = so.next refl (accepted_facts p.rest.knows asked d).0 in
+    let did = one_exchange x asked so.requests (ap (λ (ws : List RequestView). ws ++ asked ∷ []) w.0) w.1 in
+    let l = parting_log (submitted p asked).rest.unsent x.heard in
+    let all = and_then so.log l in
+    let Each = λ (z : List ℕ). EachHasALine (suc so.requests) (so.log.sent ++ (z ++ asking_bytes known asked)) all.printed all.told in
+    let lines = subst Each (sym (so.unsent refl)) (a_request known asked l.printed l.told so.lines did.0) in
+    record { log = all; moves = moves_then so.moves x.moves; requests = suc so.requests; lines = lines; next = λ _. did.1; unsent = sent_all x }
+
+pub so_far : {start : Streams} {fault : Option StreamFault} {now : Streams} {ls : List (ℕ × Text)} {p : Place} → Talked start fault ls now p
+    → SoFar fault start now p
+so_far (opens mid now x m) = more_said [] (greeting (parted x.heard)) (first_so_far x) m
+so_far (fails_first fault now x) = first_so_far x
+so_far (next_line fault ls l mid now p r h x) = line_so_far (so_far h) x
+so_far (breaks_off fault ls mid now p h m) = more_said [] [] (so_far h) m
+
+-- each stream is as sound as it was, unless a fault tells of it
+pub is_sound : {fault : Option StreamFault} {start mid : Streams} {p : Place} (told : Option (List ℕ)) (deaf : Bool) (so : SoFar fault start mid p)
+    → (fault ≡ Some ReadFailed → ⊥) → (fault ≡ Some WriteFailed → ⊥) → IsSound start (record mid { told = told; deaf = deaf })
+is_sound told deaf so r w = record { source = so.moves.source r; sink = (so.moves.sinks w).0; out = (so.moves.sinks w).1 }
+
+put_front : (whole : Bool) (a b : Option (List ℕ)) (xs : List ℕ) → Puts whole a b xs → AppendsFront a b xs
+put_front true a b xs h = front_whole a b xs h
+put_front false a b xs h = h
+
+-- and what is told behind it
+pub accounts : {fault : Option StreamFault} {start mid : Streams} {p : Place} (told : Option (List ℕ)) (deaf : Bool) (text : List ℕ) → SoFar fault start mid p
+    → Gets mid.deaf deaf mid.told told text → Accounts start (record mid { told = told; deaf = deaf })
+accounts {fault = fault} {start = start} {mid = mid} told deaf text so h = record {
+  requests = so.requests;
+  sent = so.log.sent;
+  printed = so.log.printed ++ [];
+  told = so.log.told ++ text;
+  put = put_front (is_printed fault) start.written mid.written so.log.sent so.moves.sent;
+  output = rw append-nil so.moves.printed;
+  errors = gets_then start.deaf mid.deaf deaf start.told mid.told told so.log.told text so.moves.told h;
+  lines = other_text [] text so.lines;
+}

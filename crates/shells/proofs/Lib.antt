@@ -1,6 +1,2 @@
-pub mod Words
-pub mod Moved
 pub mod Printed
-pub mod Heard
 pub mod Followed
-pub mod Accounted

@@ -40,10 +40,6 @@ failure_told (Summary ordinal phase outcome said) = failure_line said
 abbrev pub explained : Version → Note → List ℕ
 explained v n = note_text v n ++ failure_told n
 
--- the same of notes
-abbrev pub explained_all : Version → List Note → List ℕ
-explained_all = texts_of explained
-
 -- the line of a summary, and of nothing else
 abbrev pub summary_line : Note → List ℕ
 summary_line Nothing = []
@@ -69,11 +65,13 @@ pub data IsCut (v : Version) (n : Note) : StreamFault → List ℕ → List ℕ 
   behind_line : (fault : StreamFault) (front : List ℕ) → IsFront front (failure_told n)
       → IsCut v n fault (note_text v n ++ front) []
 
--- Notes are printed, all of them; or a fault comes at one: those before it are printed, and of it what is cut so, and each summary behind it is
--- told on standard error.
-pub data Prints (v : Version) : Option StreamFault → List Note → List ℕ → List ℕ → Type 0 where
-  all_of : (notes : List Note) → Prints v None notes (explained_all v notes) []
-  cut_at : (fault : StreamFault) (shown : List Note) (n : Note) (rest : List Note)
-      (part told : List ℕ) → IsCut (version_after (versions_after v shown) n) n fault part told
-      → Prints v (Some fault) (shown ++ n ∷ rest) (explained_all v shown ++ part)
-      (told ++ summaries_text rest)
+-- Notes are printed, one after the other; or a fault comes at one: of it is printed what is cut so, and each summary behind it is told on
+-- standard error.
+pub data Prints : Version → Option StreamFault → List Note → List ℕ → List ℕ → Type 0 where
+  prints_none : {v : Version} → Prints v None [] [] []
+  prints_one : {v : Version} {fault : Option StreamFault} {n : Note} {rest : List Note}
+      {printed told : List ℕ} → Prints (version_after v n) fault rest printed told
+      → Prints v fault (n ∷ rest) (explained (version_after v n) n ++ printed) told
+  cut_at : {v : Version} {fault : StreamFault} {n : Note} {rest : List Note} {part told : List ℕ}
+      → IsCut (version_after v n) n fault part told
+      → Prints v (Some fault) (n ∷ rest) part (told ++ summaries_text rest)

@@ -5,12 +5,14 @@ use Rattle.std.specs.Io.KnownBytes.{Appends, Consumes, IsAtEnd}
 use Rattle.wire.specs.declared.Version.{Version}
 use Rattle.messages.specs.View.{RequestView}
 use Rattle.client.specs.declared.SubmitFault.{SubmitFault}
-use Rattle.client.specs.Rest.{Note, awaits, refuses}
+use Rattle.client.specs.Fits.{Fits}
+use Rattle.client.specs.Rest.{Note, awaits, refuses, taken_out}
 use Rattle.streams.specs.declared.fault.StreamFault.{StreamFault}
 use Rattle.streams.specs.declared.fault.StreamFault.TheVariants.{WriteFailed}
 use Rattle.streams.specs.Failing.{StaysSound}
 use Rattle.streams.specs.Fronts.{AppendsFront}
-use Rattle.asks.specs.Asking.{IsAwaited, IsTurn}
+use Rattle.streams.specs.Reading.{LetsRead}
+use Rattle.asks.specs.Asking.{IsTurn, ReadsOn}
 use Rattle.scripts.specs.Views.{Text}
 use Rattle.scripts.specs.Words.{is_empty}
 use Rattle.scripts.specs.Script.{lines, filled_from, filled_lines}
@@ -22,7 +24,7 @@ use Rattle.prints.specs.declared.stop.StopReason.TheVariants.{Unreadable, Broken
 use Rattle.prints.specs.Names.{refusal_code}
 use Rattle.prints.specs.Stopping.{Gets, IsStopOf, ends_with, said_of}
 use Rattle.prints.specs.Telling.{refused_line}
-use Rattle.shells.specs.Printing.{Prints}
+use Rattle.shells.specs.Printing.{Prints, versions_after}
 use Rattle.shells.specs.Talking.{FailsToPut, Place, IsAt, submitted, sent_out, heard_log, heard_place, HeardUpTo, Exchanges, IsServersTurn, Moves, parted, Talked}
 use Rattle.shells.specs.Streams.{Streams}
 
@@ -38,21 +40,20 @@ pub record PutsNotes (v : Version) (notes : List Note) (fault : Option StreamFau
   pub sound : (fault ≡ Some WriteFailed → ⊥) → StaysSound had has
   pub got : Gets deaf deaf_now err err_now told
 
--- Bytes were read and fed, and what they tell was printed, up to a fault.
-pub record Hears (fault : Option StreamFault) (p : Place) (before after : Streams) (c : Caller)
-    : Type 0 where
-  pub heard : HeardUpTo fault p
-  pub moves : Moves fault before after (heard_log [] heard)
-  pub at : IsAt c (heard_place heard)
+-- What waited to be sent was written; bytes were read, and fed but for those behind the client's end; and what they tell was printed.
+pub record HearsOn (p : Place) (before after : Streams) (c : Caller) : Type 0 where
+  pub out : ℕ
+  pub sent : Appends before.written after.written p.rest.unsent × (drop out p.rest.unsent ≡ [])
+  pub notes : List Note
+  pub reads : ReadsOn (taken_out p.rest out) before.left after.left [] notes (Fits c.client)
+  pub puts : PutsNotes p.version notes None before.printed after.printed before.print_failed
+      after.print_failed before.deaf after.deaf before.told after.told
+  pub version : c.version ≡ versions_after p.version notes
+  pub source : StaysSound before.read_failed after.read_failed
+  pub sink : StaysSound before.write_failed after.write_failed
 
--- Bytes were read, fed and printed until no answer was still to come, the input had ended, or a fault came.
-pub record HearsAll (fault : Option StreamFault) (p : Place) (before after : Streams) (c : Caller)
-    : Type 0 where
-  pub hears : Hears fault p before after c
-  pub ends : fault ≡ None
-      → IsAtEnd after.left ⊎ (awaits (heard_place hears.heard).rest.knows ≡ false)
-
--- What waited to be sent, or some of it, was written; then bytes were heard as `HearsAll` has it.
+-- What waited to be sent, or some of it, was written; then bytes were read, fed and printed until no answer was still to come, the input had
+-- ended, or a fault came.
 pub record Converses (fault : Option StreamFault) (p : Place) (before after : Streams) (c : Caller)
     : Type 0 where
   pub out : ℕ
@@ -61,6 +62,12 @@ pub record Converses (fault : Option StreamFault) (p : Place) (before after : St
   pub at : IsAt c (heard_place heard)
   pub ends : fault ≡ None → (drop out p.rest.unsent ≡ [])
       × (IsAtEnd after.left ⊎ (awaits (heard_place heard).rest.knows ≡ false))
+
+-- a piece more was heard; or there was none, or a fault came, and that is all
+abbrev pub HearsMore : Place → Streams → Streams → Caller → Result Bool StreamFault → Type 0
+HearsMore p before after c (Ok true) = HearsOn p before after c
+HearsMore p before after c (Ok false) = Converses None p before after c
+HearsMore p before after c (Err fault) = Converses (Some fault) p before after c
 
 -- An exchange was made, up to a fault.
 pub record Asks (fault : Option StreamFault) (p : Place) (before after : Streams) (c : Caller)
@@ -170,22 +177,17 @@ pub record IsSound (before after : Streams) : Type 0 where
   pub sink : StaysSound before.write_failed after.write_failed
   pub out : StaysSound before.print_failed after.print_failed
 
--- It is the turn of a client's server: the sink took all that the client puts out, and an answer is still to come.
-abbrev pub IsAsked : Streams → Caller → Option (List ℕ) → Option (List ℕ) → Type 0
-IsAsked now c left taken = (p : Place) → IsAt c p → IsTurn p.rest now.left left now.written taken
+module _ {S : Type 0} (MayRead : S → Option (List ℕ) → ℕ → Type 0) (left : S → Option (List ℕ)) (now : Streams) (c : Caller) where
+  -- A source lets itself be read when it is the turn of a client's server: the sink took all that the client puts out, and an answer is
+  -- still to come.
+  pub record LetsAsk : Type 0 where
+    pub lets : LetsRead MayRead (λ s taken. (p : Place) → IsAt c p → IsTurn p.rest now.left (left s) now.written taken)
 
--- the same if the sink took all before
-abbrev pub IsHeard : Streams → Caller → Option (List ℕ) → Option (List ℕ) → Type 0
-IsHeard now c left taken =
-    (p : Place) → IsAt c p → Appends now.written taken [] × IsAwaited p.rest now.left left
+  -- the same after any conversation that leaves the streams and the client so
+  pub record LetsTalk : Type 0 where
+    pub lets : LetsRead MayRead (λ s taken. (start : Streams) (done : List (ℕ × Text)) → Reaches start now done c → IsServersTurn start (left s) taken)
 
--- the same after any conversation that leaves the streams and the client so
-abbrev pub IsTurnAfter : Streams → Caller → Option (List ℕ) → Option (List ℕ) → Type 0
-IsTurnAfter now c left taken =
-    (start : Streams) (done : List (ℕ × Text)) → Reaches start now done c
-    → IsServersTurn start left taken
-
--- the same after any beginning of an input
+-- the same turn after any beginning of an input
 abbrev pub IsTurnWithin : Streams → Conversation → Option (List ℕ) → Option (List ℕ) → Type 0
 IsTurnWithin now c left taken =
     (start : Streams) (script : List ℕ) → Progress start now script c

@@ -1,17 +1,18 @@
 //! A client asks its server for the answers that it waits for, and prints them as they come.
 ghost use Rattle.std.specs.Prelude.{◌≡◌, ◌<◌, ℕ, Bool, ◌++◌, ◌∷◌, [], List, Option, true, false, map, IfOk, IsErrOf};
-ghost use Rattle.std.specs.Io.KnownBytes.{Appends, IsAtEnd};
+ghost use Rattle.std.specs.Io.KnownBytes.{Appends};
 ghost use Rattle.std.specs.Result.{result_err};
-ghost use Rattle.client.specs.Fits.{Fits};
+ghost use Rattle.client.specs.Fits.{Fits, rest_of};
 ghost use Rattle.client.specs.Notes.{note};
 ghost use Rattle.client.specs.Rest.{Note, Rest, awaits};
 ghost use Rattle.wire.specs.declared.Version.{Version};
 ghost use Rattle.asks.specs.Asking.{given_up};
 ghost use Rattle.streams.specs.Reading.{LetsRead};
 ghost use Rattle.prints.specs.Stopping.{Gets};
+ghost use Rattle.shells.specs.Streams.{Streams};
 ghost use Rattle.shells.specs.Talking.{FailsToPut, IsAt, Place, ending, parting};
 ghost use Rattle.shells.specs.Printing.{version_after, versions_after};
-ghost use Rattle.shells.specs.Shelling.{Asks, Converses, Hears, HearsAll, IsAsked, IsHeard, PutsNotes};
+ghost use Rattle.shells.specs.Shelling.{Asks, Converses, HearsMore, HearsOn, LetsAsk, PutsNotes};
 
 use crate::caller::Caller;
 use crate::errors::{put_losses, put_unprinted};
@@ -29,7 +30,7 @@ impl Caller {
         &mut self,
         streams: &mut ShellStreams<S, T, O, E>,
     ) -> Result<(), StreamFault>
-        requires { LetsRead S.may_read (λ s. IsAsked streams.old.at self.old (S.left s)) }
+        requires { LetsAsk S.may_read S.left streams.old.at self.old }
         ensures asks { (p : Place) → IsAt self.old p
             → Asks (result_err result) p streams.old.at streams.new.at self.new }
         ensures read { IsErrOf result StreamFault.ReadFailed → streams.new.at.read_failed ≡ true }
@@ -40,21 +41,30 @@ impl Caller {
         asked
     }
 
-    /// As `ask`, but the client isn't given up at the end.
+    /// As `ask`, but the client isn't given up at the end: hears and prints, a piece at a time, as long as an answer is still to come, to the
+    /// end of the input.
     fn converse<S: PeerSource, T: Sink, O: Sink, E: Sink>(
         &mut self,
         streams: &mut ShellStreams<S, T, O, E>,
     ) -> Result<(), StreamFault>
-        requires { LetsRead S.may_read (λ s. IsAsked streams.old.at self.old (S.left s)) }
+        requires { LetsAsk S.may_read S.left streams.old.at self.old }
         ensures converses { (p : Place) → IsAt self.old p
             → Converses (result_err result) p streams.old.at streams.new.at self.new }
         ensures read { IsErrOf result StreamFault.ReadFailed → streams.new.at.read_failed ≡ true }
         ensures written { IsErrOf result StreamFault.WriteFailed → FailsToPut streams.new.at }
     {
         match write_out(&mut self.client, &mut streams.sink) {
-            Ok(()) => self.hear_all(streams),
-            Err(fault) => Err(fault),
+            Ok(()) => {}
+            Err(fault) => return Err(fault),
         }
+        while self.client.awaits() {
+            match self.hear_some(streams) {
+                Ok(true) => {}
+                Ok(false) => return Ok(()),
+                Err(fault) => return Err(fault),
+            }
+        }
+        Ok(())
     }
 
     /// Gives the client up, unless all was answered, and tells what became of the requests that waited for an answer. A GOODBYE has none. Then it
@@ -97,37 +107,16 @@ impl Caller {
         b"the server's answer can't be: C6\n"
     }
 
-    /// Hears and prints, a piece at a time, as long as an answer is still to come, to the end of the input.
-    fn hear_all<S: PeerSource, T: Sink, O: Sink, E: Sink>(
-        &mut self,
-        streams: &mut ShellStreams<S, T, O, E>,
-    ) -> Result<(), StreamFault>
-        requires { LetsRead S.may_read (λ s. IsHeard streams.old.at self.old (S.left s)) }
-        ensures hears { (p : Place) → IsAt self.old p
-            → HearsAll (result_err result) p streams.old.at streams.new.at self.new }
-        ensures read { IsErrOf result StreamFault.ReadFailed → streams.new.at.read_failed ≡ true }
-        ensures written { IsErrOf result StreamFault.WriteFailed → FailsToPut streams.new.at }
-    {
-        while self.client.awaits() {
-            match self.hear_some(streams) {
-                Ok(true) => {}
-                Ok(false) => return Ok(()),
-                Err(fault) => return Err(fault),
-            }
-        }
-        Ok(())
-    }
-
     /// Hears a piece and prints what it tells; whether there was one.
     fn hear_some<S: PeerSource, T: Sink, O: Sink, E: Sink>(
         &mut self,
         streams: &mut ShellStreams<S, T, O, E>,
     ) -> Result<bool, StreamFault>
-        requires { LetsRead S.may_read (λ s taken.
+        requires turn { LetsRead S.may_read (λ s taken.
             Appends streams.old.at.written taken [] × (S.left s ≡ streams.old.at.left)) }
-        ensures hears { (p : Place) → IsAt self.old p → awaits p.rest.knows ≡ true
-            → Hears (result_err result) p streams.old.at streams.new.at self.new }
-        ensures end { IfOk result (λ some. some ≡ false → IsAtEnd streams.new.at.left) }
+        requires waits { awaits (rest_of self.old.client).knows ≡ true }
+        ensures hears { (p : Place) (start : Streams) → HearsOn p start streams.old.at self.old
+            → HearsMore p start streams.new.at self.new result }
         ensures read { IsErrOf result StreamFault.ReadFailed → streams.new.at.read_failed ≡ true }
         ensures written { IsErrOf result StreamFault.WriteFailed → FailsToPut streams.new.at }
         ensures lowers { IfOk result

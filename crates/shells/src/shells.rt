@@ -8,7 +8,7 @@ ghost use Rattle.streams.specs.Failing.{StaysSound, UnlessTold};
 ghost use Rattle.streams.specs.Reading.{LetsRead};
 ghost use Rattle.shells.specs.Talking.{FailsToPut, IsAt, IsServersTurn, first_place};
 ghost use Rattle.shells.specs.Accounting.{Accounts};
-ghost use Rattle.shells.specs.Shelling.{DoesMore, IsAsked, IsSound, IsTurnAfter, IsTurnWithin, Progress, Reaches, Runs, Shells, Takes, TakesByte, if_filled};
+ghost use Rattle.shells.specs.Shelling.{DoesMore, IsSound, IsTurnWithin, LetsAsk, LetsTalk, Progress, Reaches, Runs, Shells, Takes, TakesByte, if_filled};
 ghost use Rattle.shells.specs.Streams.{Streams};
 
 use crate::caller::Caller;
@@ -51,7 +51,7 @@ impl Conversation {
         &mut self,
         streams: &mut ShellStreams<S, T, O, E>,
     ) -> Result<(), StreamFault>
-        requires { LetsRead S.may_read (λ s. IsAsked streams.old.at self.old.caller (S.left s)) }
+        requires { LetsAsk S.may_read S.left streams.old.at self.old.caller }
         ensures begins { IsAt self.old.caller first_place
             → DoesMore (option_map StopReason.Broken (result_err result)) streams.old.at streams.new.at
             [] self.new.caller }
@@ -134,7 +134,7 @@ impl Conversation {
         &mut self,
         streams: &mut ShellStreams<S, T, O, E>,
     ) -> Result<(), StopReason>
-        requires { LetsRead S.may_read (λ s. IsTurnAfter streams.old.at self.old.caller (S.left s)) }
+        requires { LetsTalk S.may_read S.left streams.old.at self.old.caller }
         ensures sends { (start : Streams) (done : List (ℕ × Text))
             → Reaches start streams.old.at done self.old.caller
             → DoesMore (result_err result) start streams.new.at
@@ -166,7 +166,7 @@ impl Conversation {
         request: ScriptRequest,
         streams: &mut ShellStreams<S, T, O, E>,
     ) -> Result<(), StreamFault>
-        requires { LetsRead S.may_read (λ s. IsTurnAfter streams.old.at self.old.caller (S.left s)) }
+        requires { LetsTalk S.may_read S.left streams.old.at self.old.caller }
         ensures submits { (start : Streams) (done : List (ℕ × Text)) (line : Text)
             → request_line_of line ≡ Some (script_request_view request)
             → Reaches start streams.old.at done self.old.caller

@@ -1,6 +1,6 @@
 use Rattle.messages.specs.View.{response_view}
-use Rattle.shells.proofs.Words.{◌∙◌, ◌≡◌, refl, [], WriteFailed, Memory, unless_err, outcome_name, phase_name, failure_line, heard_line, behind_line}
-use Rattle.shells.proofs.Printed.{note_line, summary_cut}
+use Rattle.shells.proofs.Followed.{◌∙◌, ◌≡◌, refl, [], WriteFailed, Memory, unless_err, outcome_name, phase_name, failure_line, heard_line, behind_line}
+use Rattle.shells.proofs.Followed.{note_line, summary_cut}
 use Rattle.shells.proofs.caller.put_summary.Goals as goal
 
 pub returns-in-Ok-clause-puts : goal.returns-in-Ok-clause-puts

@@ -1,4 +1,4 @@
-use Rattle.shells.proofs.Words.{◌∙◌, gets_then}
+use Rattle.shells.proofs.Followed.{◌∙◌, gets_then}
 use Rattle.shells.proofs.errors.greet.Goals as goal
 
 pub returns : goal.returns

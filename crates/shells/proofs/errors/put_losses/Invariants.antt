@@ -1,4 +1,4 @@
-use Rattle.shells.proofs.Words.{take, Gets, losses_text}
+use Rattle.shells.proofs.Followed.{take, Gets, losses_text}
 use Rattle.shells.proofs.errors.put_losses.Given as goal
 
 -- those before it are told

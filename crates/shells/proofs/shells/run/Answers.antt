@@ -1,14 +1,14 @@
-use Rattle.shells.proofs.Words.{◌++◌, [], ◌<◌, append-nil, length, subst, take, rules, false≢true, Consumes, Consumes-kept, Consumes-trans, ReadFailed, Memory}
-use Rattle.shells.proofs.Words.{Broken, asks_version, first_place}
-use Rattle.shells.proofs.Followed.{at_end, does_none, nothing_done, runs_at_first, runs_to_end, unless_so}
+use Rattle.shells.proofs.Followed.{◌++◌, [], ◌<◌, append-nil, length, subst, take, rules, false≢true, Consumes, Consumes-kept, Consumes-trans, ReadFailed}
+use Rattle.shells.proofs.Followed.{Memory, Broken, asks_version, first_place, at_end, does_none, nothing_done, runs_at_first, runs_to_end, unless_so}
 use Rattle.shells.proofs.shells.run.Goals as goal
 
 pub begin-requires : goal.begin-requires
-begin-requires g c = λ s taken n few turn.
-    c.requires s taken n few (record { now = _; place = first_place; asking = asks_version; turn = turn first_place c.in-Ok.ensures.new.0 })
+begin-requires g c =
+    let at = c.in-Ok.ensures.new.0 in
+    record { lets = λ s taken n few turn. c.requires s taken n few (record { now = _; place = _; asking = asks_version; turn = turn first_place at }) }
 
 pub send-requires : goal.send-requires
-send-requires g c = λ s taken n few turn. let p = c.loop-len.invariant.progress in c.requires s taken n few (turn _ p.done p.reaches)
+send-requires g c = record { lets = λ s taken n few turn. let p = c.loop-len.invariant.progress in c.requires s taken n few (turn _ p.done p.reaches) }
 
 pub take-requires : goal.take-requires
 take-requires g c = λ s taken n few turn. let so = c.loop-len.invariant in c.requires s taken n few (turn _ so.script so.progress)
@@ -30,9 +30,7 @@ returns-then-len-eq0-clause-runs g c =
     let so = c.loop-len.invariant in
     let some : 0 < length c.read.new.buffer = search rules in
     let bytes = c.in-Ok-read.ensures.bytes in
-    let before = g.I.Source.left c.args.input.now in
-    let after = g.I.Source.left c.read.new.self in
-    let read = subst (Consumes before after) (append-nil so.script) (Consumes-trans before _ after so.script [] so.read (rw c.if-len-eq0.true at bytes.0)) in
+    let read = rw (c.if-len-eq0.true, append-nil) at (Consumes-trans _ _ _ so.script _ so.read bytes.0) in
     runs_to_end _ c.send.result read (bytes.1 c.if-len-eq0.true some) so.progress (c.send.ensures.sends _ so.progress.done so.progress.reaches)
 
 pub loop-len-preserved : goal.loop-len-preserved

@@ -1,4 +1,4 @@
-use Rattle.shells.proofs.Words.{List, ℕ, Consumes, Progress}
+use Rattle.shells.proofs.Followed.{List, ℕ, Consumes, Progress}
 use Rattle.shells.proofs.shells.run.Given as goal
 
 -- what was read of the input is done

@@ -1,5 +1,4 @@
-use Rattle.shells.proofs.Words.{[], ap, refl, None, Some, Err, ReadFailed, WriteFailed, stop_text, fault_in, gets_none}
-use Rattle.shells.proofs.Accounted.{accounts, is_sound, so_far}
+use Rattle.shells.proofs.Followed.{[], ap, refl, None, Some, Err, ReadFailed, WriteFailed, stop_text, fault_in, gets_none, accounts, is_sound, so_far}
 use Rattle.shells.proofs.Followed.{sound_unless, stop_of}
 use Rattle.shells.proofs.shells.shell.Goals as goal
 

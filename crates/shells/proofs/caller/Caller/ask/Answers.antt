@@ -1,8 +1,5 @@
-use Rattle.shells.proofs.Heard.{asked}
+use Rattle.shells.proofs.Followed.{asked}
 use Rattle.shells.proofs.caller.Caller.ask.Goals as goal
-
-pub converse-asked-requires : goal.converse-asked-requires
-converse-asked-requires g c = c.requires
 
 pub returns-clause-asks : goal.returns-clause-asks
 returns-clause-asks g c = λ p at.

@@ -1,23 +1,32 @@
-use Rattle.shells.proofs.Words.{[], append-nil, subst, Appends, Appends-trans, sent_out}
-use Rattle.shells.proofs.Heard.{written_some, written_then}
+use Rattle.asks.proofs.Asked.{reads_none}
+use Rattle.shells.proofs.Followed.{[], ◌∙◌, sym, heard_all, turn_comes, written_some, notes_none}
 use Rattle.shells.proofs.caller.Caller.converse.Goals as goal
 
-pub hear_all-requires : goal.hear_all-requires
-hear_all-requires g c = λ s taken n few turn. c.requires s taken n few (λ p at.
+pub loop-self-init : goal.loop-self-init
+loop-self-init g c = λ p at.
     let out = c.in-Ok.ensures.out p.rest at.fits in
-    let was = g.T.Sink.taken c.streams.inside.sink in
-    let so = turn (sent_out p out.0) (record { fits = out.2; version = at.version }) in
-    let asked = Appends-trans was (g.T.Sink.taken c.write_out.new.sink) taken p.rest.unsent [] out.1.0 so.0 in
-    rw (← c.streams.view_is) (record { awaited = so.1; asked = subst (Appends was taken) (append-nil p.rest.unsent) asked }))
+    let sink = c.in-Ok.ensures.sound in
+    rw (← c.streams.view_is)
+    (record { out = out.0; sent = out.1; notes = []; reads = reads_none _ _ [] _ out.2; puts = notes_none; version = at.version; source = λ f. f; sink = sink })
 
-pub returns-in-Ok-clause-converses : goal.returns-in-Ok-clause-converses
-returns-in-Ok-clause-converses g c = λ p at.
-    let out = c.in-Ok.ensures.out p.rest at.fits in
-    let h = c.hear_all.ensures.hears (sent_out p out.0) (record { fits = out.2; version = at.version }) in
-    rw (← c.streams.view_is) (written_then _ _ out.0 out.1.0 out.1.1 c.in-Ok.ensures.sound h)
+pub hear_some-requires-clause-turn : goal.hear_some-requires-clause-turn
+hear_some-requires-clause-turn g c = λ s taken n few turn. c.requires.lets s taken n few
+    (λ p at. turn_comes (c.loop-self.invariant p at) (sym c.awaits.ensures ∙ c.loop-self-test.true) turn.0 turn.1)
 
 -- what waited wasn't all written
 pub returns-in-Err-clause-converses : goal.returns-in-Err-clause-converses
 returns-in-Err-clause-converses g c = λ p at.
     let out = c.in-Err.ensures.out p.rest at.fits in
     rw (← c.streams.view_is) (written_some _ _ out.0 c.in-Err.ensures.fault out.1 out.2 at.version c.in-Err.ensures.sound)
+
+pub loop-self-preserved : goal.loop-self-preserved
+loop-self-preserved g c = λ p at. rw c.in-Ok-true.field-0-test at (c.in-Ok-true.ensures.hears p _ (c.loop-self.invariant p at))
+
+pub returns-in-Ok-false-clause-converses : goal.returns-in-Ok-false-clause-converses
+returns-in-Ok-false-clause-converses g c = λ p at. rw c.in-Ok-false.field-0-test at (c.in-Ok-false.ensures.hears p _ (c.loop-self.invariant p at))
+
+pub returns-in-Err-hear_some-clause-converses : goal.returns-in-Err-hear_some-clause-converses
+returns-in-Err-hear_some-clause-converses g c = λ p at. c.in-Err-hear_some.ensures.hears p _ (c.loop-self.invariant p at)
+
+pub returns-clause-converses : goal.returns-clause-converses
+returns-clause-converses g c = λ p at. heard_all (c.loop-self.invariant p at) (sym c.awaits.ensures ∙ c.loop-self-test.false)

@@ -1,12 +1,11 @@
 use Rattle.streams.proofs.Parts.{all_done}
-use Rattle.shells.proofs.Words.{◌∙◌, ◌++◌, ◌∷◌, [], append_assoc, rules, refl, sym, ap, map, map-append, nil_from_length, note}
-use Rattle.shells.proofs.Printed.{notes_none, version_next}
+use Rattle.shells.proofs.Followed.{◌∙◌, ◌++◌, ◌∷◌, [], append_assoc, rules, refl, sym, ap, map, map-append, nil_from_length, note, notes_none, version_next}
 use Rattle.shells.proofs.caller.Caller.put_all.Goals as goal
 
 pub loop-one-init : goal.loop-one-init
 loop-one-init g c =
     let parts = c.into_iter-one-iterator.ensures.into_iter_gives.0 in
-    record { client = refl; version = refl; puts = notes_none _ _ _ _ _; parts = parts; read = λ e. absurd cc; written = λ e. absurd cc }
+    record { client = refl; version = refl; puts = notes_none; parts = parts; read = λ e. absurd cc; written = λ e. absurd cc }
 
 pub loop-one-preserved : goal.loop-one-preserved
 loop-one-preserved g c =

@@ -1,5 +1,5 @@
 use Rattle.std.specs.Prelude.{IsErrOf}
-use Rattle.shells.proofs.Words.{◌≡◌, ◌++◌, true, map, result_err, note, ReadFailed, WriteFailed, versions_after, PutsNotes}
+use Rattle.shells.proofs.Followed.{◌≡◌, ◌++◌, true, map, result_err, note, ReadFailed, WriteFailed, versions_after, PutsNotes}
 use Rattle.shells.proofs.caller.Caller.put_all.Given as goal
 
 -- those that were yielded are printed, or told from a fault on

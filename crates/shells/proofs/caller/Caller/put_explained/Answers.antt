@@ -1,6 +1,6 @@
 use Rattle.cells.specs.Prelude.{shapes}
-use Rattle.shells.proofs.Words.{refl, sym, ap, [], append-nil, ◌∙◌, Appends-nil, WriteFailed, unless_err, row_text, in_line, unmade}
-use Rattle.shells.proofs.Printed.{note_line, nothing_printed}
+use Rattle.shells.proofs.Followed.{refl, sym, ap, [], append-nil, ◌∙◌, Appends-nil, WriteFailed, unless_err, row_text, in_line, unmade, note_line}
+use Rattle.shells.proofs.Followed.{nothing_printed}
 use Rattle.shells.proofs.caller.Caller.put_explained.Goals as goal
 
 pub returns-in-Nothing-clause-puts : goal.returns-in-Nothing-clause-puts

@@ -1,5 +1,4 @@
-use Rattle.shells.proofs.Words.{ap, ◌∙◌, note, version_after}
-use Rattle.shells.proofs.Printed.{notes_then, told_next}
+use Rattle.shells.proofs.Followed.{ap, ◌∙◌, note, version_after, notes_then, told_next}
 use Rattle.shells.proofs.caller.Caller.put_next.Goals as goal
 
 pub returns-in-Ok-clause-puts : goal.returns-in-Ok-clause-puts

@@ -1,10 +1,5 @@
-use Rattle.shells.proofs.Words.{◌∙◌, [], ap, refl, Rest, fails_first, first_place, greeting, opens, parted}
-use Rattle.shells.proofs.Moved.{moves_none, moves_told}
-use Rattle.shells.proofs.Followed.{greeted}
+use Rattle.shells.proofs.Followed.{◌∙◌, [], ap, refl, Rest, fails_first, first_place, greeting, opens, parted, moves_none, moves_told}
 use Rattle.shells.proofs.shells.Conversation.begin.Goals as goal
-
-pub ask-requires : goal.ask-requires
-ask-requires g c = c.requires
 
 pub returns-in-Err-clause-begins : goal.returns-in-Err-clause-begins
 returns-in-Err-clause-begins g c = λ at.
@@ -14,5 +9,5 @@ pub returns-clause-begins : goal.returns-clause-begins
 returns-clause-begins g c = λ at.
     let x = rw (← c.streams.view_is) at (c.in-Ok.ensures.asks first_place at) in
     let p = parted x.exchange.heard in
-    let told = greeted _ _ _ _ x.at (c.has_ended.ensures ∙ ap (λ (r : Rest). r.knows.over) x.at.fits) c.greet.ensures in
+    let told = rw (c.has_ended.ensures ∙ ap (λ (r : Rest). r.knows.over) x.at.fits, x.at.version) at c.greet.ensures in
     record { place = p; talked = opens _ _ x.exchange (moves_told _ _ (greeting p) (moves_none _) told); at = x.at }

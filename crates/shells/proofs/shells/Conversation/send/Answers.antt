@@ -1,9 +1,5 @@
-use Rattle.shells.proofs.Words.{◌≡◌, ◌∙◌, ◌++◌, [], refl, sym, ap, rules, None, request_line_of, Memory, Unreadable, Broken}
-use Rattle.shells.proofs.Followed.{does_none, filled_one}
+use Rattle.shells.proofs.Followed.{◌≡◌, ◌∙◌, ◌++◌, [], refl, sym, ap, rules, None, request_line_of, Memory, Unreadable, Broken, does_none, filled_one}
 use Rattle.shells.proofs.shells.Conversation.send.Goals as goal
-
-pub submit-requires : goal.submit-requires
-submit-requires g c = c.requires
 
 pub returns-in-Err-Unreadable-clause-sends : goal.returns-in-Err-Unreadable-clause-sends
 returns-in-Err-Unreadable-clause-sends g c = λ start done s.

@@ -1,12 +1,13 @@
-use Rattle.shells.proofs.Words.{ap, refl, Some, None, asks_answer, refused_line}
-use Rattle.shells.proofs.Followed.{submit_failed, submit_part, submit_taken}
+use Rattle.shells.proofs.Followed.{ap, refl, Some, None, asks_answer, refused_line, submit_failed, submit_part, submit_taken}
 use Rattle.shells.proofs.shells.Conversation.submit.Goals as goal
 
 pub ask-requires : goal.ask-requires
-ask-requires g c = λ s taken n few turn. c.requires s taken n few (λ start done s0.
-    let r = rw (← c.streams.view_is) at s0 in
-    let h = rw c.in-Ok-true.field-0-test at (c.in-Ok-true.ensures.submits r.place r.at) in
-    record { now = _; place = _; asking = asks_answer done _ r.place _ r.talked h.0; turn = turn _ h.2 })
+ask-requires g c = record {
+  lets = λ s taken n few turn. c.requires.lets s taken n few (λ start done s0.
+      let r = rw (← c.streams.view_is) at s0 in
+      let h = rw c.in-Ok-true.field-0-test at (c.in-Ok-true.ensures.submits r.place r.at) in
+      record { now = _; place = _; asking = asks_answer done _ r.place _ r.talked h.0; turn = turn _ h.2 });
+}
 
 pub returns-in-Ok-true-clause-submits : goal.returns-in-Ok-true-clause-submits
 returns-in-Ok-true-clause-submits g c = λ start done line r s0.

@@ -1,5 +1,4 @@
-use Rattle.shells.proofs.Words.{◌++◌, ◌+◌, take, drop, subst, StopsIn}
-use Rattle.shells.proofs.Followed.{at_place}
+use Rattle.shells.proofs.Followed.{◌++◌, ◌+◌, take, drop, subst, StopsIn, at_place}
 use Rattle.shells.proofs.shells.Conversation.take.Goals as goal
 
 pub returns-in-Err-clause-takes : goal.returns-in-Err-clause-takes

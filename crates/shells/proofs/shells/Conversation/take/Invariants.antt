@@ -1,4 +1,4 @@
-use Rattle.shells.proofs.Words.{List, ℕ, ◌++◌, take, Progress, Streams}
+use Rattle.shells.proofs.Followed.{List, ℕ, ◌++◌, take, Progress, Streams}
 use Rattle.shells.proofs.shells.Conversation.take.Given as goal
 
 -- the bytes before it are done

@@ -1,6 +1,5 @@
 use Rattle.std.proofs.lemmas.List.Elements.{All-push}
-use Rattle.shells.proofs.Words.{refl, ◌==◌, ◌≡◌, ◌+◌, ◌++◌, ◌∷◌, false, ne_eqb, rules, Memory, Broken}
-use Rattle.shells.proofs.Followed.{at_newline, does_none, line_ends, one_more, stops}
+use Rattle.shells.proofs.Followed.{refl, ◌==◌, ◌≡◌, ◌+◌, ◌++◌, ◌∷◌, false, ne_eqb, rules, Memory, Broken, at_newline, does_none, line_ends, one_more, stops}
 use Rattle.shells.proofs.shells.Conversation.take_byte.Goals as goal
 
 pub returns-in-Ok-clause-takes : goal.returns-in-Ok-clause-takes
@@ -25,4 +24,4 @@ returns-clause-takes g c = λ start script p.
     rw c.if-byte-ne10.false (line_ends p (c.in-Ok-send.ensures.sends start p.done p.reaches) number c.clear.ensures.items)
 
 pub send-requires : goal.send-requires
-send-requires g c = λ s taken n few turn. c.requires s taken n few (λ start script p. turn start p.done p.reaches)
+send-requires g c = record { lets = λ s taken n few turn. c.requires s taken n few (λ start script p. turn start p.done p.reaches) }

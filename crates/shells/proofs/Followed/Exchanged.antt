@@ -1,0 +1,276 @@
+-- What streams get, what is printed of notes, and what an exchange with a server does.
+pub mod Words
+pub use Words.*
+
+-- all of it, or a beginning
+pub puts_whole : (w : Bool) (a b : Option (List ℕ)) (xs : List ℕ) → Appends a b xs → Puts w a b xs
+puts_whole true a b xs h = h
+puts_whole false a b xs h = front_whole a b xs h
+
+puts_then : (w : Bool) (a b c : Option (List ℕ)) (xs ys : List ℕ) → Appends a b xs → Puts w b c ys → Puts w a c (xs ++ ys)
+puts_then true a b c xs ys h k = Appends-trans a b c xs ys h k
+puts_then false a b c xs ys h k = front_after a b c xs ys h k
+
+-- nothing moves
+pub moves_none : {fault : Option StreamFault} (a : Streams) → Moves fault a a (said [] [])
+moves_none {fault = fault} a =
+    let sent = puts_whole (is_printed fault) a.written a.written [] (Appends-nil a.written) in
+    record { read = Consumes-nil _; sent = sent; printed = Appends-nil _; told = gets_none _ _; source = λ _ f. f; sinks = λ _. (λ f. f, λ f. f) }
+
+-- a text is printed
+pub moves_printed : (fault : Option StreamFault) (a : Streams) (printed : Option (List ℕ)) (failed : Bool) (text : List ℕ) → Appends a.printed printed text
+    → ((fault ≡ Some WriteFailed → ⊥) → StaysSound a.print_failed failed)
+    → Moves fault a (record a { printed = printed; print_failed = failed }) (said text [])
+moves_printed fault a printed failed text h sound =
+    let none = moves_none {fault = fault} a in
+    record { read = none.read; sent = none.sent; printed = h; told = none.told; source = none.source; sinks = λ n. (λ f. f, sound n) }
+
+-- one log after another
+abbrev pub and_then : Log → Log → Log
+and_then a b = record { sent = a.sent ++ b.sent; read = a.read ++ b.read; printed = a.printed ++ b.printed; told = a.told ++ b.told }
+
+pub moves_then : {fault : Option StreamFault} {a b c : Streams} {l m : Log} → Moves None a b l → Moves fault b c m → Moves fault a c (and_then l m)
+moves_then {fault = fault} {a = a} {b = b} {c = c} {l = l} {m = m} h k = record {
+  read = Consumes-trans a.left b.left c.left l.read m.read h.read k.read;
+  sent = puts_then (is_printed fault) a.written b.written c.written l.sent m.sent h.sent k.sent;
+  printed = Appends-trans a.printed b.printed c.printed l.printed m.printed h.printed k.printed;
+  told = gets_then a.deaf b.deaf c.deaf a.told b.told c.told l.told m.told h.told k.told;
+  source = λ n f. h.source (λ e. cc) (k.source n f);
+  sinks = λ n. let was = h.sinks (λ e. cc) in (λ f. was.0 ((k.sinks n).0 f), λ f. was.1 ((k.sinks n).1 f));
+}
+
+-- more is told behind
+pub moves_told : {fault : Option StreamFault} {a b : Streams} {l : Log} (told : Option (List ℕ)) (deaf : Bool) (text : List ℕ) → Moves fault a b l
+    → Gets b.deaf deaf b.told told text → Moves fault a (record b { told = told; deaf = deaf }) (record l { told = l.told ++ text })
+moves_told {a = a} {b = b} {l = l} told deaf text h k =
+    let all = gets_then a.deaf b.deaf deaf a.told b.told told l.told text h.told k in
+    record { read = h.read; sent = h.sent; printed = h.printed; told = all; source = h.source; sinks = h.sinks }
+
+pub version_next : {X : Type 0} (v : Version) (see : X → Note) (xs : List X) (x : X) (w u : Version) → w ≡ versions_after v (map see xs)
+    → u ≡ version_after w (see x) → u ≡ versions_after v (map see (xs ++ x ∷ []))
+version_next v see xs x w u e f =
+    f ∙ ap (λ z. version_after z (see x)) e ∙ sym (versions_more v (map see xs) (see x ∷ [])) ∙ ap (versions_after v) (sym (map-append see xs (x ∷ [])))
+
+prints_then : {v : Version} {ns ms : List Note} {fault : Option StreamFault} {p q t u : List ℕ} → Prints v None ns p t
+    → Prints (versions_after v ns) fault ms q u → Prints v fault (ns ++ ms) (p ++ q) (t ++ u)
+prints_then prints_none y = y
+prints_then (prints_one x) y = rw append_assoc (prints_one (prints_then x y))
+
+-- one note more after a fault
+prints_told : {v : Version} {ns : List Note} {f : StreamFault} {p t : List ℕ} (n : Note) → Prints v (Some f) ns p t
+    → Prints v (Some f) (ns ++ n ∷ []) p (t ++ summary_line n)
+prints_told n (prints_one x) = prints_one (prints_told n x)
+prints_told n (cut_at {rest = rest} {told = told} c) =
+    let e : summaries_text (rest ++ n ∷ []) ≡ summaries_text rest ++ summary_line n = simp (flat_map-append, append-nil) in
+    rw (append_assoc told (summaries_text rest) (summary_line n), ← e) (cut_at c)
+
+module _ {v : Version} {ns : List Note} {a b x y z : Option (List ℕ)} {d e f i j : Bool} where
+  pub notes_then : {ms : List Note} {fault : Option StreamFault} {c : Option (List ℕ)} {k : Bool} → PutsNotes v ns None a b i j d e x y
+      → PutsNotes (versions_after v ns) ms fault b c j k e f y z → PutsNotes v (ns ++ ms) fault a c i k d f x z
+  notes_then {c = c} h m =
+      let took = Appends-trans a b c h.printed m.printed h.took m.took in
+      let got = gets_then d e f x y z h.told m.told h.got m.got in
+      record { printed = _; told = _; prints = prints_then h.prints m.prints; took = took; sound = λ n s. h.sound (λ q. cc) (m.sound n s); got = got }
+
+  -- one note is told after a fault
+  pub told_next : {fault : StreamFault} (n : Note) → PutsNotes v ns (Some fault) a b i j d e x y → Gets e f y z (summary_line n)
+      → PutsNotes v (ns ++ n ∷ []) (Some fault) a b i j d f x z
+  told_next n h g =
+      let got = gets_then d e f x y z h.told (summary_line n) h.got g in
+      record { printed = h.printed; told = h.told ++ summary_line n; prints = prints_told n h.prints; took = h.took; sound = h.sound; got = got }
+
+-- nothing is printed
+pub notes_none : {v : Version} {out err : Option (List ℕ)} {had deaf : Bool} → PutsNotes v [] None out out had had deaf deaf err err
+notes_none = record { printed = []; told = []; prints = prints_none; took = Appends-nil _; sound = λ _ s. s; got = gets_none _ _ }
+
+module _ {v : Version} {n : Note} {out : Option (List ℕ)} {had deaf : Bool} {err : Option (List ℕ)} where
+  whole : {now : Option (List ℕ)} {has : Bool} → Appends out now (explained (version_after v n) n) → StaysSound had has
+      → PutsNotes v (n ∷ []) None out now had has deaf deaf err err
+  whole {now = now} h s =
+      let text = explained (version_after v n) n in
+      record { printed = text ++ []; told = []; prints = prints_one prints_none; took = rw append-nil h; sound = λ _. s; got = gets_none deaf err }
+
+  cut : {f : StreamFault} {now err_now : Option (List ℕ)} {has deaf_now : Bool} {part told : List ℕ} → IsCut (version_after v n) n f part told
+      → Appends out now part → ((Some f ≡ Some WriteFailed → ⊥) → StaysSound had has) → Gets deaf deaf_now err err_now told
+      → PutsNotes v (n ∷ []) (Some f) out now had has deaf deaf_now err err_now
+  cut {f = f} {part = part} {told = told} c h s g =
+      record { printed = part; told = told ++ []; prints = cut_at c; took = h; sound = s; got = rw append-nil g }
+
+  -- nothing is printed of a note that tells nothing
+  pub nothing_printed : explained (version_after v n) n ≡ [] → PutsNotes v (n ∷ []) None out out had had deaf deaf err err
+  nothing_printed e = whole (rw e (Appends-nil out)) (λ s. s)
+
+  -- a note of which a line is put out behind a text: it is printed whole, or cut
+  pub note_line : (text line : List ℕ) (mid : Option (List ℕ)) {now : Option (List ℕ)} {has : Bool} (r : Result (Unit {0}) StreamFault) → Appends out mid text
+      → PutsLine line mid now r → ((result_err r ≡ Some WriteFailed → ⊥) → StaysSound had has) → text ++ line ≡ explained (version_after v n) n
+      → ((front : List ℕ) → IsFront front line → IsCut (version_after v n) n WriteFailed (text ++ front) [])
+      → IsCut (version_after v n) n Memory (text ++ []) [] → PutsNotes v (n ∷ []) (result_err r) out now had has deaf deaf err err
+  note_line text line mid {now = now} (Ok u) h k s same front none = whole (rw (← same) (Appends-trans out mid now text line h k)) (s (λ e. cc))
+  note_line text line mid {now = now} (Err WriteFailed) h k s same front none =
+      cut (front k.0 (k.1, k.2)) (Appends-trans out mid now text k.0 h k.3) s (gets_none deaf err)
+  note_line text line mid {now = now} (Err Memory) h k s same front none =
+      cut none (Appends-trans out mid now text [] h (rw k (Appends-nil mid))) s (gets_none deaf err)
+  note_line text line mid (Err ReadFailed) h k s same front none = absurd k
+
+  -- a summary whose line is cut is told
+  pub summary_cut : {line : List ℕ} {now err_now : Option (List ℕ)} {has deaf_now : Bool} {f : StreamFault} → f ≡ WriteFailed
+      → note_text (version_after v n) n ≡ line → summary_line n ≡ line → AppendsFront out now line → Gets deaf deaf_now err err_now line
+      → PutsNotes v (n ∷ []) (Some f) out now had has deaf deaf_now err err_now
+  summary_cut e text same h g = rw e (cut (rw (← same) (in_line h.0 (h.1, h.2 ∙ sym text))) h.3 (λ n. absurd (n refl)) g)
+
+-- a piece tells what is told behind earlier notes, and less of it may be fed
+piece_more : {r : Rest} {left now : Option (List ℕ)} {new : List Note} {whole so : Bool} {Now : Rest → Type 0} (notes : List Note) → (so ≡ true → whole ≡ true)
+    → ReadsPiece r left now [] new whole Now → ReadsPiece r left now notes (notes ++ new) so Now
+piece_more {r = r} {new = new} {so = so} {Now = Now} notes e h =
+    let f = h.feeds in
+    let told = ap (λ (z : List Note). notes ++ z) f.told in
+    let feeds : FeedsPiece r h.piece notes (notes ++ new) so Now =
+    record { fed = f.fed; unheard = f.unheard; parts = f.parts; told = told; now = f.now; ends = λ t. f.ends (e t) } in
+    record { piece = h.piece; input = h.input; short = h.short; feeds = feeds }
+
+-- no fault comes while nothing is printed, so a source that fails isn't hidden by one
+none_cut : {v : Version} {notes : List Note} {f : StreamFault} {p t : List ℕ} → Prints v (Some f) notes p t → notes ≡ [] → ⊥
+none_cut (prints_one x) e = cc
+none_cut (cut_at c) e = cc
+
+never_printed : (fault : StreamFault) → (fault ≡ ReadFailed → ⊥) → is_printed (Some fault) ≡ false
+never_printed ReadFailed never = absurd (never refl)
+never_printed _ never = refl
+
+-- what was read up to one fault, and printed up to another
+spoken : {p : Place} {a b : Streams} {k : Caller} {fault read broken : Option StreamFault} {notes : List Note} (out : ℕ)
+    → ReadsAll (taken_out p.rest out) a.left b.left [] notes (Fits k.client) read
+    → (puts : PutsNotes p.version notes broken a.printed b.printed a.print_failed b.print_failed a.deaf b.deaf a.told b.told)
+    → k.version ≡ versions_after p.version notes → Puts (is_printed fault) a.written b.written p.rest.unsent
+    → (is_printed fault ≡ true → read ≡ Some Memory → ⊥)
+    → (Prints p.version broken notes puts.printed puts.told → PrintsUpTo fault p.version notes puts.printed puts.told)
+    → ((fault ≡ Some ReadFailed → ⊥) → StaysSound a.read_failed b.read_failed)
+    → ((fault ≡ Some WriteFailed → ⊥) → StaysSound a.write_failed b.write_failed × StaysSound a.print_failed b.print_failed)
+    → (fault ≡ None → (read ≡ None) × (drop out p.rest.unsent ≡ [])) → Converses fault p a b k
+spoken {p = p} {fault = fault} out r puts version sent whole up source sinks all =
+    let prints = subst (λ (ns : List Note). PrintsUpTo fault p.version ns puts.printed puts.told) r.told (up puts.prints) in
+    let rest = λ (e : is_printed fault ≡ true). r.whole (whole e) in
+    let heard : HeardUpTo fault (sent_out p out) =
+    record { fed = r.fed; unheard = r.unheard; needed = r.needed; whole = rest; printed = puts.printed; told = puts.told; prints = prints } in
+    record {
+      out = out;
+      heard = heard;
+      moves = record { read = r.input; sent = sent; printed = puts.took; told = puts.got; source = source; sinks = sinks };
+      at = record { fits = r.now; version = version ∙ ap (versions_after p.version) r.told };
+      ends = λ e. let so = all e in (so.1, r.ends so.0);
+    }
+
+not_memory : (fault : Option StreamFault) → is_printed fault ≡ true → fault ≡ Some Memory → ⊥
+not_memory fault e m = true≢false (sym e ∙ ap is_printed m)
+
+-- it is the server's turn where an answer is still to come
+pub turn_comes : {p : Place} {a b : Streams} {k : Caller} {left taken : Option (List ℕ)} → HearsOn p a b k → awaits (rest_of k.client).knows ≡ true
+    → Appends b.written taken [] → left ≡ b.left → IsTurn p.rest a.left left a.written taken
+turn_comes {p = p} {a = a} {b = b} {taken = taken} so e w l =
+    let waits = ap (λ (r : Rest). awaits r.knows) (sym so.reads.now) ∙ e in
+    let asked = Appends-trans a.written b.written taken p.rest.unsent [] so.sent.0 w in
+    record { awaited = rw l (is_awaited so.reads waits); asked = subst (Appends a.written taken) (append-nil p.rest.unsent) asked }
+
+-- no answer is still to come
+pub heard_all : {p : Place} {a b : Streams} {k : Caller} → HearsOn p a b k → awaits (rest_of k.client).knows ≡ false → Converses None p a b k
+heard_all so e =
+    let waits = ap (λ (r : Rest). awaits r.knows) (sym so.reads.now) ∙ e in
+    spoken so.out (stops_waiting so.reads waits) so.puts so.version so.sent.0 (not_memory None) inl (λ _. so.source)
+    (λ _. (so.sink, so.puts.sound (λ e. cc))) (λ e. (e, so.sent.1))
+
+module _ {p : Place} {a b : Streams} {k : Caller} (c : Streams) (l : Caller) (new : List Note) (so : HearsOn p a b k)
+    (waits : awaits (rest_of k.client).knows ≡ true) (version : l.version ≡ versions_after k.version new)
+    (sent : Appends a.written c.written p.rest.unsent) (sink : StaysSound a.write_failed c.write_failed) where
+  abbrev New : Option StreamFault → Type 0
+  New broken = PutsNotes k.version new broken b.printed c.printed b.print_failed c.print_failed b.deaf c.deaf b.told c.told
+
+  abbrev notes : List Note
+  notes = so.notes ++ new
+
+  abbrev Read : Option StreamFault → Type 0
+  Read = ReadsAll (taken_out p.rest so.out) a.left c.left [] notes (Fits l.client)
+
+  abbrev Piece : Result Bool StreamFault → Type 0
+  Piece = HearsPiece (after_all (taken_out p.rest so.out) so.reads.fed) b.left c.left [] new (Fits l.client)
+
+  waiting : awaits (after_all (taken_out p.rest so.out) so.reads.fed).knows ≡ true
+  waiting = ap (λ (r : Rest). awaits r.knows) (sym so.reads.now) ∙ waits
+
+  version_now : l.version ≡ versions_after p.version notes
+  version_now = version ∙ ap (λ (v : Version). versions_after v new) so.version ∙ sym (versions_more p.version so.notes new)
+
+  put : {broken : Option StreamFault} → New broken
+      → PutsNotes p.version notes broken a.printed c.printed a.print_failed c.print_failed a.deaf c.deaf a.told c.told
+  put new = notes_then so.puts (rw so.version at new)
+
+  told : new ≡ [] → notes ≡ so.notes
+  told e = ap (λ (z : List Note). so.notes ++ z) e ∙ append-nil so.notes
+
+  faulted : (f : StreamFault) → HearsPiece (after_all (taken_out p.rest so.out) so.reads.fed) b.left c.left so.notes notes (Fits l.client) (Err f)
+      → Read (Some f)
+  faulted f h = hears_fault so.reads c.left notes (Fits l.client) f waiting h
+
+  stops : {fault : Option StreamFault} → New None → ((fault ≡ Some ReadFailed → ⊥) → StaysSound b.read_failed c.read_failed) → Read fault
+      → Converses fault p a c l
+  stops {fault = fault} new sound r =
+      spoken so.out r (put new) version_now (puts_whole (is_printed fault) a.written c.written p.rest.unsent sent) (not_memory fault) inl
+      (λ n f. so.source (sound n f)) (λ _. (sink, (put new).sound (λ e. cc))) (λ e. (e, so.sent.1))
+
+  -- a piece was heard, and all of it was printed
+  pub more_heard : (done : Result Bool StreamFault) → Piece done → New None → UnlessTold done ReadFailed (StaysSound b.read_failed c.read_failed)
+      → HearsMore p a c l done
+  more_heard (Ok true) h new sound =
+      let reads = hears_more so.reads waiting (piece_more so.notes (λ e. e) h) in
+      let source : StaysSound a.read_failed c.read_failed = λ f. so.source (sound f) in
+      record { out = so.out; sent = (sent, so.sent.1); notes = notes; reads = reads; puts = put new; version = version_now; source = source; sink = sink }
+  more_heard (Ok false) h new sound =
+      let end : ReadsEnd (after_all (taken_out p.rest so.out) so.reads.fed) b.left c.left so.notes notes (Fits l.client) =
+      record { input = h.input; at_end = h.at_end; told = told h.told; now = h.now } in
+      stops new (λ _. sound) (hears_end so.reads {left_now = c.left} {after = notes} {Now = Fits l.client} end)
+  more_heard (Err ReadFailed) h new sound =
+      stops new (λ n. absurd (n refl)) (faulted ReadFailed (record { input = h.input; told = told h.told; now = h.now }))
+  more_heard (Err WriteFailed) h new sound = absurd h
+  more_heard (Err Memory) h new sound = stops new (λ _. sound (λ e. cc)) (faulted Memory (piece_more so.notes (λ e. e) h))
+
+  broken_off : (f : StreamFault) → (f ≡ ReadFailed → ⊥) → New (Some f) → StaysSound b.read_failed c.read_failed → Read (Some Memory)
+      → Converses (Some f) p a c l
+  broken_off f never new sound r =
+      let not = never_printed f never in
+      spoken so.out r (put new) version_now (puts_whole (is_printed (Some f)) a.written c.written p.rest.unsent sent) (λ e _. true≢false (sym e ∙ not))
+      (λ x. inr (not, x)) (λ _ x. so.source (sound x)) (λ n. (sink, (put new).sound n)) (λ e. absurd cc)
+
+  -- or a fault came while it was
+  pub heard_cut : (f : StreamFault) → (f ≡ ReadFailed → ⊥) → (done : Result Bool StreamFault) → Piece done → New (Some f)
+      → UnlessTold done ReadFailed (StaysSound b.read_failed c.read_failed) → Converses (Some f) p a c l
+  heard_cut f never (Ok true) h new sound = broken_off f never new sound (faulted Memory (piece_more so.notes (λ e. cc) h))
+  heard_cut f never (Ok false) h new sound = absurd (none_cut new.prints h.told)
+  heard_cut f never (Err ReadFailed) h new sound = absurd (none_cut new.prints h.told)
+  heard_cut f never (Err WriteFailed) h new sound = absurd h
+  heard_cut f never (Err Memory) h new sound = broken_off f never new (sound (λ e. cc)) (faulted Memory (piece_more so.notes (λ e. e) h))
+
+-- what waited wasn't all written
+pub written_some : {p : Place} {a : Streams} {k : Caller} {f : StreamFault} (written : Option (List ℕ)) (failed : Bool) (out : ℕ) → (f ≡ ReadFailed → ⊥)
+    → Writes p.rest.unsent out (Some f) a.written written → Fits k.client (taken_out p.rest out) → k.version ≡ p.version
+    → ((f ≡ WriteFailed → ⊥) → StaysSound a.write_failed failed) → Converses (Some f) p a (record a { written = written; write_failed = failed }) k
+written_some {p = p} {a = a} {k = k} {f = f} written failed out never w fits version s =
+    let none : ReadsAll (taken_out p.rest out) a.left a.left [] [] (Fits k.client) (Some f) =
+    record { fed = []; unheard = []; input = Consumes-nil _; told = refl; now = fits; needed = inl refl; whole = λ _. inl refl; ends = λ e. absurd cc } in
+    spoken out none notes_none version (puts f never w) (not_memory (Some f)) inl (λ _ x. x)
+    (λ n. (s (λ e. n (ap Some e)), λ x. x)) (λ e. absurd cc)
+  where
+    puts : (f : StreamFault) → (f ≡ ReadFailed → ⊥) → Writes p.rest.unsent out (Some f) a.written written
+        → Puts (is_printed (Some f)) a.written written p.rest.unsent
+    puts ReadFailed never w = absurd (never refl)
+    puts WriteFailed never w = w.0
+    puts Memory never w = w
+
+-- and then the client is given up, unless all was answered
+pub asked : {fault : Option StreamFault} {p : Place} {a b : Streams} {k l : Caller} {told : Option (List ℕ)} {deaf : Bool} (x : Converses fault p a b k)
+    → l.version ≡ k.version → ((r : Rest) → Fits k.client r → Fits l.client (given_up r))
+    → ((r : Rest) → Fits k.client r → Gets b.deaf deaf b.told told (parting fault r.knows)) → Asks fault p a (record b { told = told; deaf = deaf }) l
+asked {fault = fault} {told = told} {deaf = deaf} x same ends tells =
+    let k = (heard_place x.heard).rest in
+    record {
+      exchange = record { out = x.out; heard = x.heard; moves = moves_told told deaf (parting fault k.knows) x.moves (tells k x.at.fits); ends = x.ends };
+      at = record { fits = ends k x.at.fits; version = same ∙ x.at.version };
+    }
