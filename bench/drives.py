@@ -400,9 +400,10 @@ def tells_fates(port):
 
     def fails_elsewhere(tx):
         tx.run("PUT", key="elsewhere", value=1)
-        with connect() as other, other.pipeline() as asked:
-            asked.run("PUT", key="other", value=1)
-            asked.run("NOPE")
+        with odd_servers.Server([(odd_servers.V51, odd_servers.told(DONE, DONE), odd_servers.told(DONE, DONE, odd_servers.failure(odd_servers.REFUSED)))]) as server:
+            with connected(server.port) as other, other.pipeline() as asked:
+                asked.run("PUT", key="other", value=1)
+                asked.run("NOPE")
 
     elsewhere = bolt.until_known(connect, fails_elsewhere, tries=1)
     behind = bolt.until_known(connect, goes_wrong, tries=1)
@@ -411,7 +412,7 @@ def tells_fates(port):
             and made.bookmark == again.bookmark and len(made.token) == 32 and isinstance(own, TypeError) and isinstance(refused.error, bolt.Refused)
             and keeps_the_token(connect) and len(own.token) == 32 and behind.stands and isinstance(behind.error, bolt.Refused)
             and value_of(port, "fates") == [1] and dropped.fate == bolt.ABSENT and by_itself.stands and by_itself.bookmark.startswith("bk:")
-            and not elsewhere.stands and value_of(port, "elsewhere") == [] and value_of(port, "other") == [1])
+            and not elsewhere.stands and value_of(port, "elsewhere") == [] and bolt.COMMITTED in [it.outcome for it in elsewhere.error.requests])
 
 
 # What a server answers to a login, BEGIN, a RUN with its PULL, and COMMIT, before it closes, and what is known then by one attempt.
