@@ -145,51 +145,7 @@ fn push_value<'a>(
     push_named(pairs, alloc, version, room, name, bytes)
 }
 
-/// An entry joins few before it, whose keys are compared with its own.
-#[cycle(scanner)]
-fn push_entry<'a>(
-    pairs: &mut Vec<(String, Cell)>,
-    alloc: Global,
-    version: Version,
-    room: u8,
-    bytes: &'a [u8],
-) -> Result<&'a [u8], Unscanned>
-    ensures read { (n : ℕ) → IfOk result
-        (λ x. entries_at (layer (inner room)) n (map (form_entry version) (entries pairs.new.items)) x.now
-        ≡ entries_at (layer (inner room)) (suc n) (map (form_entry version) (entries pairs.old.items)) bytes.now) }
-    ensures fine { all_fine (fault_of_structure version)
-        (structures_under (entries_of (entries pairs.old.items))) ≡ true
-        → OnOk result (all_fine (fault_of_structure version)
-        (structures_under (entries_of (entries pairs.new.items))) ≡ true) }
-{
-    let (key, value) = key_of(pairs, bytes)?;
-    push_value(pairs, alloc, version, room, key, value)
-}
-
-/// An entry joins many before it, whose keys were seen.
-#[cycle(scanner)]
-fn push_new_entry<'a>(
-    pairs: &mut Vec<(String, Cell)>,
-    seen: &mut Seen<'a>,
-    alloc: Global,
-    version: Version,
-    room: u8,
-    bytes: &'a [u8],
-) -> Result<&'a [u8], Unscanned>
-    ensures read { Knows seen.old (names pairs.old.items) → (n : ℕ) → IfOk result
-        (λ x. entries_at (layer (inner room)) n (map (form_entry version) (entries pairs.new.items)) x.now
-        ≡ entries_at (layer (inner room)) (suc n) (map (form_entry version) (entries pairs.old.items)) bytes.now) }
-    ensures seen { Knows seen.old (names pairs.old.items)
-        → OnOk result (Knows seen.new (names pairs.new.items)) }
-    ensures fine { all_fine (fault_of_structure version)
-        (structures_under (entries_of (entries pairs.old.items))) ≡ true
-        → OnOk result (all_fine (fault_of_structure version)
-        (structures_under (entries_of (entries pairs.new.items))) ≡ true) }
-{
-    let (key, value) = new_key_of(seen, pairs, bytes)?;
-    push_value(pairs, alloc, version, room, key, value)
-}
-
+/// So many entries, few enough that each key is compared with those before it.
 #[cycle(scanner)]
 #[inline(never)]
 fn pairs_of(
@@ -207,12 +163,14 @@ fn pairs_of(
     let mut pairs = Vec::with_capacity(alloc, first_room(count, bytes))?;
     let mut rest = bytes;
     for _ in 0..count {
-        let after = push_entry(&mut pairs, alloc, version, room, rest)?;
+        let (key, value) = key_of(&pairs, rest)?;
+        let after = push_value(&mut pairs, alloc, version, room, key, value)?;
         rest = after;
     }
     Ok((pairs, rest))
 }
 
+/// So many entries, whose keys are looked for among those seen.
 #[cycle(scanner)]
 #[inline(never)]
 fn many_pairs_of(
@@ -231,7 +189,8 @@ fn many_pairs_of(
     let mut pairs = Vec::with_capacity(alloc, first_room(count, bytes))?;
     let mut rest = bytes;
     for _ in 0..count {
-        let after = push_new_entry(&mut pairs, &mut seen, alloc, version, room, rest)?;
+        let (key, value) = new_key_of(&mut seen, &pairs, rest)?;
+        let after = push_value(&mut pairs, alloc, version, room, key, value)?;
         rest = after;
     }
     Ok((pairs, rest))

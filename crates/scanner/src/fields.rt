@@ -1,8 +1,7 @@
 //! Fields of structures that hold no cells: heads, labels, indices and element ids.
-ghost use Rattle.std.specs.Prelude.{◌≡◌, ℕ, suc, Ok, IfOk, [], map};
+ghost use Rattle.std.specs.Prelude.{◌≡◌, ℕ, Ok, IfOk};
 ghost use Rattle.packstream.specs.Good.{count as count_of};
-ghost use Rattle.packstream.specs.Reading.{items_at, layer, inner};
-ghost use Rattle.packstream.specs.Tree.{int};
+ghost use Rattle.packstream.specs.Reading.{layer, inner};
 ghost use Rattle.cells.specs.Shape.{text_of, texts_of, numbers_of, element_of, elements_of};
 ghost use Rattle.scanner.specs.Fields.{Laid, OpensList, OpensStructure};
 
@@ -67,35 +66,6 @@ pub(crate) fn string_in(alloc: Global, bytes: &[u8]) -> Result<(String, &[u8]), 
     Ok((copy, rest))
 }
 
-/// A text joins those before it.
-fn push_string<'a>(
-    texts: &mut Vec<String>,
-    alloc: Global,
-    bytes: &'a [u8],
-) -> Result<&'a [u8], Unscanned>
-    ensures { (room n : ℕ) → IfOk result
-        (λ x. items_at (layer (inner room)) n (map text_of texts.new.items) x.now
-        ≡ items_at (layer (inner room)) (suc n) (map text_of texts.old.items) bytes.now) }
-{
-    let (text, rest) = string_in(alloc, bytes)?;
-    texts.push(text)?;
-    Ok(rest)
-}
-
-/// So many texts.
-fn strings_of(alloc: Global, count: u64, bytes: &[u8]) -> Result<(Vec<String>, &[u8]), Unscanned>
-    ensures { (room : ℕ) → IfOk result (λ x. items_at (layer (inner room)) count [] bytes.now
-        ≡ Ok (map text_of x.0.items, x.1.now)) }
-{
-    let mut texts = Vec::with_capacity(alloc, first_room(count, bytes))?;
-    let mut rest = bytes;
-    for _ in 0..count {
-        let after = push_string(&mut texts, alloc, rest)?;
-        rest = after;
-    }
-    Ok((texts, rest))
-}
-
 /// A list of texts.
 pub(crate) fn labels_in(
     alloc: Global,
@@ -104,34 +74,15 @@ pub(crate) fn labels_in(
 ) -> Result<(Vec<String>, &[u8]), Unscanned>
     ensures { IfOk result (λ x. layer (inner room) bytes.now ≡ Ok (texts_of x.0.items, x.1.now)) }
 {
-    let (count, rest) = list_head(room, bytes)?;
-    let (texts, rest) = strings_of(alloc, count, rest)?;
-    Ok((texts, rest))
-}
-
-/// An integer joins those before it.
-fn push_index<'a>(indices: &mut Vec<i64>, bytes: &'a [u8]) -> Result<&'a [u8], Unscanned>
-    ensures { (room n : ℕ) → IfOk result
-        (λ x. items_at (layer (inner room)) n (map int indices.new.items) x.now
-        ≡ items_at (layer (inner room)) (suc n) (map int indices.old.items) bytes.now) }
-{
-    let (index, rest) = int_in(bytes)?;
-    indices.push(index)?;
-    Ok(rest)
-}
-
-/// So many integers.
-fn integers_of(alloc: Global, count: u64, bytes: &[u8]) -> Result<(Vec<i64>, &[u8]), Unscanned>
-    ensures { (room : ℕ) → IfOk result (λ x. items_at (layer (inner room)) count [] bytes.now
-        ≡ Ok (map int x.0.items, x.1.now)) }
-{
-    let mut indices = Vec::with_capacity(alloc, first_room(count, bytes))?;
-    let mut rest = bytes;
+    let (count, members) = list_head(room, bytes)?;
+    let mut texts = Vec::with_capacity(alloc, first_room(count, members))?;
+    let mut rest = members;
     for _ in 0..count {
-        let after = push_index(&mut indices, rest)?;
+        let (text, after) = string_in(alloc, rest)?;
+        texts.push(text)?;
         rest = after;
     }
-    Ok((indices, rest))
+    Ok((texts, rest))
 }
 
 /// A list of integers.
@@ -142,8 +93,14 @@ pub(crate) fn indices_in(
 ) -> Result<(Vec<i64>, &[u8]), Unscanned>
     ensures { IfOk result (λ x. layer (inner room) bytes.now ≡ Ok (numbers_of x.0.items, x.1.now)) }
 {
-    let (count, rest) = list_head(room, bytes)?;
-    let (indices, rest) = integers_of(alloc, count, rest)?;
+    let (count, members) = list_head(room, bytes)?;
+    let mut indices = Vec::with_capacity(alloc, first_room(count, members))?;
+    let mut rest = members;
+    for _ in 0..count {
+        let (index, after) = int_in(rest)?;
+        indices.push(index)?;
+        rest = after;
+    }
     Ok((indices, rest))
 }
 

@@ -1,6 +1,8 @@
 //! Nodes, relationships and paths, behind their tag.
-ghost use Rattle.std.specs.Prelude.{◌≡◌, ℕ, suc, Ok, IfOk, [], map};
-ghost use Rattle.packstream.specs.Reading.{items_at, layer, inner};
+ghost use Rattle.std.specs.Prelude.{◌≡◌, Ok, IfOk, map};
+ghost use Rattle.packstream.specs.Reading.{layer, inner};
+ghost use Rattle.packstream.specs.Tree.{list};
+ghost use Rattle.packstream.specs.View.{trees_of};
 ghost use Rattle.cells.specs.Shape.{node_shape, unbound_shape, relationship_shape, path_shape};
 ghost use Rattle.cells.specs.Table.{node_tag, relationship_tag, unbound_tag, path_tag};
 ghost use Rattle.structures.specs.Form.{form};
@@ -120,10 +122,8 @@ pub(crate) fn path_of(
     if count != 3 {
         return Err(Unscanned);
     }
-    let (places, rest) = list_head(room, bytes)?;
-    let (nodes, rest) = nodes_of(alloc, version, room - 1, places, rest)?;
-    let (ways, rest) = list_head(room, rest)?;
-    let (relationships, rest) = unbounds_of(alloc, version, room - 1, ways, rest)?;
+    let (nodes, rest) = nodes_in(alloc, version, room, bytes)?;
+    let (relationships, rest) = unbounds_in(alloc, version, room, rest)?;
     let (indices, rest) = indices_in(alloc, room, rest)?;
     let path = Path {
         nodes,
@@ -133,83 +133,47 @@ pub(crate) fn path_of(
     Ok((path, rest))
 }
 
-/// A node joins those before it.
+/// A list of nodes.
 #[cycle(scanner)]
-fn push_node<'a>(
-    nodes: &mut Vec<Node>,
+fn nodes_in(
     alloc: Global,
     version: Version,
     room: u8,
-    bytes: &'a [u8],
-) -> Result<&'a [u8], Unscanned>
-    ensures { (n : ℕ) → IfOk result
-        (λ x. items_at (layer (inner room)) n (map (form version) (map node_shape nodes.new.items)) x.now
-        ≡ items_at (layer (inner room)) (suc n)
-        (map (form version) (map node_shape nodes.old.items)) bytes.now) }
-{
-    let (count, rest) = structure_head(room, tags::NODE, bytes)?;
-    let (node, rest) = node_of(alloc, version, room - 1, count, rest)?;
-    nodes.push(node)?;
-    Ok(rest)
-}
-
-/// So many nodes.
-#[cycle(scanner)]
-fn nodes_of(
-    alloc: Global,
-    version: Version,
-    room: u8,
-    count: u64,
     bytes: &[u8],
 ) -> Result<(Vec<Node>, &[u8]), Unscanned>
-    ensures { IfOk result (λ x. items_at (layer (inner room)) count [] bytes.now
-        ≡ Ok (map (form version) (map node_shape x.0.items), x.1.now)) }
+    ensures { IfOk result (λ x. layer (inner room) bytes.now
+        ≡ Ok (list (trees_of (map (form version) (map node_shape x.0.items))), x.1.now)) }
 {
-    let mut nodes = Vec::with_capacity(alloc, first_room(count, bytes))?;
-    let mut rest = bytes;
+    let (count, members) = list_head(room, bytes)?;
+    let mut nodes = Vec::with_capacity(alloc, first_room(count, members))?;
+    let mut rest = members;
     for _ in 0..count {
-        let after = push_node(&mut nodes, alloc, version, room, rest)?;
+        let (fields, inside) = structure_head(room - 1, tags::NODE, rest)?;
+        let (node, after) = node_of(alloc, version, room - 2, fields, inside)?;
+        nodes.push(node)?;
         rest = after;
     }
     Ok((nodes, rest))
 }
 
-/// A relationship without its ends joins those before it.
+/// A list of relationships without their ends.
 #[cycle(scanner)]
-fn push_unbound<'a>(
-    unbounds: &mut Vec<UnboundRelationship>,
+fn unbounds_in(
     alloc: Global,
     version: Version,
     room: u8,
-    bytes: &'a [u8],
-) -> Result<&'a [u8], Unscanned>
-    ensures { (n : ℕ) → IfOk result
-        (λ x. items_at (layer (inner room)) n (map (form version) (map unbound_shape unbounds.new.items)) x.now
-        ≡ items_at (layer (inner room)) (suc n)
-        (map (form version) (map unbound_shape unbounds.old.items)) bytes.now) }
-{
-    let (count, rest) = structure_head(room, tags::UNBOUND_RELATIONSHIP, bytes)?;
-    let (unbound, rest) = unbound_of(alloc, version, room - 1, count, rest)?;
-    unbounds.push(unbound)?;
-    Ok(rest)
-}
-
-/// So many relationships without their ends.
-#[cycle(scanner)]
-fn unbounds_of(
-    alloc: Global,
-    version: Version,
-    room: u8,
-    count: u64,
     bytes: &[u8],
 ) -> Result<(Vec<UnboundRelationship>, &[u8]), Unscanned>
-    ensures { IfOk result (λ x. items_at (layer (inner room)) count [] bytes.now
-        ≡ Ok (map (form version) (map unbound_shape x.0.items), x.1.now)) }
+    ensures { IfOk result (λ x. layer (inner room) bytes.now
+        ≡ Ok (list (trees_of (map (form version) (map unbound_shape x.0.items))), x.1.now)) }
 {
-    let mut unbounds = Vec::with_capacity(alloc, first_room(count, bytes))?;
-    let mut rest = bytes;
+    let (count, members) = list_head(room, bytes)?;
+    let mut unbounds = Vec::with_capacity(alloc, first_room(count, members))?;
+    let mut rest = members;
     for _ in 0..count {
-        let after = push_unbound(&mut unbounds, alloc, version, room, rest)?;
+        let (fields, inside) = structure_head(room - 1, tags::UNBOUND_RELATIONSHIP, rest)?;
+        let (unbound, after) = unbound_of(alloc, version, room - 2, fields, inside)?;
+        unbounds.push(unbound)?;
         rest = after;
     }
     Ok((unbounds, rest))

@@ -1,12 +1,12 @@
-use Rattle.std.proofs.Common.{◌≡◌, ◌++◌, ◌∷◌, [], Ok, sym, ap, ◌∙◌, List, ℕ, ℤ, refl, rules, string_bytes, to_z, of_z, w64, map, arith}
+use Rattle.std.proofs.Common.{◌≡◌, ◌+◌, ◌-◌, suc, ◌++◌, ◌∷◌, [], Ok, sym, ap, ◌∙◌, List, ℕ, ℤ, refl, rules, string_bytes, to_z, of_z, w64, map, arith}
 use Rattle.std.proofs.lemmas.List.{map_push}
-use Rattle.packstream.specs.Prelude.{Tree, int, text, list, dict, no_trees, tree_then, trees_of, entries_of, dict_at, layer, inner, items_at, entries_at}
+use Rattle.packstream.specs.Prelude.{Tree, Knows, names, int, text, list, dict, no_trees, tree_then, trees_of, entries_of, dict_at, layer, inner, items_at, entries_at}
 use Rattle.packstream.proofs.Steps.{inner_more, items_done, entries_done}
 use Rattle.cells.specs.Prelude.{fault_of_structure, shape, shapes, entry, entries, node_shape, unbound_shape, text_of, texts_of, numbers_of, element_of, elements_of}
 use Rattle.cells.proofs.Views.{node_parts, unbound_parts, relationship_parts, node-roll, unbound-roll, relationship-roll, path-roll}
 use Rattle.structures.specs.Prelude.{form, form_entry}
 use Rattle.structures.proofs.Fitted.{form_pairs, node_written, unbound_written, relationship_written, path_written}
-use Rattle.scanner.proofs.Laid.{has_fields, seen_on}
+use Rattle.scanner.proofs.Laid.{has_fields, seen_on, list_on, list_done}
 use Rattle.scanner.proofs.Members.{shape_of_int, member_on, entry_on, names_added, fine_member, fine_entry}
 use Rattle.scanner.proofs.+scanner.Goals as goal
 
@@ -82,8 +82,20 @@ pub dictionaries::push_value-returns-clause-read : goal.dictionaries::push_value
 dictionaries::push_value-returns-clause-read t c =
     λ n before h. c.push_named.ensures.read n before (h ∙ ap (λ (b : List ℕ). Ok (b, c.args.bytes.now)) (sym c.in_ok-name.ensures.ok))
 
-pub dictionaries::push_entry-returns-clause-read : goal.dictionaries::push_entry-returns-clause-read
-dictionaries::push_entry-returns-clause-read t c = λ n. c.push_value.ensures.read n c.args.bytes.now (rw c.deref.ensures.value at c.in_ok-key.ensures)
+pub dictionaries::pairs_of-loop-preserved : goal.dictionaries::pairs_of-loop-preserved
+dictionaries::pairs_of-loop-preserved t c =
+    let one : c.args.count - c.loop.counter ≡ suc (c.args.count - (c.loop.counter + 1)) = omega (arith, c.loop-test.true) in
+    (c.in_ok-after.ensures.read _ c.loop.rest.now (rw c.deref.ensures.value at c.in_ok-key.ensures) ∙ (rw one at c.loop.invariant.0), c.in_ok-after.ensures.fine c.loop.invariant.1)
+
+pub dictionaries::many_pairs_of-loop-preserved : goal.dictionaries::many_pairs_of-loop-preserved
+dictionaries::many_pairs_of-loop-preserved t c =
+    let one : c.args.count - c.loop.counter ≡ suc (c.args.count - (c.loop.counter + 1)) = omega (arith, c.loop-test.true) in
+    let knows : Knows c.loop.seen (names c.loop.pairs.items) = c.loop.invariant.2 in
+    let key = rw c.deref.ensures.value at c.in_ok-key.ensures in (
+      c.in_ok-after.ensures.read _ c.loop.rest.now (key.key knows) ∙ (rw one at c.loop.invariant.0),
+      c.in_ok-after.ensures.fine c.loop.invariant.1,
+      rw c.in_ok-after.ensures.keys (key.seen knows),
+    )
 
 pub dictionaries::pairs_of-returns-clause-read : goal.dictionaries::pairs_of-returns-clause-read
 dictionaries::pairs_of-returns-clause-read t c = entries_done (layer (inner c.args.room)) c.args.count c.loop.counter (map (form_entry c.args.version) (entries c.loop.pairs.items)) c.loop.rest.now (entries_at (layer (inner c.args.room)) c.args.count [] c.args.bytes.now) c.loop-test.false c.loop.invariant.0
@@ -91,23 +103,27 @@ dictionaries::pairs_of-returns-clause-read t c = entries_done (layer (inner c.ar
 pub dictionaries::many_pairs_of-returns-clause-read : goal.dictionaries::many_pairs_of-returns-clause-read
 dictionaries::many_pairs_of-returns-clause-read t c = entries_done (layer (inner c.args.room)) c.args.count c.loop.counter (map (form_entry c.args.version) (entries c.loop.pairs.items)) c.loop.rest.now (entries_at (layer (inner c.args.room)) c.args.count [] c.args.bytes.now) c.loop-test.false c.loop.invariant.0
 
-pub graphs::push_node-returns : goal.graphs::push_node-returns
-graphs::push_node-returns t c =
+pub graphs::nodes_in-loop-preserved : goal.graphs::nodes_in-loop-preserved
+graphs::nodes_in-loop-preserved t c =
     let v = c.args.version in
-    let xs = c.args.nodes.now.items in
-    λ n. rw (seen_on node_shape (form v) xs _ c.in_ok-node.node c.in_ok-push.ensures.items) (member_on (layer (inner c.args.room)) n (map (form v) (map node_shape xs)) c.args.bytes.now c.in_ok-node.rest.now (form v (node_shape c.in_ok-node.node)) (c.in_ok-count.ensures.1 _ _ c.in_ok-node.ensures))
+    let xs = c.loop.nodes.items in
+    let x = c.in_ok-node.node in
+    let two : c.args.room - 2 ≡ c.args.room - 1 - 1 = omega arith in
+    rw (seen_on node_shape (form v) xs _ x c.in_ok-push.ensures.items) (list_on c.args.room c.in_ok-count.count c.loop.counter (map (form v) (map node_shape xs)) c.loop.rest.now c.args.bytes.now c.in_ok-node.after.now (form v (node_shape x)) c.loop-test.true (c.in_ok-fields.ensures.1 _ _ (rw two at c.in_ok-node.ensures)) c.loop.invariant)
 
-pub graphs::push_unbound-returns : goal.graphs::push_unbound-returns
-graphs::push_unbound-returns t c =
+pub graphs::nodes_in-returns : goal.graphs::nodes_in-returns
+graphs::nodes_in-returns t c = list_done c.args.room c.in_ok-count.count c.loop.counter (map (form c.args.version) (map node_shape c.loop.nodes.items)) c.loop.rest.now c.args.bytes.now c.loop-test.false c.loop.invariant
+
+pub graphs::unbounds_in-loop-preserved : goal.graphs::unbounds_in-loop-preserved
+graphs::unbounds_in-loop-preserved t c =
     let v = c.args.version in
-    let xs = c.args.unbounds.now.items in
-    λ n. rw (seen_on unbound_shape (form v) xs _ c.in_ok-unbound.unbound c.in_ok-push.ensures.items) (member_on (layer (inner c.args.room)) n (map (form v) (map unbound_shape xs)) c.args.bytes.now c.in_ok-unbound.rest.now (form v (unbound_shape c.in_ok-unbound.unbound)) (c.in_ok-count.ensures.1 _ _ c.in_ok-unbound.ensures))
+    let xs = c.loop.unbounds.items in
+    let x = c.in_ok-unbound.unbound in
+    let two : c.args.room - 2 ≡ c.args.room - 1 - 1 = omega arith in
+    rw (seen_on unbound_shape (form v) xs _ x c.in_ok-push.ensures.items) (list_on c.args.room c.in_ok-count.count c.loop.counter (map (form v) (map unbound_shape xs)) c.loop.rest.now c.args.bytes.now c.in_ok-unbound.after.now (form v (unbound_shape x)) c.loop-test.true (c.in_ok-fields.ensures.1 _ _ (rw two at c.in_ok-unbound.ensures)) c.loop.invariant)
 
-pub graphs::nodes_of-returns : goal.graphs::nodes_of-returns
-graphs::nodes_of-returns t c = items_done (layer (inner c.args.room)) c.args.count c.loop.counter (map (form c.args.version) (map node_shape c.loop.nodes.items)) c.loop.rest.now (items_at (layer (inner c.args.room)) c.args.count [] c.args.bytes.now) c.loop-test.false c.loop.invariant
-
-pub graphs::unbounds_of-returns : goal.graphs::unbounds_of-returns
-graphs::unbounds_of-returns t c = items_done (layer (inner c.args.room)) c.args.count c.loop.counter (map (form c.args.version) (map unbound_shape c.loop.unbounds.items)) c.loop.rest.now (items_at (layer (inner c.args.room)) c.args.count [] c.args.bytes.now) c.loop-test.false c.loop.invariant
+pub graphs::unbounds_in-returns : goal.graphs::unbounds_in-returns
+graphs::unbounds_in-returns t c = list_done c.args.room c.in_ok-count.count c.loop.counter (map (form c.args.version) (map unbound_shape c.loop.unbounds.items)) c.loop.rest.now c.args.bytes.now c.loop-test.false c.loop.invariant
 
 pub graphs::node_of-returns : goal.graphs::node_of-returns
 graphs::node_of-returns t c =
@@ -164,4 +180,4 @@ graphs::path_of-returns t c =
     has_fields (layer (inner c.args.room)) c.args.count 0x50 (tree_then (list (trees_of (map (form v) ns))) (tree_then (list (trees_of (map (form v) ls))) (tree_then (numbers_of is) no_trees))) _ c.args.bytes.now _
     (ap (form v) (path-roll _) ∙ sym (path_written v ns ls is (list (trees_of (map (form v) ns))) (list (trees_of (map (form v) ls))) (numbers_of is) refl refl refl))
     (search rules)
-    (c.in_ok-nodes.rest.now, c.in_ok-places.ensures.1 _ _ c.in_ok-nodes.ensures, (c.in_ok-relationships.rest.now, c.in_ok-ways.ensures.1 _ _ c.in_ok-relationships.ensures, (c.in_ok-indices.rest.now, c.in_ok-indices.ensures, refl)))
+    (c.in_ok-nodes.rest.now, c.in_ok-nodes.ensures, (c.in_ok-relationships.rest.now, c.in_ok-relationships.ensures, (c.in_ok-indices.rest.now, c.in_ok-indices.ensures, refl)))

@@ -2,6 +2,7 @@ use Rattle.std.proofs.Common.{◌≡◌, ◌-◌, ◌*◌, ◌+◌, true, [], ma
 use Rattle.packstream.specs.Prelude.{Knows, names, layer, inner, items_at, entries_at, trees_of, entries_of}
 use Rattle.cells.specs.Prelude.{all_fine, fault_of_structure, structures_in, structures_under, shapes, entries, node_shape, unbound_shape}
 use Rattle.structures.specs.Prelude.{form, form_entry}
+use Rattle.scanner.proofs.Laid.{ListSoFar}
 use Rattle.scanner.proofs.+scanner.Given as goal
 
 abbrev pub decreases-scan::list_of : goal.decreases-scan::list_of
@@ -40,23 +41,11 @@ decreases-graphs::path_of l = 6 * l.room + 3
 abbrev pub decreases-scan::push_member : goal.decreases-scan::push_member
 decreases-scan::push_member l = 6 * l.room + 4
 
-abbrev pub decreases-dictionaries::push_entry : goal.decreases-dictionaries::push_entry
-decreases-dictionaries::push_entry l = 6 * l.room + 5
-
 abbrev pub decreases-dictionaries::push_value : goal.decreases-dictionaries::push_value
 decreases-dictionaries::push_value l = 6 * l.room + 4
 
-abbrev pub decreases-dictionaries::push_new_entry : goal.decreases-dictionaries::push_new_entry
-decreases-dictionaries::push_new_entry l = 6 * l.room + 5
-
 abbrev pub decreases-scan::made_of : goal.decreases-scan::made_of
 decreases-scan::made_of l = 6 * l.room + 4
-
-abbrev pub decreases-graphs::push_node : goal.decreases-graphs::push_node
-decreases-graphs::push_node l = 6 * l.room + 4
-
-abbrev pub decreases-graphs::push_unbound : goal.decreases-graphs::push_unbound
-decreases-graphs::push_unbound l = 6 * l.room + 4
 
 abbrev pub decreases-scan::members_of : goal.decreases-scan::members_of
 decreases-scan::members_of l = 6 * l.room + 5
@@ -67,11 +56,11 @@ decreases-dictionaries::pairs_of l = 6 * l.room + 6
 abbrev pub decreases-dictionaries::many_pairs_of : goal.decreases-dictionaries::many_pairs_of
 decreases-dictionaries::many_pairs_of l = 6 * l.room + 6
 
-abbrev pub decreases-graphs::nodes_of : goal.decreases-graphs::nodes_of
-decreases-graphs::nodes_of l = 6 * l.room + 5
+abbrev pub decreases-graphs::nodes_in : goal.decreases-graphs::nodes_in
+decreases-graphs::nodes_in l = 6 * l.room + 1
 
-abbrev pub decreases-graphs::unbounds_of : goal.decreases-graphs::unbounds_of
-decreases-graphs::unbounds_of l = 6 * l.room + 5
+abbrev pub decreases-graphs::unbounds_in : goal.decreases-graphs::unbounds_in
+decreases-graphs::unbounds_in l = 6 * l.room + 1
 
 abbrev pub invariant-scan::members_of-loop : goal.invariant-scan::members_of-loop
 invariant-scan::members_of-loop l = (items_at (layer (inner l.room)) (l.count - l.counter) (map (form l.version) (shapes l.members.items)) l.rest ≡ items_at (layer (inner l.room)) l.count [] l.bytes) × (all_fine (fault_of_structure l.version) (structures_in (trees_of (shapes l.members.items))) ≡ true)
@@ -82,8 +71,8 @@ invariant-dictionaries::pairs_of-loop l = (entries_at (layer (inner l.room)) (l.
 abbrev pub invariant-dictionaries::many_pairs_of-loop : goal.invariant-dictionaries::many_pairs_of-loop
 invariant-dictionaries::many_pairs_of-loop l = (entries_at (layer (inner l.room)) (l.count - l.counter) (map (form_entry l.version) (entries l.pairs.items)) l.rest ≡ entries_at (layer (inner l.room)) l.count [] l.bytes) × (all_fine (fault_of_structure l.version) (structures_under (entries_of (entries l.pairs.items))) ≡ true) × Knows l.seen (names l.pairs.items)
 
-abbrev pub invariant-graphs::nodes_of-loop : goal.invariant-graphs::nodes_of-loop
-invariant-graphs::nodes_of-loop l = items_at (layer (inner l.room)) (l.count - l.counter) (map (form l.version) (map node_shape l.nodes.items)) l.rest ≡ items_at (layer (inner l.room)) l.count [] l.bytes
+abbrev pub invariant-graphs::nodes_in-loop : goal.invariant-graphs::nodes_in-loop
+invariant-graphs::nodes_in-loop l = ListSoFar l.room l.count l.counter (map (form l.version) (map node_shape l.nodes.items)) l.rest l.bytes
 
-abbrev pub invariant-graphs::unbounds_of-loop : goal.invariant-graphs::unbounds_of-loop
-invariant-graphs::unbounds_of-loop l = items_at (layer (inner l.room)) (l.count - l.counter) (map (form l.version) (map unbound_shape l.unbounds.items)) l.rest ≡ items_at (layer (inner l.room)) l.count [] l.bytes
+abbrev pub invariant-graphs::unbounds_in-loop : goal.invariant-graphs::unbounds_in-loop
+invariant-graphs::unbounds_in-loop l = ListSoFar l.room l.count l.counter (map (form l.version) (map unbound_shape l.unbounds.items)) l.rest l.bytes
