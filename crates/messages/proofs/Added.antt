@@ -1,5 +1,5 @@
 -- A message that is written without a value: bytes that were added one after the other are its spelling.
-use Rattle.std.proofs.Common.{◌≡◌, ◌≤◌, ◌<◌, ◌+◌, ℕ, ℤ, pos, int_le, false, true, Bool, List, [], ◌∷◌, ◌++◌, length, Option, None, Result, Ok, Err, codes, refl, ap, sym, subst, ◌∙◌, append_assoc, arith, FitsSigned, w64, IsUtf8}
+use Rattle.std.proofs.Common.{◌≡◌, ◌≤◌, ◌<◌, ◌+◌, ℕ, ℤ, pos, int_le, false, true, Bool, List, [], ◌∷◌, ◌++◌, length, Option, Result, Ok, Err, codes, refl, ap, sym, subst, ◌∙◌, append_assoc, arith, FitsSigned, w64, IsUtf8}
 use Rattle.std.proofs.lemmas.List.{append-nil, length-append}
 use Rattle.packstream.specs.declared.fault.Reason.{Reason as PackReason}
 use Rattle.packstream.specs.Prelude.{Tree, int, text, list, dict, structure, Trees, no_trees, tree_then, Entries, no_entries, entry_then, head, text_bytes, canon, IsGood, depth, first_fault, faults_in, entries_of}
@@ -15,7 +15,6 @@ use Rattle.messages.specs.declared.request.Count.TheVariants.{All, Of}
 use Rattle.messages.specs.declared.fault.MsgFault.{MsgFault}
 use Rattle.messages.specs.Prelude.{Row, Run, ◌>>=◌, request_contents, count_tree, contents_of_message, Contents, cell_put, Means, with_dict, transaction_put, rows_put, mode_pairs, count_number, packed_by, spelling_within, spelling_of_tree, form_put, Adds, AddsEntries, AddsCells}
 use Rattle.messages.proofs.Fields.{put_value, put_formed}
-use Rattle.messages.proofs.Rounds.{put_alone}
 use Rattle.messages.proofs.Sent.{sized_fits, means_of}
 
 right_none : {A : Type 0} (xs ys : List A) → xs ++ ys ≡ [] → ys ≡ []
@@ -143,10 +142,6 @@ mode_good Write = record { deep = omega arith; sound = (tt, tt); plain = tt }
 pub mode_deep : (m : Mode) → depth (dict (entries_of (mode_pairs m))) ≤ 31
 mode_deep Read = omega arith
 mode_deep Write = omega arith
-
-pub alone_added : (m : Mode) (token : Option (List ℕ)) (old new : List ℕ) → token ≡ None → new ≡ old ++ canon (dict (entries_of (mode_pairs m))) → AddsEntries (transaction_put m token) old new
-alone_added m token old new n e =
-    record { entries = entries_of (mode_pairs m); is = ap (transaction_put m) n ∙ put_alone m; good = mode_good m; deep = mode_deep m; added = e }
 
 -- A structure without fields.
 pub plain_added : (tag : ℕ) (old new : List ℕ) → tag < 256 → new ≡ old ++ canon (structure tag no_trees) → Adds (Ok (structure tag no_trees)) old new

@@ -1,10 +1,11 @@
 -- Fields one at a time: by their number, what they say by the row of their structure, and how a field of cells is written.
-use Rattle.std.proofs.Common.{◌≡◌, List, [], ◌∷◌, length, false, ◌==◌, refl, sym, ◌∙◌, Err, Global, String, rules, ℕ, true, ap, Result, Ok}
-use Rattle.packstream.specs.Prelude.{dict, text, Trees, no_trees, tree_then, Tree, list, Entries, count, IsGood, tree, trees, trees_of, first_fault, faults_in}
+use Rattle.std.proofs.Common.{◌≡◌, List, [], ◌∷◌, length, false, ◌==◌, refl, sym, ◌∙◌, Err, Global, String, rules, ℕ, true, ap, Option, Result, Ok}
+use Rattle.packstream.specs.Prelude.{dict, text, structure, entries_of, Trees, no_trees, tree_then, Tree, list, Entries, count, IsGood, tree, trees, trees_of, first_fault, faults_in}
 use Rattle.packstream.specs.declared.value.Value.{Value, Text as TextCase, the_lemmas}
 use Rattle.packstream.proofs.Putting.{len_trees}
 use Rattle.cells.specs.Prelude.{text_of, shape, scan, fault as structure_fault, structures, IsWritable}
-use Rattle.messages.specs.Prelude.{no_field, one_field, run_parts, entries_of_dict, members_of_list, only_dict, contents_of_login, contents_of_run, as_dict, as_list, Name, Others, Named, ignored, extra, text_field, cells, cell_list, credentials, RUN, of_transaction, ◌>>=◌, contents, contents_of_named, contents_of_row, contents_of_extra, cell_of_field, cell_by, Answers, of_cell, value_by, form_by, cell_put}
+use Rattle.messages.specs.Prelude.{no_field, one_field, run_parts, entries_of_dict, members_of_list, only_dict, contents_of_login, contents_of_run, as_dict, as_list, Name, Others, Named, ignored, extra, text_field, cells, cell_list, credentials, RUN, of_transaction, ◌>>=◌, contents, contents_of_named, contents_of_row, contents_of_extra, cell_of_field, cell_by, Answers, of_cell, value_by, form_by, cell_put, form_put, transaction_put, request_contents, Run}
+use Rattle.messages.specs.declared.request.Mode.{Mode}
 use Rattle.wire.specs.declared.Version.{Version}
 use Rattle.wire.specs.Prelude.{hello_has_login}
 use Rattle.messages.specs.declared.fault.MsgFault.{MsgFault}
@@ -80,6 +81,11 @@ pub run_row : (v : Version) (ts : Trees) → contents_of_row v RUN (text_field �
     ≡ (run_parts ts >>= λ p. contents_of_run v p.text p.parameters p.entries)
 run_row v (tree_then (text s) (tree_then (dict ps) (tree_then (dict es) no_trees))) = text_and_dict RUN (text s) ps (contents_of_named v of_transaction es) (scan (structure_fault v) 0 (structures (dict ps)))
 run_row v ts = refl
+
+-- a RUN is written of its text, of its parameters and of its other entries
+pub run_put : (v : Version) (s : List ℕ) (ps : List (List ℕ × Tree)) (m : Mode) (token : Option (List ℕ)) (es : Entries) (u w : Tree) → transaction_put m token ≡ Ok es → cell_put v (dict (entries_of ps)) ≡ Ok u → w ≡ structure 0x10 (tree_then (text s) (tree_then u (tree_then (dict es) no_trees)))
+    → form_put v (request_contents (Run s ps m token)) ≡ Ok w
+run_put v s ps m token es u w e f is = rw (is, e, f) refl
 
 -- a value that stands for a cell is the cell's form
 pub form_again : (v : Version) (s t : Tree) → Form v s t → form v s ≡ t

@@ -1,27 +1,17 @@
 -- Named entries that are texts, and those of a token, added one after the other.
-use Rattle.std.proofs.Common.{◌≡◌, ℕ, true, false, List, [], ◌∷◌, ◌++◌, None, Some, Result, Ok, codes, refl, ap, sym, subst, ◌∙◌, append_assoc, arith, IsUtf8}
+use Rattle.std.proofs.Common.{◌≡◌, ◌≤◌, ◌<◌, ℕ, suc, true, false, List, [], ◌∷◌, ◌++◌, length, map, None, Some, Result, Ok, codes, refl, ap, sym, subst, ◌∙◌, append_assoc, arith, IsUtf8, String, Global, string_bytes}
+use Rattle.std.specs.Borrow.{Bor}
 use Rattle.std.proofs.lemmas.List.{append-nil}
 use Rattle.std.proofs.lemmas.Str.{IsUtf8-string_bytes}
-use Rattle.packstream.specs.Prelude.{Tree, text, dict, structure, no_trees, Entries, no_entries, entry_then, entry_count, head, text_bytes, canon, canon_entries, IsGood, entries_of}
+use Rattle.packstream.specs.Prelude.{Tree, text, dict, structure, no_trees, Entries, no_entries, entry_then, entry_count, head, text_bytes, canon, canon_entries, IsGood, depth, entries_of}
 use Rattle.wire.specs.declared.Version.{Version}
 use Rattle.wire.specs.Versions.{hello_has_login, has_logon}
 use Rattle.messages.specs.declared.request.Auth.{Auth}
 use Rattle.messages.specs.declared.request.Mode.TheVariants.{Read, Write}
-use Rattle.messages.specs.Prelude.{AuthView, auth_view, Hello, Logon, Logoff, Failure, request_contents, response_contents, form_put, is_token, with_dict, transaction_put, token_dict, login_pairs, hello_pairs, error_pairs, Adds, AddsEntries}
+use Rattle.messages.specs.Prelude.{AuthView, auth_view, Hello, Logon, Logoff, Failure, request_contents, response_contents, form_put, is_token, transaction_put, token_dict, named_text, of_texts, login_pairs, hello_pairs, error_pairs, Adds, AddsEntries}
 use Rattle.messages.specs.Sound.{HasTexts}
 use Rattle.messages.specs.declared.fault.MsgFault.{MsgFault}
-use Rattle.messages.proofs.Added.{three, in_dict}
-
--- a name and its value, then the entries behind them
-pub entry_on : (k : List ℕ) (t : Tree) (es : Entries) (old a b new : List ℕ) → a ≡ old ++ text_bytes k → b ≡ a ++ canon t → new ≡ b ++ canon_entries es → new ≡ old ++ canon_entries (entry_then k t es)
-entry_on k t es old a b new p q r = r ∙ ap (λ x. x ++ canon_entries es) (q ∙ ap (λ x. x ++ canon t) p) ∙ three old (text_bytes k) (canon t) (canon_entries es)
-
--- of a text, whose name and value were added at once
-pub named_on : (k s : List ℕ) (es : Entries) (old b new : List ℕ) → b ≡ old ++ text_bytes k ++ text_bytes s → new ≡ b ++ canon_entries es → new ≡ old ++ canon_entries (entry_then k (text s) es)
-named_on k s es old b new p q = q ∙ ap (λ x. x ++ canon_entries es) p ∙ three old (text_bytes k) (text_bytes s) (canon_entries es)
-
-pub last_named : (k s old new : List ℕ) → new ≡ old ++ text_bytes k ++ text_bytes s → new ≡ old ++ canon_entries (entry_then k (text s) no_entries)
-last_named k s old new p = named_on k s no_entries old new new p (sym (append-nil new))
+use Rattle.messages.proofs.Added.{field_good, mode_good, mode_deep}
 
 -- the head of a dictionary, then its entries
 pub dict_on : (es : Entries) (old a new : List ℕ) → a ≡ old ++ head 0xA0 0xD8 (entry_count es) → new ≡ a ++ canon_entries es → new ≡ old ++ canon (dict es)
@@ -32,9 +22,10 @@ dict_on es old a new p q = q ∙ ap (λ x. x ++ canon_entries es) p ∙ append_a
 abbrev pub token_entries : List ℕ → Entries
 token_entries s = entries_of ((codes "tx_metadata", token_dict s) ∷ [])
 
-pub token_entry_added : (s old a b new : List ℕ) → a ≡ old ++ text_bytes (codes "tx_metadata") → b ≡ a ++ 0xA1 ∷ [] → new ≡ b ++ text_bytes (codes "token") ++ text_bytes s → new ≡ old ++ canon_entries (token_entries s)
+pub token_entry_added : (s old a new : List ℕ) → a ≡ old ++ (0x8B ∷ codes "tx_metadata" ++ 0xA1 ∷ 0x85 ∷ codes "token") → new ≡ a ++ text_bytes s → new ≡ old ++ canon_entries (token_entries s)
 unfolding head
-token_entry_added s old a b new p q r = entry_on (codes "tx_metadata") (token_dict s) no_entries old a new new p (dict_on (entry_then (codes "token") (text s) no_entries) a b new q (last_named (codes "token") s b new r)) (sym (append-nil new))
+token_entry_added s old a new p q = q ∙ ap (λ x. x ++ text_bytes s) p ∙ append_assoc old (0x8B ∷ codes "tx_metadata" ++ 0xA1 ∷ 0x85 ∷ codes "token") (text_bytes s)
+    ∙ ap (λ x. old ++ (0x8B ∷ codes "tx_metadata" ++ 0xA1 ∷ 0x85 ∷ codes "token" ++ x)) (sym (append-nil (text_bytes s ++ []) ∙ append-nil (text_bytes s)))
 
 pub write_good : (s : List ℕ) → IsUtf8 s → IsGood (dict (token_entries s))
 unfolding lib.Utf8.encode
@@ -52,27 +43,41 @@ pub token_added : (s old a new : List ℕ) → is_token s ≡ true → IsUtf8 s 
 unfolding head
 token_added s old a new f u p q = record { entries = token_entries s; is = rw f refl; good = write_good s u; deep = omega arith; added = dict_on (token_entries s) old a new p q }
 
-pub mode_and_token_added : (s old a b new : List ℕ) → is_token s ≡ true → IsUtf8 s → a ≡ old ++ 0xA2 ∷ [] → b ≡ a ++ text_bytes (codes "mode") ++ text_bytes (codes "r") → new ≡ b ++ canon_entries (token_entries s)
-    → AddsEntries (transaction_put Read (Some s)) old new
+pub mode_and_token_added : (s old a new : List ℕ) → is_token s ≡ true → IsUtf8 s → a ≡ old ++ (0xA2 ∷ 0x84 ∷ codes "mode" ++ 0x81 ∷ 0x72 ∷ []) → new ≡ a ++ canon_entries (token_entries s) → AddsEntries (transaction_put Read (Some s)) old new
 unfolding head
-mode_and_token_added s old a b new f u p q r = record {
+mode_and_token_added s old a new f u p q = record {
   entries = entry_then (codes "mode") (text (codes "r")) (token_entries s);
   is = rw f refl;
   good = read_good s u;
   deep = omega arith;
-  added = dict_on (entry_then (codes "mode") (text (codes "r")) (token_entries s)) old a new p (named_on (codes "mode") (codes "r") (token_entries s) a b new q r);
+  added = q ∙ ap (λ x. x ++ canon_entries (token_entries s)) p ∙ append_assoc old (0xA2 ∷ 0x84 ∷ codes "mode" ++ 0x81 ∷ 0x72 ∷ []) (canon_entries (token_entries s));
 }
 
--- ---- logins and errors
+-- the mode alone
+pub of_writing : (old new : List ℕ) → new ≡ old ++ 0xA0 ∷ [] → AddsEntries (transaction_put Write None) old new
+unfolding head
+of_writing old new a = record { entries = no_entries; is = refl; good = mode_good Write; deep = mode_deep Write; added = a }
 
-pub auth_texts : (a : Auth) → HasTexts (auth_view a)
-auth_texts a = record { scheme = IsUtf8-string_bytes a.scheme; principal = IsUtf8-string_bytes a.principal; credentials = IsUtf8-string_bytes a.credentials }
+pub of_reading : (old new : List ℕ) → new ≡ old ++ (0xA1 ∷ 0x84 ∷ codes "mode" ++ 0x81 ∷ 0x72 ∷ []) → AddsEntries (transaction_put Read None) old new
+unfolding head
+of_reading old new a = record { entries = entry_then (codes "mode") (text (codes "r")) no_entries; is = refl; good = mode_good Read; deep = mode_deep Read; added = a }
 
-pub login_named : (l : AuthView) (old a b new : List ℕ) → a ≡ old ++ text_bytes (codes "scheme") ++ text_bytes l.scheme → b ≡ a ++ text_bytes (codes "principal") ++ text_bytes l.principal
-    → new ≡ b ++ text_bytes (codes "credentials") ++ text_bytes l.credentials → new ≡ old ++ canon_entries (entries_of (login_pairs l))
-login_named l old a b new p q r =
-    named_on (codes "scheme") l.scheme (entry_then (codes "principal") (text l.principal) (entry_then (codes "credentials") (text l.credentials) no_entries)) old a new p
-    (named_on (codes "principal") l.principal (entry_then (codes "credentials") (text l.credentials) no_entries) a b new q (last_named (codes "credentials") l.credentials b new r))
+-- ---- texts
+
+pub count_texts : (xs : List (Bor (List ℕ) × Bor (List ℕ))) → entry_count (entries_of (map named_text xs)) ≡ length xs
+count_texts [] = refl
+count_texts (x ∷ xs) = ap suc (count_texts xs)
+
+-- the heads of a structure and of its dictionary, then the entries
+pub texts_put : (tag : ℕ) (xs : List (Bor (List ℕ) × Bor (List ℕ))) (old a b new : List ℕ) → a ≡ old ++ 0xB1 ∷ tag ∷ [] → b ≡ a ++ head 0xA0 0xD8 (length xs) → new ++ [] ≡ b ++ canon_entries (entries_of (map named_text xs))
+    → new ≡ old ++ canon (of_texts tag (map named_text xs))
+texts_put tag xs old a b new p q r =
+    let es = entries_of (map named_text xs) in
+    dict_on es a b new (q ∙ ap (λ n. a ++ head 0xA0 0xD8 n) (sym (count_texts xs))) (sym (append-nil new) ∙ r) ∙ ap (λ x. x ++ canon (dict es)) p ∙ append_assoc old (0xB1 ∷ tag ∷ []) (canon (dict es))
+    ∙ ap (λ x. old ++ (0xB1 ∷ tag ∷ x)) (sym (append-nil (canon (dict es))))
+
+texts_added : (f : Result Tree MsgFault) (tag : ℕ) (ps qs : List (List ℕ × Tree)) (old new : List ℕ) → tag < 256 → f ≡ Ok (of_texts tag qs) → ps ≡ qs → new ≡ old ++ canon (of_texts tag ps) → IsGood (dict (entries_of qs)) → depth (dict (entries_of qs)) ≤ 31 → Adds f old new
+texts_added f tag ps qs old new h is e a g d = record { value = of_texts tag qs; is = is; good = field_good tag (dict (entries_of qs)) h g d; added = a ∙ ap (λ x. old ++ canon (of_texts tag x)) e }
 
 login_good : (l : AuthView) → HasTexts l → IsGood (dict (entries_of (login_pairs l)))
 unfolding lib.Utf8.encode
@@ -81,10 +86,6 @@ login_good l t = record {
   sound = ((refl, (refl, (refl, tt))), (tt, (tt, (tt, tt))));
   plain = ((codes "scheme", (refl, refl)), t.scheme, ((codes "principal", (refl, refl)), t.principal, ((codes "credentials", (refl, refl)), t.credentials, tt)));
 }
-
-pub auth_added : (l : AuthView) (old a new : List ℕ) → HasTexts l → a ≡ old ++ 0xA3 ∷ [] → new ≡ a ++ canon_entries (entries_of (login_pairs l)) → AddsEntries (Ok (entries_of (login_pairs l))) old new
-unfolding head
-auth_added l old a new t p q = record { entries = entries_of (login_pairs l); is = refl; good = login_good l t; deep = omega arith; added = dict_on (entries_of (login_pairs l)) old a new p q }
 
 agent_good : (s : List ℕ) → IsUtf8 s → IsGood (dict (entries_of (hello_pairs s None)))
 unfolding lib.Utf8.encode
@@ -95,54 +96,30 @@ unfolding lib.Utf8.encode
 agent_and_login_good s l u t = record {
   deep = omega arith;
   sound = ((refl, (refl, (refl, (refl, tt)))), (tt, (tt, (tt, (tt, tt)))));
-  plain = ((codes "user_agent", (refl, refl)), u, ((codes "scheme", (refl, refl)), t.scheme, ((codes "principal", (refl, refl)), t.principal, ((codes "credentials", (refl, refl)), t.credentials, tt))));
-}
-
-pub agent_added : (s old a new : List ℕ) → IsUtf8 s → a ≡ old ++ 0xA1 ∷ [] → new ≡ a ++ text_bytes (codes "user_agent") ++ text_bytes s → AddsEntries (Ok (entries_of (hello_pairs s None))) old new
-unfolding head
-agent_added s old a new u p q =
-    record { entries = entries_of (hello_pairs s None); is = refl; good = agent_good s u; deep = omega arith; added = dict_on (entries_of (hello_pairs s None)) old a new p (last_named (codes "user_agent") s a new q) }
-
-pub agent_and_login_added : (s : List ℕ) (l : AuthView) (old a b new : List ℕ) → IsUtf8 s → HasTexts l → a ≡ old ++ 0xA4 ∷ [] → b ≡ a ++ text_bytes (codes "user_agent") ++ text_bytes s → new ≡ b ++ canon_entries (entries_of (login_pairs l))
-    → AddsEntries (Ok (entries_of (hello_pairs s (Some l)))) old new
-unfolding head
-agent_and_login_added s l old a b new u t p q r = record {
-  entries = entries_of (hello_pairs s (Some l));
-  is = refl;
-  good = agent_and_login_good s l u t;
-  deep = omega arith;
-  added = dict_on (entries_of (hello_pairs s (Some l))) old a new p (named_on (codes "user_agent") s (entries_of (login_pairs l)) a b new q r);
+  plain = ((codes "user_agent", (refl, refl)), u, (login_good l t).plain);
 }
 
 error_good : (c m : List ℕ) → IsUtf8 c → IsUtf8 m → IsGood (dict (entries_of (error_pairs c m)))
 unfolding lib.Utf8.encode
 error_good c m u w = record { deep = omega arith; sound = ((refl, (refl, tt)), (tt, (tt, tt))); plain = ((codes "code", (refl, refl)), u, ((codes "message", (refl, refl)), w, tt)) }
 
-pub error_added : (c m old a b new : List ℕ) → IsUtf8 c → IsUtf8 m → a ≡ old ++ 0xA2 ∷ [] → b ≡ a ++ text_bytes (codes "code") ++ text_bytes c → new ≡ b ++ text_bytes (codes "message") ++ text_bytes m
-    → AddsEntries (Ok (entries_of (error_pairs c m))) old new
-unfolding head
-error_added c m old a b new u w p q r = record {
-  entries = entries_of (error_pairs c m);
-  is = refl;
-  good = error_good c m u w;
-  deep = omega arith;
-  added = dict_on (entries_of (error_pairs c m)) old a new p (named_on (codes "code") c (entry_then (codes "message") (text m) no_entries) a b new q (last_named (codes "message") m b new r));
-}
+auth_texts : (a : Auth) → HasTexts (auth_view a)
+auth_texts a = record { scheme = IsUtf8-string_bytes a.scheme; principal = IsUtf8-string_bytes a.principal; credentials = IsUtf8-string_bytes a.credentials }
 
 -- ---- messages
 
-pub hello_added : (v : Version) (s old mid new : List ℕ) → hello_has_login v ≡ false → mid ≡ old ++ 0xB1 ∷ 0x01 ∷ [] → AddsEntries (Ok (entries_of (hello_pairs s None))) mid new → Adds (form_put v (request_contents (Hello s None))) old new
-hello_added v s old mid new h e a = subst (λ f. Adds f old new) (let k : with_dict 0x01 (Ok (entries_of (hello_pairs s None))) ≡ form_put v (request_contents (Hello s None)) = rw h refl in k) (in_dict 0x01 _ old mid new (omega arith) e a)
+pub hello_added : (v : Version) (s : String Global) (ps : List (List ℕ × Tree)) (old new : List ℕ) → hello_has_login v ≡ false → ps ≡ hello_pairs (string_bytes s) None → new ≡ old ++ canon (of_texts 0x01 ps) → Adds (form_put v (request_contents (Hello (string_bytes s) None))) old new
+hello_added v s ps old new h e a = texts_added _ 0x01 ps _ old new (omega arith) (rw h refl) e a (agent_good (string_bytes s) (IsUtf8-string_bytes s)) (omega arith)
 
-pub hello_and_login_added : (v : Version) (s : List ℕ) (l : AuthView) (old mid new : List ℕ) → hello_has_login v ≡ true → mid ≡ old ++ 0xB1 ∷ 0x01 ∷ [] → AddsEntries (Ok (entries_of (hello_pairs s (Some l)))) mid new
-    → Adds (form_put v (request_contents (Hello s (Some l)))) old new
-hello_and_login_added v s l old mid new h e a = subst (λ f. Adds f old new) (let k : with_dict 0x01 (Ok (entries_of (hello_pairs s (Some l)))) ≡ form_put v (request_contents (Hello s (Some l))) = rw h refl in k) (in_dict 0x01 _ old mid new (omega arith) e a)
+pub hello_and_login_added : (v : Version) (s : String Global) (l : Auth) (ps : List (List ℕ × Tree)) (old new : List ℕ) → hello_has_login v ≡ true → ps ≡ hello_pairs (string_bytes s) (Some (auth_view l)) → new ≡ old ++ canon (of_texts 0x01 ps)
+    → Adds (form_put v (request_contents (Hello (string_bytes s) (Some (auth_view l))))) old new
+hello_and_login_added v s l ps old new h e a = texts_added _ 0x01 ps _ old new (omega arith) (rw h refl) e a (agent_and_login_good (string_bytes s) (auth_view l) (IsUtf8-string_bytes s) (auth_texts l)) (omega arith)
 
-pub logon_added : (v : Version) (l : AuthView) (old mid new : List ℕ) → has_logon v ≡ true → mid ≡ old ++ 0xB1 ∷ 0x6A ∷ [] → AddsEntries (Ok (entries_of (login_pairs l))) mid new → Adds (form_put v (request_contents (Logon l))) old new
-logon_added v l old mid new h e a = subst (λ f. Adds f old new) (let k : with_dict 0x6A (Ok (entries_of (login_pairs l))) ≡ form_put v (request_contents (Logon l)) = rw h refl in k) (in_dict 0x6A _ old mid new (omega arith) e a)
+pub logon_added : (v : Version) (l : Auth) (ps : List (List ℕ × Tree)) (old new : List ℕ) → has_logon v ≡ true → ps ≡ login_pairs (auth_view l) → new ≡ old ++ canon (of_texts 0x6A ps) → Adds (form_put v (request_contents (Logon (auth_view l)))) old new
+logon_added v l ps old new h e a = texts_added _ 0x6A ps _ old new (omega arith) (rw h refl) e a (login_good (auth_view l) (auth_texts l)) (omega arith)
 
 pub logoff_added : (v : Version) (old new : List ℕ) → has_logon v ≡ true → Adds (Ok (structure 0x6B no_trees)) old new → Adds (form_put v (request_contents Logoff)) old new
 logoff_added v old new h a = subst (λ f. Adds f old new) (let k : ◌≡◌ {A = Result Tree MsgFault} (Ok (structure 0x6B no_trees)) (form_put v (request_contents Logoff)) = rw h refl in k) a
 
-pub failure_added : (v : Version) (c m old mid new : List ℕ) → mid ≡ old ++ 0xB1 ∷ 0x7F ∷ [] → AddsEntries (Ok (entries_of (error_pairs c m))) mid new → Adds (form_put v (response_contents (Failure c m))) old new
-failure_added v c m old mid new e a = in_dict 0x7F _ old mid new (omega arith) e a
+pub failure_added : (v : Version) (c m : String Global) (ps : List (List ℕ × Tree)) (old new : List ℕ) → ps ≡ error_pairs (string_bytes c) (string_bytes m) → new ≡ old ++ canon (of_texts 0x7F ps) → Adds (form_put v (response_contents (Failure (string_bytes c) (string_bytes m)))) old new
+failure_added v c m ps old new e a = texts_added _ 0x7F ps _ old new (omega arith) refl e a (error_good (string_bytes c) (string_bytes m) (IsUtf8-string_bytes c) (IsUtf8-string_bytes m)) (omega arith)

@@ -1,5 +1,5 @@
 -- What is written is told again, and is plain where the message is made of texts, of numbers in their ranges and of cells; so a spelling reads back.
-use Rattle.std.proofs.Common.{◌≡◌, ℕ, ℤ, pos, negsuc, int_le, ◌++◌, Bool, true, false, cond, List, [], ◌∷◌, Option, None, Some, IfSome, Result, Ok, Err, codes, refl, ap, sym, subst, ◌∙◌, arith, IsUtf8, int_eq}
+use Rattle.std.proofs.Common.{◌≡◌, ℕ, ℤ, pos, negsuc, int_le, ◌++◌, Bool, true, false, List, [], ◌∷◌, Option, None, Some, IfSome, Result, Ok, Err, codes, refl, ap, sym, subst, ◌∙◌, arith, IsUtf8, int_eq}
 use Rattle.packstream.specs.declared.fault.Reason.{Reason as PackReason, Reason}
 use Rattle.packstream.specs.Prelude.{Tree, text, dict, list, structure, no_trees, tree_then, Entries, entry_then, no_entries, entries_of, trees_of, IsPlain, HavePlain, first_fault, faults_in, IsGood}
 use Rattle.packstream.proofs.Ranges.{fits_neg}
@@ -18,7 +18,7 @@ use Rattle.messages.specs.declared.request.Mode.{Mode}
 use Rattle.messages.specs.declared.request.Mode.TheVariants.{Read, Write}
 use Rattle.messages.specs.declared.request.Count.TheVariants.{All, Of}
 use Rattle.messages.specs.declared.fault.MsgFault.{MsgFault}
-use Rattle.messages.specs.Prelude.{Row, requests, responses, RUN, request_view, response_view, AuthView, RequestView, Hello, Logon, Logoff, Goodbye, Reset, Run, Begin, Commit, Rollback, Discard, Pull, ResponseView, Success, Record, Ignored, Failure, ◌>>=◌, Answers, Contents, contents, contents_of_message, contents_of_mode, is_token, contents_of_metadata, lookup, mode_tree, token_tree, cell_of_field, cell_by, request_contents, response_contents, value_by, form_by, cell_put, IsCell, IsRequest, IsResponse, RequestsReadBack, ResponsesReadBack, form_put, packed_by, spelling_within, spelling_of_tree, request_spelling, response_spelling, transaction_put, mode_pairs, token_dict, token_pairs, Means}
+use Rattle.messages.specs.Prelude.{Row, requests, responses, RUN, request_view, response_view, AuthView, RequestView, Hello, Logon, Logoff, Goodbye, Reset, Run, Begin, Commit, Rollback, Discard, Pull, ResponseView, Success, Record, Ignored, Failure, ◌>>=◌, Contents, contents, contents_of_message, contents_of_mode, is_token, contents_of_metadata, lookup, mode_tree, token_tree, cell_of_field, cell_by, request_contents, response_contents, value_by, form_by, cell_put, IsCell, IsRequest, IsResponse, RequestsReadBack, ResponsesReadBack, form_put, packed_by, spelling_within, spelling_of_tree, request_spelling, response_spelling, transaction_put, mode_pairs, token_dict, Means}
 use Rattle.messages.specs.Sound.{HasTexts}
 use Rattle.messages.proofs.Fields.{form_again}
 use Rattle.packstream.proofs.Checking.{good_when}
@@ -95,20 +95,13 @@ pub put_alone : (m : Mode) → transaction_put m None ≡ Ok (entries_of (mode_p
 put_alone Read = refl
 put_alone Write = refl
 
-put_by : (m : Mode) (s : List ℕ) (b : Bool) → is_token s ≡ b → transaction_put m (Some s) ≡ (cond b (Ok (mode_pairs m ++ (codes "tx_metadata", token_dict s) ∷ [])) (Err fault.Extra) >>= λ ps. Ok (entries_of ps))
-put_by Read s true e = rw e refl
-put_by Write s true e = rw e refl
-put_by Read s false e = rw e refl
-put_by Write s false e = rw e refl
+pub put_with : (m : Mode) (s : List ℕ) → is_token s ≡ true → transaction_put m (Some s) ≡ Ok (entries_of (mode_pairs m ++ (codes "tx_metadata", token_dict s) ∷ []))
+put_with Read s e = rw e refl
+put_with Write s e = rw e refl
 
-pub put_with : (m : Mode) (s : List ℕ) → transaction_put m (Some s) ≡ (token_pairs m s >>= λ ps. Ok (entries_of ps))
-put_with m s = put_by m s (is_token s) refl
-
--- what was answered by a list of entries is answered by the entries
-pub answered_entries : {X : Type 0} (view : X → List (List ℕ × Tree)) (r : Result X MsgFault) (s : Result (List (List ℕ × Tree)) MsgFault) (w : Result Entries MsgFault)
-    → w ≡ (s >>= λ ps. Ok (entries_of ps)) → Answers view r s → Answers (λ x. entries_of (view x)) r w
-answered_entries view (Ok x) s w e h = e ∙ ap (λ r. r >>= λ ps. Ok (entries_of ps)) h
-answered_entries view (Err x) s w e h = λ n. e ∙ ap (λ r. r >>= λ ps. Ok (entries_of ps)) (h n)
+pub not_put : (m : Mode) (s : List ℕ) → is_token s ≡ false → transaction_put m (Some s) ≡ Err fault.Extra
+not_put Read s e = rw e refl
+not_put Write s e = rw e refl
 
 same_entries : (m : Mode) (token : Option (List ℕ)) (x es : Entries) → ◌≡◌ {A = Result Entries MsgFault} (Ok x) (Ok es) → TellTransaction x m token → TellTransaction es m token
 same_entries m token x es e t = let same : x ≡ es = cc in subst (λ (y : Entries). TellTransaction y m token) same t

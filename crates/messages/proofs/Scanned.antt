@@ -1,11 +1,10 @@
 -- A message that is read without a value: what was read of its parts one after the other is read of it.
-use Rattle.std.proofs.Common.{◌≡◌, ◌≤◌, ◌<◌, ℕ, ℤ, negsuc, true, List, [], ◌∷◌, ◌++◌, Option, None, Ok, codes, refl, ap, sym, subst, ◌∙◌, arith, IsUtf8, Vec, Global}
+use Rattle.std.proofs.Common.{◌≡◌, ◌≤◌, ◌<◌, ℕ, ℤ, true, List, [], ◌∷◌, ◌++◌, Option, None, Ok, codes, refl, ap, sym, subst, ◌∙◌, arith, IsUtf8, Vec, Global}
 use Rattle.std.proofs.lemmas.List.{append-nil}
 use Rattle.packstream.specs.Prelude.{Tree, int, text, list, dict, structure, no_trees, tree_then, Entries, no_entries, entry_then, head, canon, IsGood, depth, entries_of, trees_of, marker, AreBytes, Spells}
 use Rattle.packstream.specs.Spelling.{SpellsEntries}
 use Rattle.packstream.specs.declared.marker.Size.TheVariants.{Here}
 use Rattle.packstream.proofs.Only.{canon_spells}
-use Rattle.packstream.proofs.Ranges.{fits_neg}
 use Rattle.wire.specs.declared.Version.{Version}
 use Rattle.wire.specs.Versions.{every_version, has_logon}
 use Rattle.cells.specs.declared.cell.Cell.{Cell, Dict as DictCase, List as ListCase}
@@ -17,9 +16,9 @@ use Rattle.scanner.specs.Fronts.{SpellsFront}
 use Rattle.messages.specs.declared.request.Mode.{Mode}
 use Rattle.messages.specs.declared.request.Mode.TheVariants.{Read, Write}
 use Rattle.messages.specs.declared.request.Count.{Count}
-use Rattle.messages.specs.Prelude.{AuthView, RequestView, ResponseView, request_contents, response_contents, Row, Name, Named, Others, ignored, refused, extra, requests, responses, HELLO, LOGON, RUN, BEGIN, PULL, DISCARD, SUCCESS, RECORD, IGNORED, FAILURE, hello, credentials, of_transaction, how_many, of_error, ◌>>=◌, Contents, contents, contents_of_number, contents_of_login, contents_of_dict, contents_of_named, contents_of_extra, contents_of_row, contents_of_message, cell_by, cell_of_field, is_token, count_tree, mode_tree, token_tree, login_trees, Logon, Run, Begin, Pull, Discard, Success, Record, Ignored, Means, Req, Resp, mode_pairs, SpellsEntry, SpellsExtra, SpellsNamed, SpellsDict, SpellsList}
+use Rattle.messages.specs.Prelude.{AuthView, RequestView, ResponseView, request_contents, response_contents, Row, Name, Named, Others, ignored, refused, extra, requests, responses, HELLO, LOGON, RUN, BEGIN, PULL, DISCARD, SUCCESS, RECORD, IGNORED, FAILURE, hello, credentials, of_transaction, how_many, of_error, ◌>>=◌, Contents, contents, contents_of_number, contents_of_login, contents_of_dict, contents_of_extra, contents_of_row, contents_of_message, cell_by, cell_of_field, is_token, count_tree, mode_tree, token_tree, login_trees, Logon, Run, Begin, Pull, Discard, Success, Record, Ignored, Means, Req, Resp, mode_pairs, SpellsEntry, SpellsExtra, SpellsNamed, SpellsDict, SpellsList}
 use Rattle.messages.proofs.Added.{plain_good, field_good, run_good, mode_good, mode_deep}
-use Rattle.messages.proofs.Kept.{named_kept}
+use Rattle.messages.proofs.Kept.{extra_kept}
 use Rattle.messages.proofs.Named.{token_entries, write_good, read_good}
 
 -- ---- structures
@@ -64,15 +63,15 @@ pub begin_means : (v : Version) (m : Mode) (token : Option (List ℕ)) (b : List
 begin_means v m token b x = extra_means v requests BEGIN 0x11 ignored of_transaction (mode_tree m ∷ token_tree token ∷ []) b (omega arith) (λ es. refl) x
 
 -- what cells say that were read of a dictionary is what the dictionary says
-pub named_extra : (v : Version) (ns : List Named) (xs : List Tree) (es : Entries) (b : List ℕ) → SpellsNamed es b → contents_of_named v ns es ≡ Ok xs → SpellsExtra v ignored ns xs b
-named_extra v ns xs es b x h = record { entries = x.entries; good = x.good; deep = x.deep; spelled = x.spelled; told = x.told v ns ∙ h }
+pub named_extra : (v : Version) (o : Others) (ns : List Named) (xs : List Tree) (es : Entries) (b : List ℕ) → SpellsNamed es b → contents_of_extra v o ns es ≡ Ok xs → SpellsExtra v o ns xs b
+named_extra v o ns xs es b x h = record { entries = x.entries; good = x.good; deep = x.deep; spelled = x.spelled; told = x.told v o ns ∙ h }
 
 -- a message of a dictionary that was read as cells
 named_means : (v : Version) (table : List Row) (n : Name) (tag : ℕ) (ns : List Named) (s : Contents) (es : Entries) (b : List ℕ) → tag < 256
     → ((fs : Entries) → contents_of_message v table (structure tag (tree_then (dict fs) no_trees)) ≡ contents_of_row v n (extra ignored ns ∷ []) (tree_then (dict fs) no_trees))
     → SpellsNamed es b → contents_of_dict v n ns es ≡ Ok s → Means v table s (0xB1 ∷ tag ∷ b)
 named_means v table n tag ns s es b small row x h =
-    field_means v table s tag (dict x.entries) b small (row x.entries ∙ ap (λ r. r >>= λ ys. Ok (contents n [] ys)) (x.told v ns) ∙ h) x.good x.deep x.spelled
+    field_means v table s tag (dict x.entries) b small (row x.entries ∙ ap (λ r. r >>= λ ys. Ok (contents n [] ys)) (x.told v ignored ns) ∙ h) x.good x.deep x.spelled
 
 pub hello_means : (v : Version) (r : RequestView) (es : Entries) (b : List ℕ) → SpellsNamed es b → contents_of_dict v HELLO hello es ≡ Ok (request_contents r) → Req v r (0xB1 ∷ 0x01 ∷ b)
 hello_means v r es b = named_means v requests HELLO 0x01 hello (request_contents r) es b (omega arith) (λ fs. refl)
@@ -106,7 +105,7 @@ list_scanned v cs rest b s g d w = record { members = form_all v (trees_of (shap
 
 pub extra_scanned : (v : Version) (es : Entries) (rest b : List ℕ) → rest ≡ [] → SpellsFront (form v (dict es)) rest b → IsGood (form v (dict es)) → depth (form v (dict es)) ≤ 31 → SpellsNamed es b
 extra_scanned v es rest b none s g d =
-    record { entries = form_under v es; good = g; deep = d; spelled = whole (form v (dict es)) rest b none s; told = λ w ns. named_kept w v ns es }
+    record { entries = form_under v es; good = g; deep = d; spelled = whole (form v (dict es)) rest b none s; told = λ w o ns. extra_kept w v o ns es }
 
 pub success_means : (v : Version) (ps : List (List ℕ × Tree)) (rest b : List ℕ) → rest ≡ [] → SpellsDict v (dict (entries_of ps)) rest b → Resp v (Success ps) (0xB1 ∷ 0x70 ∷ b)
 success_means v ps rest b none p =
@@ -146,58 +145,21 @@ one_spelled : (k : List ℕ) (t : Tree) (w b rest : List ℕ) → AreBytes w →
 unfolding marker
 one_spelled k t w b rest bytes is e none = (bytes, (Here 1, [], b, (refl, refl), entry_first k t no_entries rest b e none, (0xA1, refl, is)))
 
-two_spelled : (k l : List ℕ) (t u : Tree) (w b c rest : List ℕ) → AreBytes w → w ≡ 0xA2 ∷ b → SpellsEntry k t c b → SpellsEntry l u rest c → rest ≡ [] → Spells (dict (entry_then k t (entry_then l u no_entries))) w
-unfolding marker
-two_spelled k l t u w b c rest bytes is e f none = (bytes, (Here 2, [], b, (refl, refl), entry_first k t (entry_then l u no_entries) c b e (entry_first l u no_entries rest c f none), (0xA2, refl, is)))
-
-pub number_entry : (z : ℤ) (b c rest : List ℕ) → b ≡ 0x81 ∷ 0x6E ∷ c → SpellsFront (int z) rest c → SpellsEntry (codes "n") (int z) rest b
+number_entry : (z : ℤ) (b c rest : List ℕ) → b ≡ 0x81 ∷ 0x6E ∷ c → SpellsFront (int z) rest c → SpellsEntry (codes "n") (int z) rest b
 unfolding marker lib.Utf8.encode
 number_entry z b c rest is s = (0x81 ∷ 0x6E ∷ [], s.0, record { size = Here 1; field = []; sized = (refl, refl); utf8 = (codes "n", (refl, refl)); begins = (0x81, refl, refl) }, s.1.1, is ∙ ap (λ x. 0x81 ∷ 0x6E ∷ x) s.2)
-
-pub query_entry : (b c rest : List ℕ) → b ≡ 0x83 ∷ 0x71 ∷ 0x69 ∷ 0x64 ∷ c → SpellsFront (int (negsuc 0)) rest c → SpellsEntry (codes "qid") (int (negsuc 0)) rest b
-unfolding marker lib.Utf8.encode
-query_entry b c rest is s =
-    (0x83 ∷ 0x71 ∷ 0x69 ∷ 0x64 ∷ [], s.0, record { size = Here 3; field = []; sized = (refl, refl); utf8 = (codes "qid", (refl, refl)); begins = (0x83, refl, refl) }, s.1.1, is ∙ ap (λ x. 0x83 ∷ 0x71 ∷ 0x69 ∷ 0x64 ∷ x) s.2)
 
 number_good : (z : ℤ) → IsGood (int z) → IsGood (dict (entry_then (codes "n") (int z) no_entries))
 unfolding lib.Utf8.encode
 number_good z g = record { deep = omega arith; sound = ((refl, tt), (tt, tt)); plain = ((codes "n", (refl, refl)), g.plain, tt) }
 
-number_query_good : (z : ℤ) → IsGood (int z) → IsGood (dict (entry_then (codes "n") (int z) (entry_then (codes "qid") (int (negsuc 0)) no_entries)))
-unfolding lib.Utf8.encode
-number_query_good z g = record { deep = omega arith; sound = ((refl, (refl, tt)), (tt, (tt, tt))); plain = ((codes "n", (refl, refl)), g.plain, ((codes "qid", (refl, refl)), fits_neg 0 (omega arith), tt)) }
-
-query_number_good : (z : ℤ) → IsGood (int z) → IsGood (dict (entry_then (codes "qid") (int (negsuc 0)) (entry_then (codes "n") (int z) no_entries)))
-unfolding lib.Utf8.encode
-query_number_good z g = record { deep = omega arith; sound = ((refl, (refl, tt)), (tt, (tt, tt))); plain = ((codes "qid", (refl, refl)), fits_neg 0 (omega arith), ((codes "n", (refl, refl)), g.plain, tt)) }
-
-pub rows_scanned : (v : Version) (c : Count) (z : ℤ) (w b rest : List ℕ) → AreBytes w → w ≡ 0xA1 ∷ b → SpellsEntry (codes "n") (int z) rest b → IsGood (int z) → rest ≡ [] → contents_of_number z ≡ Ok (count_tree c ∷ [])
+pub rows_scanned : (v : Version) (c : Count) (z : ℤ) (w d rest : List ℕ) → AreBytes w → w ≡ 0xA1 ∷ 0x81 ∷ 0x6E ∷ d → SpellsFront (int z) rest d → IsGood (int z) → rest ≡ [] → contents_of_number z ≡ Ok (count_tree c ∷ [])
     → SpellsExtra v refused how_many (count_tree c ∷ []) w
-rows_scanned v c z w b rest bytes is e g none h = record {
+rows_scanned v c z w d rest bytes is s g none h = record {
   entries = entry_then (codes "n") (int z) no_entries;
   good = number_good z g;
   deep = omega arith;
-  spelled = one_spelled (codes "n") (int z) w b rest bytes is e none;
-  told = ap (λ r. r >>= λ x. Ok (x ++ [])) h;
-}
-
-pub rows_query_scanned : (v : Version) (c : Count) (z : ℤ) (w b d rest : List ℕ) → AreBytes w → w ≡ 0xA2 ∷ b → SpellsEntry (codes "n") (int z) d b → IsGood (int z) → SpellsEntry (codes "qid") (int (negsuc 0)) rest d → rest ≡ []
-    → contents_of_number z ≡ Ok (count_tree c ∷ []) → SpellsExtra v refused how_many (count_tree c ∷ []) w
-rows_query_scanned v c z w b d rest bytes is e g f none h = record {
-  entries = entry_then (codes "n") (int z) (entry_then (codes "qid") (int (negsuc 0)) no_entries);
-  good = number_query_good z g;
-  deep = omega arith;
-  spelled = two_spelled (codes "n") (codes "qid") (int z) (int (negsuc 0)) w b d rest bytes is e f none;
-  told = ap (λ r. r >>= λ x. Ok (x ++ [])) h;
-}
-
-pub query_rows_scanned : (v : Version) (c : Count) (z : ℤ) (w b d rest : List ℕ) → AreBytes w → w ≡ 0xA2 ∷ b → SpellsEntry (codes "qid") (int (negsuc 0)) d b → SpellsEntry (codes "n") (int z) rest d → IsGood (int z) → rest ≡ []
-    → contents_of_number z ≡ Ok (count_tree c ∷ []) → SpellsExtra v refused how_many (count_tree c ∷ []) w
-query_rows_scanned v c z w b d rest bytes is f e g none h = record {
-  entries = entry_then (codes "qid") (int (negsuc 0)) (entry_then (codes "n") (int z) no_entries);
-  good = query_number_good z g;
-  deep = omega arith;
-  spelled = two_spelled (codes "qid") (codes "n") (int (negsuc 0)) (int z) w b d rest bytes is f e none;
+  spelled = one_spelled (codes "n") (int z) w (0x81 ∷ 0x6E ∷ d) rest bytes is (number_entry z (0x81 ∷ 0x6E ∷ d) d rest refl s) none;
   told = ap (λ r. r >>= λ x. Ok (x ++ [])) h;
 }
 
@@ -215,11 +177,11 @@ pub mode_scanned : (v : Version) (m : Mode) (b : List ℕ) → b ≡ canon (dict
 mode_scanned v m b e = record { entries = entries_of (mode_pairs m); good = mode_good m; deep = mode_deep m; spelled = mode_spelled m b e; told = mode_told v m }
 
 -- the entry of a token, the last
-pub token_entry : (s b c d rest : List ℕ) → b ≡ 0x8B ∷ codes "tx_metadata" ++ c → c ≡ 0xA1 ∷ 0x85 ∷ codes "token" ++ d → SpellsFront (text s) rest d → rest ≡ [] → SpellsEntries (token_entries s) b
+pub token_entry : (s b d rest : List ℕ) → b ≡ 0x8B ∷ codes "tx_metadata" ++ 0xA1 ∷ 0x85 ∷ codes "token" ++ d → SpellsFront (text s) rest d → rest ≡ [] → SpellsEntries (token_entries s) b
 unfolding marker lib.Utf8.encode
-token_entry s b c d rest is inner t none = (
+token_entry s b d rest is t none = (
   0x8B ∷ codes "tx_metadata",
-  c,
+  0xA1 ∷ 0x85 ∷ codes "token" ++ d,
   [],
   record { size = Here 11; field = []; sized = (refl, refl); utf8 = (codes "tx_metadata", (refl, refl)); begins = (0x8B, refl, refl) },
   (
@@ -236,10 +198,10 @@ token_entry s b c d rest is inner t none = (
       none,
       ap (λ x. 0x85 ∷ codes "token" ++ x) t.2,
     ),
-    (0xA1, refl, inner),
+    (0xA1, refl, refl),
   ),
   refl,
-  is ∙ ap (λ x. 0x8B ∷ codes "tx_metadata" ++ x) (sym (append-nil c)),
+  is ∙ ap (λ x. 0x8B ∷ codes "tx_metadata" ++ x) (sym (append-nil (0xA1 ∷ 0x85 ∷ codes "token" ++ d))),
 )
 
 pub token_scanned : (v : Version) (s w b : List ℕ) → AreBytes w → w ≡ 0xA1 ∷ b → SpellsEntries (token_entries s) b → is_token s ≡ true → IsUtf8 s → SpellsExtra v ignored of_transaction (mode_tree Write ∷ text s ∷ []) w

@@ -1,5 +1,6 @@
 -- Messages a part at a time, as the code reads and builds them. Private functions and proofs alone need it: what it says is compared with the table.
-use Rattle.std.specs.Prelude.{if◌then◌else◌, ◌≡◌, ℕ, map, String, string_bytes, pos, negsuc, int_le, List, [], ◌∷◌, ◌++◌, codes, Option, None, Some, Result, Ok, Err}
+use Rattle.std.specs.Prelude.{if◌then◌else◌, ◌≡◌, ℕ, map, String, string_bytes, pos, negsuc, int_le, List, [], ◌∷◌, codes, Option, None, Some, Result, Ok, Err}
+use Rattle.std.specs.Borrow.{Bor}
 use Rattle.std.specs.declared.alloc.Global.{Global}
 use Rattle.cells.specs.Shape.{text_of}
 use Rattle.packstream.specs.Tree.{Tree, null, int, text, list, dict, structure, Trees, no_trees, tree_then, Entries}
@@ -15,7 +16,7 @@ use Rattle.messages.specs.declared.request.Mode.TheVariants.{Read, Write}
 use Rattle.messages.specs.declared.request.Count.{Count}
 use Rattle.wire.specs.Versions.{every_version}
 use Rattle.messages.specs.Table.{Name, Named, credentials, of_transaction, how_many, RUN}
-use Rattle.messages.specs.Reading.{◌>>=◌, Contents, contents, is_token, contents_of_text, contents_of_mode, contents_of_count, contents_of_query, contents_of_token, contents_of_metadata, contents_of_named, cell_of_field, mode_tree, token_tree, count_tree}
+use Rattle.messages.specs.Reading.{◌>>=◌, Contents, contents, contents_of_text, contents_of_mode, contents_of_count, contents_of_query, contents_of_token, contents_of_metadata, contents_of_named, cell_of_field, mode_tree, token_tree, count_tree}
 use Rattle.messages.specs.View.{AuthView}
 use Rattle.messages.specs.Writing.{named_put}
 
@@ -144,17 +145,19 @@ mode_pairs Write = []
 abbrev pub token_dict : List ℕ → Tree
 token_dict s = dict (entries_of ((codes "token", text s) ∷ []))
 
--- the entries of a transaction with a token
-abbrev pub token_pairs : Mode → List ℕ → Result (List (List ℕ × Tree)) MsgFault
-token_pairs m s =
-    if is_token s then Ok (mode_pairs m ++ (codes "tx_metadata", token_dict s) ∷ [])
-    else Err fault.Extra
-
 -- the number that a count is written as
 abbrev pub count_number : Tree → Result Tree MsgFault
 count_number null = Ok (int (negsuc 0))
 count_number (int z) = if int_le (pos 1) z then Ok (int z) else Err fault.Extra
 count_number t = Err fault.Extra
+
+-- a text under its name
+abbrev pub named_text : Bor (List ℕ) × Bor (List ℕ) → List ℕ × Tree
+named_text e = (e.0.now, text e.1.now)
+
+-- a structure of one dictionary of these entries
+abbrev pub of_texts : ℕ → List (List ℕ × Tree) → Tree
+of_texts tag ps = structure tag (tree_then (dict (entries_of ps)) no_trees)
 
 -- the entries by which a client says who it is
 abbrev pub login_pairs : AuthView → List (List ℕ × Tree)

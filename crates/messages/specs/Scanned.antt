@@ -6,7 +6,7 @@ use Rattle.packstream.specs.Spelling.{Spells, SpellsText, SpellsTree}
 use Rattle.wire.specs.declared.Version.{Version}
 use Rattle.scanner.specs.Fronts.{SpellsFront}
 use Rattle.messages.specs.Table.{Named, Others}
-use Rattle.messages.specs.Reading.{cell_of_field, contents_of_named, contents_of_extra}
+use Rattle.messages.specs.Reading.{cell_of_field, contents_of_extra}
 
 -- the front of the bytes spells an entry, and rest follows it
 abbrev pub SpellsEntry : List ℕ → Tree → List ℕ → List ℕ → Type 0
@@ -28,8 +28,8 @@ pub record SpellsNamed (es : Entries) (b : List ℕ) : Type 0 where
   pub good : IsGood (dict entries)
   pub deep : depth (dict entries) ≤ 31
   pub spelled : Spells (dict entries) b
-  pub told : (v : Version) (ns : List Named)
-      → contents_of_named v ns entries ≡ contents_of_named v ns es
+  pub told : (v : Version) (o : Others) (ns : List Named)
+      → contents_of_extra v o ns entries ≡ contents_of_extra v o ns es
 
 -- the front of the bytes spells a good dictionary, which is this dictionary of cells at the version, and rest follows it
 pub record SpellsDict (v : Version) (cell : Tree) (rest b : List ℕ) : Type 0 where

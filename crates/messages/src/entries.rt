@@ -1,13 +1,12 @@
 //! The named entries of a dictionary, of values or of cells.
 ghost use Rattle.std.specs.Prelude.{◌≡◌, codes, Some, ◌∷◌, []};
 ghost use Rattle.packstream.specs.Tree.{Tree};
-ghost use Rattle.packstream.specs.View.{tree, entries, entries_of};
+ghost use Rattle.packstream.specs.View.{tree};
 ghost use Rattle.cells.specs.Shape.{shape, text_of};
 ghost use Rattle.messages.specs.Reading.{Answers, lookup, contents_of_text, contents_of_mode, contents_of_count, contents_of_query, contents_of_token, contents_of_metadata, contents_of_named, is_token, token_tree, mode_tree, count_tree, login_trees, all_named, contents_of_extra, request_contents, response_contents};
 ghost use Rattle.messages.specs.Parts.{contents_of_login, contents_of_dict, entries_seen, IsKind};
 ghost use Rattle.messages.specs.Table.{refused, how_many, hello, of_transaction, of_error, HELLO, FAILURE};
 ghost use Rattle.messages.specs.View.{auth_view as login, token_view, request_view, response_view};
-ghost use Rattle.wire.specs.declared.Version.{Version as AnyVersion};
 ghost use Rattle.wire.specs.declared.Version.TheVariants.{V51};
 
 use crate::MAX_TOKEN;
@@ -151,9 +150,9 @@ pub(crate) fn transaction_of<T: Item>(
 }
 
 /// That the last query is meant, if one is named.
-fn query_in(pairs: &[(String, Value)]) -> Result<(), MsgFault>
+fn query_in<T: Item>(pairs: &[(String, T)]) -> Result<(), MsgFault>
     ensures { Answers (λ _. []) result
-        (contents_of_query (lookup (codes "qid") (entries_of (entries pairs.now)))) }
+        (contents_of_query (lookup (codes "qid") (entries_seen T.seen pairs.now))) }
 {
     match entry(pairs, "qid") {
         Kind::Absent => Ok(()),
@@ -162,9 +161,9 @@ fn query_in(pairs: &[(String, Value)]) -> Result<(), MsgFault>
     }
 }
 
-fn number_in(pairs: &[(String, Value)]) -> Result<Count, MsgFault>
+fn number_in<T: Item>(pairs: &[(String, T)]) -> Result<Count, MsgFault>
     ensures { Answers (λ c. count_tree c ∷ []) result
-        (contents_of_count (lookup (codes "n") (entries_of (entries pairs.now)))) }
+        (contents_of_count (lookup (codes "n") (entries_seen T.seen pairs.now))) }
 {
     match entry(pairs, "n") {
         Kind::Int(-1) => Ok(Count::All),
@@ -174,8 +173,8 @@ fn number_in(pairs: &[(String, Value)]) -> Result<Count, MsgFault>
 }
 
 /// Whether `n` and `qid` are the only names.
-fn say_how_many_alone(pairs: &[(String, Value)]) -> bool
-    ensures { result ≡ all_named how_many (entries_of (entries pairs.now)) }
+fn say_how_many_alone<T: Item>(pairs: &[(String, T)]) -> bool
+    ensures { result ≡ all_named how_many (entries_seen T.seen pairs.now) }
 {
     for pair in pairs {
         if pair.0.as_str() != "n" && pair.0.as_str() != "qid" {
@@ -186,10 +185,9 @@ fn say_how_many_alone(pairs: &[(String, Value)]) -> bool
 }
 
 /// How many rows; no other entry is allowed.
-pub(crate) fn count_in(pairs: &[(String, Value)]) -> Result<Count, MsgFault>
-    ensures { (v : AnyVersion)
-        → Answers (λ c. count_tree c ∷ []) result
-        (contents_of_extra v refused how_many (entries_of (entries pairs.now))) }
+pub(crate) fn count_in<T: Item>(pairs: &[(String, T)]) -> Result<Count, MsgFault>
+    ensures { Answers (λ c. count_tree c ∷ []) result
+        (contents_of_extra V51 refused how_many (entries_seen T.seen pairs.now)) }
 {
     if !say_how_many_alone(pairs) {
         return Err(MsgFault::Extra);

@@ -1,12 +1,11 @@
 //! Parts of a message that are read of requests and of responses.
 ghost use Rattle.std.specs.Prelude.{[], ◌≡◌, IfOk, OnOk};
-ghost use Rattle.wire.specs.declared.Version.{Version as AnyVersion};
 ghost use Rattle.messages.specs.Scanned.{SpellsDict};
 ghost use Rattle.packstream.specs.Tree.{list, dict};
 ghost use Rattle.packstream.specs.View.{tree, trees, trees_of, entries as value_entries, entries_of};
 ghost use Rattle.cells.specs.Shape.{entries, shape, shapes};
 ghost use Rattle.messages.specs.Reading.{Answers, cell_of_field};
-ghost use Rattle.messages.specs.Parts.{entries_of_dict, only_dict, no_field, one_field, dict_of_cells, list_of_cells, as_dict, as_list};
+ghost use Rattle.messages.specs.Parts.{entries_of_dict, only_dict, no_field, one_field, dict_of_cells, list_of_cells};
 
 use crate::fault::MsgFault;
 use packstream::Value;
@@ -65,28 +64,8 @@ fn cell_in(alloc: Global, version: Version, field: &Value) -> Result<Cell, MsgFa
     Ok(read_value(alloc, version, field)?)
 }
 
-/// The entries of a cell that is a dictionary.
-#[tactic(auto, using(speller::proofs::Flat::shape_of_dict))]
-fn entries_of_cell(cell: Cell) -> Result<Vec<(String, Cell)>, MsgFault>
-    ensures { Answers (λ v. dict (entries_of (entries v.items))) result (as_dict (shape cell)) }
-{
-    match cell {
-        Cell::Dict(pairs) => Ok(pairs),
-        _ => Err(MsgFault::Fields),
-    }
-}
-
-/// The members of a cell that is a list.
-fn members_of_cell(cell: Cell) -> Result<Vec<Cell>, MsgFault>
-    ensures { Answers (λ v. list (trees_of (shapes v.items))) result (as_list (shape cell)) }
-{
-    match cell {
-        Cell::List(members) => Ok(members),
-        _ => Err(MsgFault::Fields),
-    }
-}
-
 /// A dictionary of cells.
+#[tactic(auto, using(speller::proofs::Flat::shape_of_dict))]
 pub(crate) fn cells_in(
     alloc: Global,
     version: Version,
@@ -95,7 +74,10 @@ pub(crate) fn cells_in(
     ensures { Answers (λ v. dict (entries_of (entries v.items))) result
         (dict_of_cells version (tree field.now)) }
 {
-    entries_of_cell(cell_in(alloc, version, field)?)
+    match cell_in(alloc, version, field)? {
+        Cell::Dict(pairs) => Ok(pairs),
+        _ => Err(MsgFault::Fields),
+    }
 }
 
 /// A list of cells.
@@ -103,7 +85,10 @@ pub(crate) fn row_in(alloc: Global, version: Version, field: &Value) -> Result<V
     ensures { Answers (λ v. list (trees_of (shapes v.items))) result
         (list_of_cells version (tree field.now)) }
 {
-    members_of_cell(cell_in(alloc, version, field)?)
+    match cell_in(alloc, version, field)? {
+        Cell::List(members) => Ok(members),
+        _ => Err(MsgFault::Fields),
+    }
 }
 
 /// How deep a field may nest: the message itself is one level of the 32.

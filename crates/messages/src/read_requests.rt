@@ -168,8 +168,8 @@ fn scan_one(alloc: Global, version: Version, tag: u8, bytes: &[u8]) -> Result<Re
     ensures { IfOk result (λ r. Req version (request_view r) (0xB1 ∷ tag ∷ bytes.now)) }
 {
     match tag {
-        tags::PULL => Ok(Request::Pull(rows_in(bytes)?)),
-        tags::DISCARD => Ok(Request::Discard(rows_in(bytes)?)),
+        tags::PULL => Ok(Request::Pull(rows_in(alloc, version, bytes)?)),
+        tags::DISCARD => Ok(Request::Discard(rows_in(alloc, version, bytes)?)),
         tags::BEGIN => {
             let (mode, token) = transaction_in(alloc, version, bytes)?;
             Ok(Request::Begin { mode, token })

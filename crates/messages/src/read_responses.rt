@@ -5,8 +5,8 @@ ghost use Rattle.packstream.specs.View.{tree, trees, trees_of};
 ghost use Rattle.wire.specs.declared.Version.{Version as AnyVersion};
 ghost use Rattle.messages.specs.Table.{cells, cell_list, SUCCESS, RECORD, IGNORED, FAILURE, responses, success_tag, record_tag};
 ghost use Rattle.messages.specs.View.{response_view};
-ghost use Rattle.messages.specs.Reading.{contents, Answers, contents_of_row, contents_of_message, response_contents};
-ghost use Rattle.messages.specs.Parts.{contents_of_plain, members_of_list};
+ghost use Rattle.messages.specs.Reading.{Answers, contents_of_row, contents_of_message, response_contents};
+ghost use Rattle.messages.specs.Parts.{members_of_list};
 ghost use Rattle.messages.specs.Messages.{Resp};
 
 use crate::entries::failure_of;
@@ -52,14 +52,6 @@ fn record_of(alloc: Global, version: Version, fields: &[Value]) -> Result<Respon
     Ok(Response::Record(row_in(alloc, version, field)?))
 }
 
-fn ignored_of(fields: &[Value]) -> Result<Response, MsgFault>
-    ensures { Answers (λ r. response_contents (response_view r)) result
-        (contents_of_plain (contents IGNORED [] []) (trees_of (trees fields.now))) }
-{
-    none(fields)?;
-    Ok(Response::Ignored)
-}
-
 /// The response of a value, by the table of responses.
 #[tactic(auto, using(crate::proofs::Fields::none_row, crate::proofs::Fields::extra_row))]
 pub(crate) fn response_of_value(
@@ -76,7 +68,10 @@ pub(crate) fn response_of_value(
     match *tag {
         tags::SUCCESS => success_of(alloc, version, fields),
         tags::RECORD => record_of(alloc, version, fields),
-        tags::IGNORED => ignored_of(fields),
+        tags::IGNORED => {
+            none(fields)?;
+            Ok(Response::Ignored)
+        }
         tags::FAILURE => failure_of(extra_in(fields)?),
         _ => Err(MsgFault::UnknownTag),
     }

@@ -1,7 +1,7 @@
 //! What a client asks.
 ghost use Rattle.std.specs.Prelude.{◌≡◌, IfOk};
 ghost use Rattle.cells.specs.Shape.{entries};
-ghost use Rattle.messages.specs.View.{request_view, auth_view, auth_in, token_view};
+ghost use Rattle.messages.specs.View.{request_view, auth_view};
 
 use std::alloc::AllocError;
 use std::fmt;
@@ -95,15 +95,6 @@ impl Clone for Auth {
     }
 }
 
-fn copy_auth(auth: &Option<Auth>) -> Result<Option<Auth>, AllocError>
-    ensures { IfOk result (λ a. auth_in a ≡ auth_in auth.now) }
-{
-    match auth {
-        None => Ok(None),
-        Some(auth) => Ok(Some(auth.clone()?)),
-    }
-}
-
 fn copy_cells(cells: &Vec<(String, Cell)>) -> Result<Vec<(String, Cell)>, AllocError>
     ensures { IfOk result (λ v. entries v.items ≡ entries cells.now.items) }
 {
@@ -115,15 +106,6 @@ fn copy_cells(cells: &Vec<(String, Cell)>) -> Result<Vec<(String, Cell)>, AllocE
     Ok(copies)
 }
 
-fn copy_token(token: &Option<String>) -> Result<Option<String>, AllocError>
-    ensures { IfOk result (λ t. token_view t ≡ token_view token.now) }
-{
-    match token {
-        None => Ok(None),
-        Some(token) => Ok(Some(token.clone()?)),
-    }
-}
-
 impl Clone for Request {
     ghost is_clone = { λ r s. request_view s ≡ request_view r };
 
@@ -131,7 +113,7 @@ impl Clone for Request {
         match self {
             Request::Hello { agent, auth } => Ok(Request::Hello {
                 agent: agent.clone()?,
-                auth: copy_auth(auth)?,
+                auth: auth.clone()?,
             }),
             Request::Logon(auth) => Ok(Request::Logon(auth.clone()?)),
             Request::Logoff => Ok(Request::Logoff),
@@ -146,11 +128,11 @@ impl Clone for Request {
                 text: text.clone()?,
                 params: copy_cells(params)?,
                 mode: *mode,
-                token: copy_token(token)?,
+                token: token.clone()?,
             }),
             Request::Begin { mode, token } => Ok(Request::Begin {
                 mode: *mode,
-                token: copy_token(token)?,
+                token: token.clone()?,
             }),
             Request::Commit => Ok(Request::Commit),
             Request::Rollback => Ok(Request::Rollback),

@@ -1,22 +1,21 @@
 //! The named entries of a dictionary, the last field of a message, straight from its bytes. As a client of ours writes them they are
 //! read where they stand; other dictionaries are read as cells.
-ghost use Rattle.std.specs.Prelude.{◌≡◌, ◌∷◌, [], ◌++◌, true, negsuc, Ok, IfOk, codes};
+ghost use Rattle.std.specs.Prelude.{◌≡◌, ◌∷◌, [], ◌++◌, true, Ok, IfOk, codes};
 ghost use Rattle.std.specs.Str.{IsUtf8};
 ghost use Rattle.packstream.specs.Canon.{canon};
-ghost use Rattle.packstream.specs.Good.{IsGood};
 ghost use Rattle.packstream.specs.Spelling.{SpellsEntries};
-ghost use Rattle.packstream.specs.Tree.{dict, int, text};
+ghost use Rattle.packstream.specs.Tree.{dict, text};
 ghost use Rattle.packstream.specs.View.{entries_of};
 ghost use Rattle.cells.specs.Shape.{entries};
 ghost use Rattle.messages.specs.declared.request.Mode.TheVariants.{Read, Write};
 ghost use Rattle.messages.specs.Parts.{mode_pairs, token_dict};
 ghost use Rattle.messages.specs.Reading.{contents_of_number, count_tree, mode_tree, token_tree, is_token as token_fits};
-ghost use Rattle.messages.specs.Scanned.{SpellsEntry, SpellsExtra, SpellsNamed};
+ghost use Rattle.messages.specs.Scanned.{SpellsExtra, SpellsNamed};
 ghost use Rattle.messages.specs.Table.{ignored, refused, of_transaction, how_many};
 ghost use Rattle.messages.specs.View.{token_view};
 ghost use Rattle.wire.specs.declared.Version.{Version as AnyVersion};
 
-use crate::entries::{is_token, transaction_of};
+use crate::entries::{count_in, is_token, transaction_of};
 use crate::read_parts::{FIELD_DEPTH, end};
 use crate::request::{Count, Mode};
 use scanner::{Unscanned, scan_dict, scan_int, scan_text};
@@ -24,57 +23,15 @@ use std::alloc::Global;
 use structures::Cell;
 use wire::Version;
 
-/// What follows this byte.
-fn behind(bytes: &[u8], byte: u8) -> Result<&[u8], Unscanned>
-    ensures { IfOk result (λ x. bytes.now ≡ byte ∷ x.now) }
+/// What follows these bytes.
+#[inline(always)]
+fn behind<'a>(bytes: &'a [u8], front: &[u8]) -> Result<&'a [u8], Unscanned>
+    ensures { IfOk result (λ x. bytes.now ≡ front.now ++ x.now) }
 {
-    let Some((&first, rest)) = bytes.split_first() else {
-        return Err(Unscanned);
-    };
-    if first != byte {
-        return Err(Unscanned);
+    match bytes.strip_prefix(front) {
+        Some(rest) => Ok(rest),
+        None => Err(Unscanned),
     }
-    Ok(rest)
-}
-
-fn behind_number_name(bytes: &[u8]) -> Result<&[u8], Unscanned>
-    ensures { IfOk result (λ x. bytes.now ≡ 0x81 ∷ 0x6E ∷ x.now) }
-{
-    match bytes {
-        [0x81, b'n', rest @ ..] => Ok(rest),
-        _ => Err(Unscanned),
-    }
-}
-
-fn behind_query_name(bytes: &[u8]) -> Result<&[u8], Unscanned>
-    ensures { IfOk result (λ x. bytes.now ≡ 0x83 ∷ 0x71 ∷ 0x69 ∷ 0x64 ∷ x.now) }
-{
-    match bytes {
-        [0x83, b'q', b'i', b'd', rest @ ..] => Ok(rest),
-        _ => Err(Unscanned),
-    }
-}
-
-/// The entry of a number of rows.
-fn number_in(bytes: &[u8]) -> Result<(i64, &[u8]), Unscanned>
-    ensures spelled { IfOk result (λ x. SpellsEntry (codes "n") (int x.0) x.1.now bytes.now) }
-    ensures good { IfOk result (λ x. IsGood (int x.0)) }
-{
-    let rest = behind_number_name(bytes)?;
-    let (number, rest) = scan_int(rest)?;
-    Ok((number, rest))
-}
-
-/// The entry that names the last query.
-fn last_query_in(bytes: &[u8]) -> Result<&[u8], Unscanned>
-    ensures { IfOk result (λ x. SpellsEntry (codes "qid") (int (negsuc 0)) x.now bytes.now) }
-{
-    let rest = behind_query_name(bytes)?;
-    let (number, rest) = scan_int(rest)?;
-    if number != -1 {
-        return Err(Unscanned);
-    }
-    Ok(rest)
 }
 
 /// The count that a number of rows is.
@@ -94,49 +51,11 @@ fn rows_alone(bytes: &[u8]) -> Result<Count, Unscanned>
     ensures { (v : AnyVersion) → IfOk result
         (λ c. SpellsExtra v refused how_many (count_tree c ∷ []) bytes.now) }
 {
-    let rest = behind(bytes, 0xA1)?;
-    let (number, rest) = number_in(rest)?;
+    let rest = behind(bytes, b"\xA1\x81n")?;
+    let (number, rest) = scan_int(rest)?;
     end(rest)?;
     let count = count_of(number)?;
     Ok(count)
-}
-
-fn rows_then_query(bytes: &[u8]) -> Result<Count, Unscanned>
-    ensures { (v : AnyVersion) → IfOk result
-        (λ c. SpellsExtra v refused how_many (count_tree c ∷ []) bytes.now) }
-{
-    let rest = behind(bytes, 0xA2)?;
-    let (number, rest) = number_in(rest)?;
-    let rest = last_query_in(rest)?;
-    end(rest)?;
-    let count = count_of(number)?;
-    Ok(count)
-}
-
-fn query_then_rows(bytes: &[u8]) -> Result<Count, Unscanned>
-    ensures { (v : AnyVersion) → IfOk result
-        (λ c. SpellsExtra v refused how_many (count_tree c ∷ []) bytes.now) }
-{
-    let rest = behind(bytes, 0xA2)?;
-    let rest = last_query_in(rest)?;
-    let (number, rest) = number_in(rest)?;
-    end(rest)?;
-    let count = count_of(number)?;
-    Ok(count)
-}
-
-/// How many rows are asked for, of the last query, which may be named.
-pub(crate) fn rows_in(bytes: &[u8]) -> Result<Count, Unscanned>
-    ensures { (v : AnyVersion) → IfOk result
-        (λ c. SpellsExtra v refused how_many (count_tree c ∷ []) bytes.now) }
-{
-    if let Ok(count) = rows_alone(bytes) {
-        return Ok(count);
-    }
-    if let Ok(count) = rows_then_query(bytes) {
-        return Ok(count);
-    }
-    query_then_rows(bytes)
 }
 
 /// The entries of a transaction without a token.
@@ -151,39 +70,6 @@ fn mode_alone(bytes: &[u8]) -> Result<Mode, Unscanned>
     }
 }
 
-fn behind_metadata_name(bytes: &[u8]) -> Result<&[u8], Unscanned>
-    ensures { IfOk result (λ x. bytes.now ≡ 0x8B ∷ codes "tx_metadata" ++ x.now) }
-{
-    match bytes {
-        [
-            0x8B,
-            b't',
-            b'x',
-            b'_',
-            b'm',
-            b'e',
-            b't',
-            b'a',
-            b'd',
-            b'a',
-            b't',
-            b'a',
-            rest @ ..,
-        ] => { Ok(rest) }
-        _ => Err(Unscanned),
-    }
-}
-
-/// What follows the head of a dictionary of one entry and the name of a token.
-fn behind_token_name(bytes: &[u8]) -> Result<&[u8], Unscanned>
-    ensures { IfOk result (λ x. bytes.now ≡ 0xA1 ∷ 0x85 ∷ codes "token" ++ x.now) }
-{
-    match bytes {
-        [0xA1, 0x85, b't', b'o', b'k', b'e', b'n', rest @ ..] => Ok(rest),
-        _ => Err(Unscanned),
-    }
-}
-
 /// The entry of a token, the last.
 fn token_last(bytes: &[u8]) -> Result<&str, Unscanned>
     ensures spelled { IfOk result (λ s. SpellsEntries
@@ -191,8 +77,7 @@ fn token_last(bytes: &[u8]) -> Result<&str, Unscanned>
     ensures fits { IfOk result (λ s. token_fits s.now ≡ true) }
     ensures utf8 { IfOk result (λ s. IsUtf8 s.now) }
 {
-    let rest = behind_metadata_name(bytes)?;
-    let rest = behind_token_name(rest)?;
+    let rest = behind(bytes, b"\x8Btx_metadata\xA1\x85token")?;
     let (token, rest) = scan_text(rest)?;
     end(rest)?;
     if !is_token(token) {
@@ -201,22 +86,12 @@ fn token_last(bytes: &[u8]) -> Result<&str, Unscanned>
     Ok(token)
 }
 
-/// What follows the head of a dictionary of two entries and the mode of reading.
-fn behind_mode(bytes: &[u8]) -> Result<&[u8], Unscanned>
-    ensures { IfOk result (λ x. bytes.now ≡ 0xA2 ∷ 0x84 ∷ codes "mode" ++ 0x81 ∷ 0x72 ∷ x.now) }
-{
-    match bytes {
-        [0xA2, 0x84, b'm', b'o', b'd', b'e', 0x81, b'r', rest @ ..] => Ok(rest),
-        _ => Err(Unscanned),
-    }
-}
-
 /// A token without a mode.
 fn token_alone(bytes: &[u8]) -> Result<&str, Unscanned>
     ensures { (v : AnyVersion) → IfOk result (λ s. SpellsExtra v ignored of_transaction
         (mode_tree Write ∷ text s.now ∷ []) bytes.now) }
 {
-    let rest = behind(bytes, 0xA1)?;
+    let rest = behind(bytes, b"\xA1")?;
     let token = token_last(rest)?;
     Ok(token)
 }
@@ -226,7 +101,7 @@ fn token_of_reading(bytes: &[u8]) -> Result<&str, Unscanned>
     ensures { (v : AnyVersion) → IfOk result (λ s. SpellsExtra v ignored of_transaction
         (mode_tree Read ∷ text s.now ∷ []) bytes.now) }
 {
-    let rest = behind_mode(bytes)?;
+    let rest = behind(bytes, b"\xA2\x84mode\x81r")?;
     let token = token_last(rest)?;
     Ok(token)
 }
@@ -242,6 +117,18 @@ pub(crate) fn cells_of_extra(
     let (pairs, rest) = scan_dict(alloc, version, bytes, FIELD_DEPTH)?;
     end(rest)?;
     Ok(pairs)
+}
+
+/// How many rows are asked for, of the last query, which may be named.
+pub(crate) fn rows_in(alloc: Global, version: Version, bytes: &[u8]) -> Result<Count, Unscanned>
+    ensures { (v : AnyVersion) → IfOk result
+        (λ c. SpellsExtra v refused how_many (count_tree c ∷ []) bytes.now) }
+{
+    if let Ok(count) = rows_alone(bytes) {
+        return Ok(count);
+    }
+    let pairs = cells_of_extra(alloc, version, bytes)?;
+    Ok(count_in(&pairs)?)
 }
 
 /// The mode of a transaction, and its token if it has one.

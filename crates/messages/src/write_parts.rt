@@ -1,15 +1,16 @@
 //! Parts of a message that are written of requests and of responses.
-ghost use Rattle.std.specs.Prelude.{◌≡◌, true, false, ◌∷◌, [], ◌++◌, Ok, IfOk, OnOk, ◌≤◌, ◌+◌, length};
-ghost use Rattle.packstream.specs.Tree.{text, dict, structure, no_trees, tree_then};
+ghost use Rattle.std.specs.Prelude.{◌≡◌, true, false, ◌∷◌, [], ◌++◌, Ok, IfOk, OnOk, ◌≤◌, ◌+◌, length, map};
+ghost use Rattle.packstream.specs.Tree.{dict, structure, no_trees, tree_then};
 ghost use Rattle.packstream.specs.View.{tree, entries as value_entries, entries_of};
-ghost use Rattle.cells.specs.Shape.{entries, text_of};
+ghost use Rattle.cells.specs.Shape.{entries};
 ghost use Rattle.messages.specs.Reading.{Answers};
 ghost use Rattle.messages.specs.Cells.{cell_put};
+ghost use Rattle.messages.specs.Parts.{named_text, of_texts};
 ghost use Rattle.packstream.specs.Limits.{max_size};
 ghost use Rattle.messages.specs.Added.{Adds, AddsCells};
-ghost use Rattle.wire.specs.declared.Version.{Version as AnyVersion};
 
 use crate::fault::MsgFault;
+use crate::read_parts::FIELD_DEPTH;
 use bytes::BytesMut;
 use packstream::{MAX_SIZE, Value};
 use speller::{Output, Unspelled, put_dict};
@@ -31,18 +32,6 @@ pub(crate) fn push(
     Ok(())
 }
 
-/// Adds a text.
-pub(crate) fn push_text(
-    pairs: &mut Vec<(String, Value)>,
-    name: &str,
-    text: &String,
-) -> Result<(), AllocError>
-    ensures { OnOk result (value_entries pairs.new.items
-        ≡ value_entries pairs.old.items ++ (name.now, text_of text.now) ∷ []) }
-{
-    push(pairs, name, Value::Text(text.clone()?))
-}
-
 /// A structure of one field.
 pub(crate) fn of_one(alloc: Global, tag: u8, field: Value) -> Result<Value, AllocError>
     ensures { IfOk result (λ w. tree w ≡ structure tag (tree_then (tree field) no_trees)) }
@@ -50,24 +39,17 @@ pub(crate) fn of_one(alloc: Global, tag: u8, field: Value) -> Result<Value, Allo
     Ok(Value::Struct(tag, vec![in alloc; field]?))
 }
 
-/// A structure of one dictionary.
-#[tactic(auto, using(packstream::proofs::Putting::tree_of_dict))]
-pub(crate) fn of_dict(
-    alloc: Global,
-    tag: u8,
-    pairs: Vec<(String, Value)>,
-) -> Result<Value, AllocError>
-    ensures { IfOk result (λ w. tree w
-        ≡ structure tag (tree_then (dict (entries_of (value_entries pairs.items))) no_trees)) }
+/// A structure of one dictionary, of these texts.
+#[tactic(auto, using(packstream::proofs::Putting::tree_of_dict, crate::proofs::Fields::tree_of_text))]
+pub(crate) fn texts_value(alloc: Global, tag: u8, named: &[(&str, &str)]) -> Result<Value, MsgFault>
+    ensures { Answers tree result (Ok (of_texts tag (map named_text named.now))) }
 {
-    of_one(alloc, tag, Value::Dict(pairs))
-}
-
-/// A structure without fields.
-pub(crate) fn plain(alloc: Global, tag: u8) -> Result<Value, MsgFault>
-    ensures { Answers tree result (Ok (structure tag no_trees)) }
-{
-    Ok(Value::Struct(tag, Vec::new(alloc)))
+    let mut pairs = Vec::new(alloc);
+    for &(name, text) in named {
+        let text = String::from_str(alloc, text)?;
+        push(&mut pairs, name, Value::Text(text))?;
+    }
+    Ok(of_one(alloc, tag, Value::Dict(pairs))?)
 }
 
 /// The value of a dictionary of cells.
@@ -81,9 +63,6 @@ pub(crate) fn cells_value(
     let packed = write_entries(alloc, version, cells)?;
     Ok(packed.into_value())
 }
-
-/// How deep a field may nest: the message itself is one level of the 32.
-pub(crate) const FIELD_DEPTH: u8 = 31;
 
 /// The head of a structure.
 pub(crate) fn put_structure(out: &mut Output, count: u8, tag: u8) -> Result<(), Unspelled>

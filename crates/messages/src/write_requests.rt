@@ -1,25 +1,24 @@
 //! Requests, written in two ways: as a value, which also tells what is wrong, and straight into an output. What the second doesn't
-//! write goes the first.
-ghost use Rattle.std.specs.Prelude.{◌≡◌, true, false, ◌∷◌, [], ◌++◌, IfOk, OnOk, codes, Some, None, string_bytes, ◌≤◌, ◌+◌, length};
-ghost use Rattle.packstream.specs.Tree.{int, dict, structure, no_trees, tree_then};
+//! write goes the first, or is told as want of memory where nothing else can be wrong.
+ghost use Rattle.std.specs.Prelude.{◌≡◌, true, false, IfOk, OnOk, string_bytes, ◌≤◌, ◌+◌, length};
+ghost use Rattle.packstream.specs.Tree.{int, structure, no_trees, tree_then};
 ghost use Rattle.packstream.specs.View.{tree, entries as value_entries, entries_of};
-ghost use Rattle.cells.specs.Shape.{entries, text_of};
+ghost use Rattle.cells.specs.Shape.{entries};
 ghost use Rattle.messages.specs.View.{request_view, auth_in, auth_view, token_view, Hello, Logon, Logoff, Run};
 ghost use Rattle.messages.specs.Table.{run_tag, begin_tag};
 ghost use Rattle.messages.specs.Reading.{Answers, request_contents, count_tree};
 ghost use Rattle.messages.specs.Writing.{form_put};
-ghost use Rattle.messages.specs.Parts.{with_dict, transaction_put, rows_put, mode_pairs, token_dict, token_pairs, count_number};
-ghost use Rattle.wire.specs.Versions.{hello_has_login};
+ghost use Rattle.messages.specs.Parts.{with_dict, transaction_put, rows_put, mode_pairs, count_number};
 ghost use Rattle.packstream.specs.Limits.{max_size};
 ghost use Rattle.messages.specs.Added.{Adds};
 
 use crate::entries::is_token;
 use crate::fault::MsgFault;
-use crate::put_entries::{put_agent, put_agent_and_login, put_auth, put_number, put_transaction};
+use crate::put_entries::{auth_texts, hello_texts, put_number, put_texts, put_transaction};
 use crate::request::{Auth, Count, Mode, Request};
 use crate::tags;
 use crate::write_parts::{
-    cells_value, keep_short, of_dict, plain, push, push_text, put_cells, put_plain, put_structure,
+    cells_value, keep_short, push, put_cells, put_plain, put_structure, texts_value,
 };
 use bytes::BytesMut;
 use packstream::Value;
@@ -27,19 +26,6 @@ use speller::{Output, Unspelled, put_text};
 use std::alloc::{AllocError, Global};
 use structures::Cell;
 use wire::Version;
-
-/// Adds who a client is.
-fn push_auth(pairs: &mut Vec<(String, Value)>, auth: &Auth) -> Result<(), AllocError>
-    ensures { OnOk result (value_entries pairs.new.items
-        ≡ value_entries pairs.old.items ++ (codes "scheme", text_of auth.now.scheme) ∷ []
-        ++ (codes "principal", text_of auth.now.principal) ∷ []
-        ++ (codes "credentials", text_of auth.now.credentials) ∷ []) }
-{
-    push_text(pairs, "scheme", &auth.scheme)?;
-    push_text(pairs, "principal", &auth.principal)?;
-    push_text(pairs, "credentials", &auth.credentials)?;
-    Ok(())
-}
 
 /// HELLO, with who the client is if the version tells it there.
 fn hello_value(
@@ -53,41 +39,9 @@ fn hello_value(
         (Hello (string_bytes agent.now) (auth_in auth.now)))) }
 {
     match (version.hello_has_login(), auth) {
-        (true, Some(auth)) => {
-            let mut pairs = Vec::new(alloc);
-            push_text(&mut pairs, "user_agent", agent)?;
-            push_auth(&mut pairs, auth)?;
-            Ok(of_dict(alloc, tags::HELLO, pairs)?)
-        }
-        (false, None) => {
-            let mut pairs = Vec::new(alloc);
-            push_text(&mut pairs, "user_agent", agent)?;
-            Ok(of_dict(alloc, tags::HELLO, pairs)?)
-        }
+        (true, Some(auth)) => texts_value(alloc, tags::HELLO, &hello_texts(agent, auth)),
+        (false, None) => texts_value(alloc, tags::HELLO, &[("user_agent", agent.as_str())]),
         _ => Err(MsgFault::Extra),
-    }
-}
-
-/// LOGON, if the version has it.
-fn logon_value(alloc: Global, version: Version, auth: &Auth) -> Result<Value, MsgFault>
-    ensures { Answers tree result
-        (form_put version (request_contents (Logon (auth_view auth.now)))) }
-{
-    if !version.has_logon() {
-        return Err(MsgFault::UnknownTag);
-    }
-    let mut pairs = Vec::new(alloc);
-    push_auth(&mut pairs, auth)?;
-    Ok(of_dict(alloc, tags::LOGON, pairs)?)
-}
-
-fn logoff_value(alloc: Global, version: Version) -> Result<Value, MsgFault>
-    ensures { Answers tree result (form_put version (request_contents Logoff)) }
-{
-    if version.has_logon() {
-        plain(alloc, tags::LOGOFF)
-    } else {
-        Err(MsgFault::UnknownTag)
     }
 }
 
@@ -103,31 +57,8 @@ fn mode_entries(alloc: Global, mode: Mode) -> Result<Vec<(String, Value)>, Alloc
     Ok(pairs)
 }
 
-/// A dictionary of a token alone.
-#[tactic(auto, using(packstream::proofs::Putting::tree_of_dict))]
-fn token_value(alloc: Global, token: &String) -> Result<Value, AllocError>
-    ensures { IfOk result (λ w. tree w ≡ token_dict (string_bytes token.now)) }
-{
-    let mut words = Vec::new(alloc);
-    push_text(&mut words, "token", token)?;
-    Ok(Value::Dict(words))
-}
-
-/// The entries of a transaction with a token.
-fn with_token(alloc: Global, mode: Mode, token: &String) -> Result<Vec<(String, Value)>, MsgFault>
-    ensures { Answers (λ pairs. value_entries pairs.items) result
-        (token_pairs mode (string_bytes token.now)) }
-{
-    if !is_token(token.as_str()) {
-        return Err(MsgFault::Extra);
-    }
-    let mut pairs = mode_entries(alloc, mode)?;
-    let words = token_value(alloc, token)?;
-    push(&mut pairs, "tx_metadata", words)?;
-    Ok(pairs)
-}
-
 /// The entries of a transaction: its mode, and its token if it has one.
+#[tactic(auto, using(packstream::proofs::Putting::tree_of_dict, crate::proofs::Fields::tree_of_text, crate::proofs::Rounds::put_alone, crate::proofs::Rounds::put_with, crate::proofs::Rounds::not_put))]
 fn transaction_entries(
     alloc: Global,
     mode: Mode,
@@ -136,18 +67,17 @@ fn transaction_entries(
     ensures { Answers (λ pairs. entries_of (value_entries pairs.items)) result
         (transaction_put mode (token_view token.now)) }
 {
-    match token {
-        None => Ok(mode_entries(alloc, mode)?),
-        Some(token) => with_token(alloc, mode, token),
+    let mut pairs = mode_entries(alloc, mode)?;
+    let Some(token) = token else {
+        return Ok(pairs);
+    };
+    if !is_token(token.as_str()) {
+        return Err(MsgFault::Extra);
     }
-}
-
-fn begin_value(alloc: Global, mode: Mode, token: &Option<String>) -> Result<Value, MsgFault>
-    ensures { Answers tree result
-        (with_dict begin_tag (transaction_put mode (token_view token.now))) }
-{
-    let pairs = transaction_entries(alloc, mode, token)?;
-    Ok(of_dict(alloc, tags::BEGIN, pairs)?)
+    let mut words = Vec::new(alloc);
+    push(&mut words, "token", Value::Text(token.clone()?))?;
+    push(&mut pairs, "tx_metadata", Value::Dict(words))?;
+    Ok(pairs)
 }
 
 /// The number that stands for a count.
@@ -160,51 +90,12 @@ pub(crate) fn number_of(count: Count) -> Result<i64, MsgFault>
     }
 }
 
-/// A structure of a count.
-fn count_value(alloc: Global, tag: u8, count: Count) -> Result<Value, MsgFault>
-    ensures { Answers tree result (with_dict tag (rows_put count)) }
+/// A RUN of these fields.
+fn run_of(alloc: Global, text: Value, params: Value, extra: Value) -> Result<Value, AllocError>
+    ensures { IfOk result (λ w. tree w ≡ structure run_tag
+        (tree_then (tree text) (tree_then (tree params) (tree_then (tree extra) no_trees)))) }
 {
-    let number = number_of(count)?;
-    let mut pairs = Vec::new(alloc);
-    push(&mut pairs, "n", Value::Int(number))?;
-    Ok(of_dict(alloc, tag, pairs)?)
-}
-
-/// A structure of three fields.
-fn of_three(
-    alloc: Global,
-    tag: u8,
-    first: Value,
-    second: Value,
-    third: Value,
-) -> Result<Value, AllocError>
-    ensures { IfOk result (λ w. tree w
-        ≡ structure tag (tree_then (tree first)
-        (tree_then (tree second) (tree_then (tree third) no_trees)))) }
-{
-    Ok(Value::Struct(tag, vec![in alloc; first, second, third]?))
-}
-
-/// A RUN of a text, the parameters' value and the other entries.
-fn of_run(
-    alloc: Global,
-    text: &String,
-    params: Value,
-    pairs: Vec<(String, Value)>,
-) -> Result<Value, AllocError>
-    ensures { IfOk result (λ w. tree w
-        ≡ structure run_tag (tree_then (text_of text.now)
-        (tree_then (tree params)
-        (tree_then (dict (entries_of (value_entries pairs.items))) no_trees)))) }
-{
-    let text = text.clone()?;
-    of_three(
-        alloc,
-        tags::RUN,
-        Value::Text(text),
-        params,
-        Value::Dict(pairs),
-    )
+    Ok(Value::Struct(tags::RUN, vec![in alloc; text, params, extra]?))
 }
 
 fn run_value(
@@ -221,10 +112,12 @@ fn run_value(
 {
     let pairs = transaction_entries(alloc, mode, token)?;
     let field = cells_value(alloc, version, params)?;
-    Ok(of_run(alloc, text, field, pairs)?)
+    let text = text.clone()?;
+    Ok(run_of(alloc, Value::Text(text), field, Value::Dict(pairs))?)
 }
 
-/// The value of a request.
+/// The value of a request that can be too deep or too long, or its first fault. Of the others no value is made: what spells one
+/// that has no fault lacks nothing but memory.
 pub(crate) fn request_value(
     alloc: Global,
     version: Version,
@@ -234,21 +127,24 @@ pub(crate) fn request_value(
 {
     match request {
         Request::Hello { agent, auth } => hello_value(alloc, version, agent, auth),
-        Request::Logon(auth) => logon_value(alloc, version, auth),
-        Request::Logoff => logoff_value(alloc, version),
-        Request::Goodbye => plain(alloc, tags::GOODBYE),
-        Request::Reset => plain(alloc, tags::RESET),
+        Request::Logon(_) if !version.has_logon() => Err(MsgFault::UnknownTag),
+        Request::Logon(auth) => texts_value(alloc, tags::LOGON, &auth_texts(auth)),
+        Request::Logoff if !version.has_logon() => Err(MsgFault::UnknownTag),
         Request::Run {
             text,
             params,
             mode,
             token,
         } => run_value(alloc, version, text, params, *mode, token),
-        Request::Begin { mode, token } => begin_value(alloc, *mode, token),
-        Request::Commit => plain(alloc, tags::COMMIT),
-        Request::Rollback => plain(alloc, tags::ROLLBACK),
-        Request::Discard(count) => count_value(alloc, tags::DISCARD, *count),
-        Request::Pull(count) => count_value(alloc, tags::PULL, *count),
+        Request::Begin { mode, token } => {
+            transaction_entries(alloc, *mode, token)?;
+            Err(MsgFault::Memory)
+        }
+        Request::Discard(count) | Request::Pull(count) => {
+            number_of(*count)?;
+            Err(MsgFault::Memory)
+        }
+        _ => Err(MsgFault::Memory),
     }
 }
 
@@ -290,16 +186,8 @@ fn put_hello(
         out.old.more out.new.more) }
 {
     match (version.hello_has_login(), auth) {
-        (true, Some(auth)) => {
-            put_structure(out, 1, tags::HELLO)?;
-            put_agent_and_login(out, agent, auth)?;
-            Ok(())
-        }
-        (false, None) => {
-            put_structure(out, 1, tags::HELLO)?;
-            put_agent(out, agent)?;
-            Ok(())
-        }
+        (true, Some(auth)) => put_texts(out, tags::HELLO, &hello_texts(agent, auth)),
+        (false, None) => put_texts(out, tags::HELLO, &[("user_agent", agent.as_str())]),
         _ => Err(Unspelled),
     }
 }
@@ -315,9 +203,7 @@ fn put_logon(out: &mut Output, version: Version, auth: &Auth) -> Result<(), Unsp
     if !version.has_logon() {
         return Err(Unspelled);
     }
-    put_structure(out, 1, tags::LOGON)?;
-    put_auth(out, auth)?;
-    Ok(())
+    put_texts(out, tags::LOGON, &auth_texts(auth))
 }
 
 /// LOGOFF, if the version has it.

@@ -1,24 +1,23 @@
 //! Responses, written in two ways: as a value, which also tells what is wrong, and straight into an output. What the second doesn't
-//! write goes the first.
-ghost use Rattle.std.specs.Prelude.{◌≡◌, true, false, Ok, OnOk, string_bytes, ◌≤◌, ◌+◌, length};
+//! write goes the first, or is told as want of memory where nothing else can be wrong.
+ghost use Rattle.std.specs.Prelude.{◌≡◌, true, false, Ok, OnOk, ◌≤◌, ◌+◌, length};
 ghost use Rattle.packstream.specs.Tree.{list};
 ghost use Rattle.packstream.specs.View.{tree, trees_of};
 ghost use Rattle.cells.specs.Shape.{entries, shapes};
-ghost use Rattle.messages.specs.View.{response_view, Success, Record, Failure};
+ghost use Rattle.messages.specs.View.{response_view, Success, Record};
 ghost use Rattle.messages.specs.Reading.{Answers, response_contents};
 ghost use Rattle.messages.specs.Writing.{form_put};
 ghost use Rattle.messages.specs.Cells.{cell_put};
-ghost use Rattle.wire.specs.declared.Version.{Version as AnyVersion};
 ghost use Rattle.packstream.specs.Limits.{max_size};
 ghost use Rattle.messages.specs.Added.{Adds};
 
 use crate::fault::MsgFault;
-use crate::put_entries::put_error;
+use crate::put_entries::{error_texts, put_texts};
+use crate::read_parts::FIELD_DEPTH;
 use crate::response::Response;
 use crate::tags;
 use crate::write_parts::{
-    FIELD_DEPTH, cells_value, keep_short, of_dict, of_one, plain, push_text, put_cells, put_plain,
-    put_structure,
+    cells_value, keep_short, of_one, put_cells, put_plain, put_structure, texts_value,
 };
 use bytes::BytesMut;
 use packstream::Value;
@@ -35,38 +34,7 @@ fn row_value(alloc: Global, version: Version, row: &Vec<Cell>) -> Result<Value, 
     Ok(packed.into_value())
 }
 
-fn success_value(
-    alloc: Global,
-    version: Version,
-    metadata: &Vec<(String, Cell)>,
-) -> Result<Value, MsgFault>
-    ensures { Answers tree result
-        (form_put version (response_contents (Success (entries metadata.now.items)))) }
-{
-    let field = cells_value(alloc, version, metadata)?;
-    Ok(of_one(alloc, tags::SUCCESS, field)?)
-}
-
-fn record_value(alloc: Global, version: Version, row: &Vec<Cell>) -> Result<Value, MsgFault>
-    ensures { Answers tree result
-        (form_put version (response_contents (Record (shapes row.now.items)))) }
-{
-    let field = row_value(alloc, version, row)?;
-    Ok(of_one(alloc, tags::RECORD, field)?)
-}
-
-fn failure_value(alloc: Global, code: &String, message: &String) -> Result<Value, MsgFault>
-    ensures { (v : AnyVersion)
-        → Answers tree result (form_put v
-        (response_contents (Failure (string_bytes code.now) (string_bytes message.now)))) }
-{
-    let mut pairs = Vec::new(alloc);
-    push_text(&mut pairs, "code", code)?;
-    push_text(&mut pairs, "message", message)?;
-    Ok(of_dict(alloc, tags::FAILURE, pairs)?)
-}
-
-/// The value of a response.
+/// The value of a response, or its first fault. Of IGNORED no value is made: what spells it lacks nothing but memory.
 pub(crate) fn response_value(
     alloc: Global,
     version: Version,
@@ -76,10 +44,18 @@ pub(crate) fn response_value(
         (form_put version (response_contents (response_view response.now))) }
 {
     match response {
-        Response::Success(metadata) => success_value(alloc, version, metadata),
-        Response::Record(row) => record_value(alloc, version, row),
-        Response::Ignored => plain(alloc, tags::IGNORED),
-        Response::Failure { code, message } => failure_value(alloc, code, message),
+        Response::Success(metadata) => {
+            let field = cells_value(alloc, version, metadata)?;
+            Ok(of_one(alloc, tags::SUCCESS, field)?)
+        }
+        Response::Record(row) => {
+            let field = row_value(alloc, version, row)?;
+            Ok(of_one(alloc, tags::RECORD, field)?)
+        }
+        Response::Ignored => Err(MsgFault::Memory),
+        Response::Failure { code, message } => {
+            texts_value(alloc, tags::FAILURE, &error_texts(code, message))
+        }
     }
 }
 
@@ -110,18 +86,6 @@ fn put_record(out: &mut Output, version: Version, row: &Vec<Cell>) -> Result<(),
 }
 
 #[tactic(auto, using(crate::proofs::Named::failure_added))]
-fn put_failure(out: &mut Output, code: &String, message: &String) -> Result<(), Unspelled>
-    ensures before { out.new.before ≡ out.old.before }
-    ensures adds { (v : AnyVersion)
-        → OnOk result (Adds
-        (form_put v (response_contents (Failure (string_bytes code.now) (string_bytes message.now))))
-        out.old.more out.new.more) }
-{
-    put_structure(out, 1, tags::FAILURE)?;
-    put_error(out, code, message)?;
-    Ok(())
-}
-
 fn put_response(out: &mut Output, version: Version, response: &Response) -> Result<(), Unspelled>
     ensures before { out.new.before ≡ out.old.before }
     ensures adds { OnOk result
@@ -132,7 +96,9 @@ fn put_response(out: &mut Output, version: Version, response: &Response) -> Resu
         Response::Success(metadata) => put_success(out, version, metadata),
         Response::Record(row) => put_record(out, version, row),
         Response::Ignored => put_plain(out, tags::IGNORED),
-        Response::Failure { code, message } => put_failure(out, code, message),
+        Response::Failure { code, message } => {
+            put_texts(out, tags::FAILURE, &error_texts(code, message))
+        }
     }
 }
 

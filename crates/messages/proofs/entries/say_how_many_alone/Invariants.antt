@@ -1,7 +1,6 @@
 use Rattle.std.proofs.Common.{◌≡◌, drop}
-use Rattle.packstream.specs.Prelude.{entries, entries_of}
-use Rattle.messages.specs.Prelude.{how_many, all_named}
+use Rattle.messages.specs.Prelude.{how_many, all_named, entries_seen}
 use Rattle.messages.proofs.entries.say_how_many_alone.Given as goal
 
 abbrev pub invariant-loop-pair : goal.invariant-loop-pair
-invariant-loop-pair l = all_named how_many (entries_of (entries l.pairs)) ≡ all_named how_many (entries_of (entries (drop l.pair-index l.pairs)))
+invariant-loop-pair g l = all_named how_many (entries_seen g.T.Item.seen l.pairs) ≡ all_named how_many (entries_seen g.T.Item.seen (drop l.pair-index l.pairs))

@@ -1,7 +1,16 @@
-use Rattle.std.proofs.Common.{ap}
-use Rattle.messages.specs.Prelude.{token_view}
-use Rattle.messages.proofs.Added.{alone_added}
+use Rattle.std.proofs.Common.{string_bytes}
+use Rattle.std.proofs.lemmas.Str.{IsUtf8-string_bytes}
+use Rattle.messages.proofs.Named.{token_added, mode_and_token_added}
 use Rattle.messages.proofs.put_entries.put_transaction.Goals as goal
 
-pub returns-in_ok-put_mode-in-None-clause-adds : goal.returns-in_ok-put_mode-in-None-clause-adds
-returns-in_ok-put_mode-in-None-clause-adds c = alone_added c.args.mode _ _ _ (ap token_view c.in-None.is) c.in_ok-put_mode-in-None.ensures.added
+pub returns-in_ok-put_token-in-Write-Some-clause-adds :
+    goal.returns-in_ok-put_token-in-Write-Some-clause-adds
+returns-in_ok-put_token-in-Write-Some-clause-adds c =
+    let p = c.in_ok-put_token-in-Write-Some.ensures in
+    rw (c.in-Write-Some.is-0, c.in-Write-Some.is-1) (token_added (string_bytes c.in-Write-Some.token) _ _ _ p.fits (IsUtf8-string_bytes c.in-Write-Some.token) c.in_ok-push-in-Write-Some.ensures.ok p.added)
+
+pub returns-in_ok-put_token-in-Read-Some-clause-adds :
+    goal.returns-in_ok-put_token-in-Read-Some-clause-adds
+returns-in_ok-put_token-in-Read-Some-clause-adds c =
+    let p = c.in_ok-put_token-in-Read-Some.ensures in
+    rw (c.in-Read-Some.is-0, c.in-Read-Some.is-1) (mode_and_token_added (string_bytes c.in-Read-Some.token) _ _ _ p.fits (IsUtf8-string_bytes c.in-Read-Some.token) c.in_ok-extend_from_slice-in-Read-Some.ensures.ok p.added)

@@ -1,0 +1,12 @@
+use Rattle.std.proofs.Common.{ℕ, List, ◌++◌, map, sym, ◌∙◌}
+use Rattle.std.specs.Borrow.{Bor}
+use Rattle.std.proofs.lemmas.List.{at_drop_all}
+use Rattle.packstream.specs.Prelude.{canon_entries, entries_of}
+use Rattle.messages.specs.Prelude.{named_text}
+use Rattle.messages.proofs.Named.{texts_put}
+use Rattle.messages.proofs.put_entries.put_texts.Goals as goal
+
+pub returns-clause-added : goal.returns-clause-added
+returns-clause-added c =
+    let rest = λ (xs : List (Bor (List ℕ) × Bor (List ℕ))). c.loop-name.out.more ++ canon_entries (entries_of (map named_text xs)) in
+    texts_put c.args.tag c.args.named.now _ _ _ _ c.in_ok-put_structure.ensures.ok c.in_ok-put_head.ensures.ok (sym (at_drop_all rest c.args.named.now c.loop-name.name-index c.loop-name-test.false) ∙ c.loop-name.invariant.1)
