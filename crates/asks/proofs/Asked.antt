@@ -1,5 +1,5 @@
 -- What comes of asking: the output that is written, the bytes that are read, and the end.
-use Rattle.std.proofs.Common.{◌≡◌, refl, sym, ◌∙◌, ap, subst, ℕ, ◌<◌, ◌≤◌, Bool, true, false, Option, Some, None, Result, Ok, Err, List, [], ◌++◌, length, take, drop, append_assoc, append-nil, true≢false, ◌⊎◌, inl, inr, ⊎_elim, arith, not, ◌&&◌, ◌==◌, is_err, OnErr, IfErr}
+use Rattle.std.proofs.Common.{◌≡◌, refl, sym, ◌∙◌, ap, subst, ℕ, ◌<◌, ◌≤◌, Bool, true, false, Option, Some, None, Result, Ok, Err, List, [], ◌++◌, length, take, drop, append_assoc, append-nil, true≢false, ◌⊎◌, inl, inr, ⊎_elim, arith, not, ◌&&◌, ◌==◌, IfErr}
 use Rattle.std.specs.Result.{result_err}
 use Rattle.std.specs.Io.KnownBytes.{Appends, Consumes, IsAtEnd}
 use Rattle.std.proofs.KnownBytes.{Consumes-kept, Consumes-nil, Consumes-trans}
@@ -113,10 +113,6 @@ module _ {r : Rest} {left mid : Option (List ℕ)} {before notes : List Note} {W
   hears_fault left_now after Now stream_fault.Memory waits h = reads_broken left_now h.piece after false Now waits h.short h.input h.feeds
 
 -- what was answered, by a test of it
-pub on_err : {T E : Type 0} (x : Result T E) (P : Type 0) → is_err x ≡ true → OnErr x P → P
-on_err (Ok t) P e h = absurd (true≢false (sym e))
-on_err (Err f) P e h = h
-
 pub unless_err : {T E : Type 0} (x : Result T E) (f : E) (So : Type 0) → UnlessTold x f So → (result_err x ≡ Some f → ⊥) → So
 unless_err (Ok t) f So h n = h
 unless_err (Err e) f So h n = h (λ q. n (ap Some q))

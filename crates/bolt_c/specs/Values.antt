@@ -1,7 +1,6 @@
 -- The values in the bytes of a message: the one that begins at a place, or the head of one that has members, by the table of markers.
 use Rattle.std.specs.Prelude.{◌≡◌, ◌++◌, ℕ, ℤ, pos, ◌+◌, Bool, true, false, if◌then◌else◌, nat_lt, Option, Some, None, List, [], ◌∷◌, length, drop}
 use Rattle.byteorder.specs.Endian.{big_number, twos_complement}
-use Rattle.packstream.specs.declared.marker.Size.{Size}
 use Rattle.packstream.specs.declared.marker.Marker.{Marker}
 use Rattle.packstream.specs.declared.marker.Marker.TheVariants as announces
 use Rattle.packstream.specs.Markers.{width, size_len, marker}
@@ -79,10 +78,6 @@ head_from at (m ∷ rest) = head_by (marker m) (at + 1) rest
 -- the value that begins at a place of these bytes, or the head of one that has members, with the place behind it
 abbrev pub head_at : List ℕ → ℕ → Option (Value × ℕ)
 head_at bytes at = head_from at (drop at bytes)
-
--- a length or a count, by the bytes behind its marker, if it is whole
-abbrev pub size_read : Size → List ℕ → Option ℕ
-size_read size rest = if nat_lt (length rest) (size_len size) then None else Some (size_in size rest)
 
 -- the value that a tree is; at: where the bytes of a text begin
 abbrev pub value_of : Tree → ℕ → Value

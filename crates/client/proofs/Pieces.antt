@@ -1,12 +1,12 @@
 -- What a piece does to the rest of a client's run.
-use Rattle.std.proofs.Common.{◌≡◌, refl, sym, ◌∙◌, ap, subst, ℕ, Bool, true, false, Option, Some, None, Result, Ok, Err, List, if◌then◌else◌}
-use Rattle.wire.specs.Prelude.{Item, Opened, at_client, Took, takes}
+use Rattle.std.proofs.Common.{◌≡◌, refl, sym, ◌∙◌, ap, subst, ℕ, Bool, true, false, Option, Some, None, Result, Ok, Err, if◌then◌else◌}
+use Rattle.wire.specs.Prelude.{Item, Opened, Took}
 use Rattle.messages.specs.Prelude.{Heard as AnyHeard}
 use Rattle.client.specs.declared.heard.Heard.{Heard}
 use Rattle.client.specs.declared.heard.Heard.TheVariants.{Nothing}
 use Rattle.client.specs.declared.faults.ClientFault.{ClientFault}
 use Rattle.client.specs.declared.faults.ClientFault.TheVariants as client_fault
-use Rattle.client.specs.Prelude.{Rest, Knows, Hearing, Note, note_of, heard_as, hears_item, Fed, fed_heard, fed_item, fed_open, feed_of, note, note_result, UnlessMemory, plain, came_in, Hears}
+use Rattle.client.specs.Prelude.{Rest, Knows, Hearing, Note, note_of, heard_as, hears_item, Fed, fed_heard, fed_item, fed_open, note, plain, came_in, Hears}
 use Rattle.client.specs.Hearings.{Feeds}
 
 -- bytes that stand for nothing are all heard alike
@@ -50,7 +50,3 @@ module _ (r : Rest) (m : Took Opened Item) (x : AnyHeard) (came : x ≡ came_in 
 -- a piece with which nothing ends
 pub quiet_feeds : (r : Rest) (m : Took Opened Item) (new : Rest) (used : ℕ) → AnyHeard.Quiet ≡ came_in r.knows.version m.item → new ≡ record r { item = m.rest } → used ≡ m.used → Feeds new r (fed_open r m) (Ok (used, Nothing))
 quiet_feeds r m new used came there u = heard_feeds r m AnyHeard.Quiet came r.knows new there used Nothing u (refl, refl)
-
--- where it goes on
-same_open : (r : Rest) (piece : List ℕ) → r.knows.over ≡ false → feed_of r piece ≡ fed_open r (takes at_client r.item piece)
-same_open r piece o = rw o refl

@@ -1,5 +1,5 @@
 -- Requests that are asked in turn.
-use Rattle.std.proofs.Common.{◌≡◌, refl, sym, ◌∙◌, ap, subst, ℕ, suc, ◌+◌, ◌<◌, ◌^◌, Bool, true, false, ◌||◌, ◌&&◌, nat_lt, Option, Some, None, Result, Ok, Err, List, [], ◌∷◌, ◌++◌, length, map, append-nil, arith}
+use Rattle.std.proofs.Common.{◌≡◌, refl, sym, ◌∙◌, ap, subst, ℕ, suc, ◌+◌, ◌<◌, ◌^◌, Bool, true, false, ◌||◌, ◌&&◌, nat_lt, Option, Some, None, Result, Ok, Err, List, [], ◌∷◌, ◌++◌, length, append-nil, arith}
 use Rattle.messages.specs.Prelude.{RequestView}
 use Rattle.messages.specs.View.{AuthView}
 use Rattle.std.proofs.lemmas.Bool.Decides.{nat_tests}
@@ -13,7 +13,6 @@ use Rattle.connects.specs.declared.breaks.Break.{Break}
 use Rattle.connects.specs.declared.faults.Fault.{Fault}
 use Rattle.connects.specs.declared.faults.Fault.TheVariants as fault
 use Rattle.connects.specs.Prelude.{Stand, stand_in, GoesOn, Leads, Place, place, Exchanges, or_undone, first_undone, Told, fresh, given_up, Sent, IsNotSent, Says, asked_stand, asked_all, AcceptsEach, StopsAt, AsksAll, greeting}
-use Rattle.connects.proofs.Leading.{leads_nowhere, leads_on}
 use Rattle.connects.proofs.Reading.{stand_is}
 
 pub asked_more : (s : Stand) (qs : List RequestView) (q : RequestView) → asked_all s (qs ++ q ∷ []) ≡ asked_stand (asked_all s qs) q

@@ -13,7 +13,7 @@ use crate::exchanging::exchange;
 use crate::faults::Fault;
 use crate::pipelines::{say, unasked};
 use crate::queries::{Query, greeting, is_login_in_hello, rows_request, running, transaction};
-use client::{ClientFault, Outcome};
+use client::ClientFault;
 use driver::{Rows, TrackingClient};
 use messages::{Auth, Mode, Request};
 use std::alloc::Global;

@@ -1,5 +1,5 @@
 -- Nothing is told of a request that wasn't sent.
-use Rattle.std.proofs.Common.{◌≡◌, refl, ap₂, ℕ, suc, ◌+◌, ◌-◌, ◌≤◌, ◌==◌, Bool, true, false, ◌||◌, if◌then◌else◌, Option, Some, None, List, [], ◌∷◌, length, drop, arith, eqb-true, unwrap_or}
+use Rattle.std.proofs.Common.{◌≡◌, refl, ap₂, ℕ, suc, ◌+◌, ◌-◌, ◌≤◌, ◌==◌, Bool, true, false, ◌||◌, if◌then◌else◌, Some, None, List, [], ◌∷◌, length, arith, eqb-true, unwrap_or}
 use Rattle.std.specs.Option.{option_or}
 use Rattle.std.proofs.lemmas.Bool.{cond_both}
 use Rattle.std.proofs.lemmas.List.{length-drop}
@@ -7,13 +7,12 @@ use Rattle.wire.specs.declared.Version.{Version}
 use Rattle.wire.specs.declared.Version.TheVariants as version
 use Rattle.wire.specs.declared.Wish.{Wish}
 use Rattle.messages.specs.Prelude.{RequestView, Heard, hears}
-use Rattle.client.specs.declared.Outcome.{Outcome}
-use Rattle.client.specs.Prelude.{Told, Got, GotRow, Knows, Hearing, Reading, knows_of, reading_of, losses, losses_from}
+use Rattle.client.specs.Prelude.{Knows, Hearing, Reading, knows_of, losses, losses_from}
 use Rattle.client.specs.Client.{reading, hear, and_told}
 use Rattle.client.proofs.Later.{reading_count}
 use Rattle.client.proofs.Makes.{Makes, makes, spoils, turns_away, takes_version, tells_none, tells_row, tells_summary}
 use Rattle.driver.specs.Account.{outcome_lost}
-use Rattle.driver.specs.Attempts.{Attempt, read, told_lost, outcome_heard, told_of}
+use Rattle.driver.specs.Attempts.{Attempt, read, outcome_heard, told_of}
 
 module _ (wish : Wish) (sent : List RequestView) (i : ℕ) where
   step : (r : Reading) (k : Knows) (x : Heard) (h : Hearing) → k.first ≡ r.count → Makes wish k x h → (r.count ≤ i → outcome_heard i r.told ≡ None) → h.knows.first ≤ i → outcome_heard i (and_told h.tells r.told) ≡ None

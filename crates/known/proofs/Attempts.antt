@@ -1,5 +1,5 @@
 -- Attempts under one token.
-use Rattle.std.proofs.Common.{◌≡◌, refl, sym, ◌∙◌, ap, ap₂, subst, ℕ, zero, suc, ◌<◌, Bool, true, false, if◌then◌else◌, Option, Some, None, List, [], ◌∷◌, ◌++◌, length, slice_get, ⊎_elim, ◌==◌, ◌&&◌, ◌||◌, ◌≤◌, append_assoc, take, drop, arith, length-append, take-append-drop, is_some}
+use Rattle.std.proofs.Common.{◌≡◌, refl, sym, ◌∙◌, ap, ap₂, subst, ℕ, zero, suc, ◌<◌, Bool, true, false, if◌then◌else◌, Option, Some, None, List, [], ◌∷◌, ◌++◌, length, slice_get, ⊎_elim, ◌==◌, ◌&&◌, ◌||◌, append_assoc, take, drop, arith, length-append, take-append-drop, is_some}
 use Rattle.std.specs.Option.{option_or}
 use Rattle.std.specs.List.{list_all}
 use Rattle.std.proofs.lemmas.Bool.{cond_both, cond-true, eq-eqb, and_parts, and_from}
@@ -10,7 +10,7 @@ use Rattle.machine.specs.declared.Phase.{Phase}
 use Rattle.machine.specs.declared.Kind.{Kind}
 use Rattle.machine.specs.declared.Verdict.{Verdict}
 use Rattle.machine.proofs.Tables.{every_bool, every_kind, every_verdict, at_version, at_bool, at_phase, at_kind, at_verdict, implies, implies_at}
-use Rattle.engine.specs.Prelude.{EntryView, WriteView, under_token, TokensOnce, Other, found_in, commit_by}
+use Rattle.engine.specs.Prelude.{EntryView, under_token, TokensOnce, Other, found_in, commit_by}
 use Rattle.engine.proofs.Once.{Has, only, under-append, answers_by_token}
 use Rattle.client.specs.declared.Outcome.{Outcome}
 use Rattle.client.specs.Prelude.{phase_accepted, outcome_of, has_more, verdict_of, resets}

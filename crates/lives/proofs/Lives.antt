@@ -5,7 +5,7 @@ use Rattle.engine.proofs.Once.{under-append, only}
 use Rattle.session.specs.Prelude.{Setting, Change}
 use Rattle.world.specs.Connections.{Connection}
 use Rattle.world.specs.World.{World, ledger, Reached, begins, goes_on, takes_out, taken_out}
-use Rattle.world.specs.Good.{change, often, outcome, Stands, StandsOnce}
+use Rattle.world.specs.Good.{change, often, Stands, StandsOnce}
 use Rattle.world.proofs.Headline.{headline}
 use Rattle.world.proofs.Limits.{commits_once, grows_by_work}
 use Rattle.lives.specs.Lives.{left, Lived, never, again, StandsIn, ReliesOn}

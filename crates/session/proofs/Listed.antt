@@ -1,6 +1,6 @@
 -- Rows as lists of cells.
-use Rattle.std.proofs.Common.{◌≡◌, ◌<◌, ◌≤◌, ◌+◌, ℕ, zero, suc, List, [], ◌∷◌, length, map, take, drop, get_or, Vec, Global, refl, sym, ap, subst, ◌∙◌, add-one, arith, Result, Ok, Err, IfOk}
-use Rattle.std.proofs.lemmas.List.{length-map, take-map, drop-map, drop-drop}
+use Rattle.std.proofs.Common.{◌≡◌, ◌<◌, ◌≤◌, ◌+◌, ℕ, zero, suc, List, [], ◌∷◌, length, map, take, drop, Vec, Global, refl, sym, ap, subst, ◌∙◌, add-one, arith}
+use Rattle.std.proofs.lemmas.List.{take-map, drop-map, drop-drop}
 use Rattle.std.specs.List.{AllZip}
 use Rattle.packstream.specs.Prelude.{Tree, list, trees_of}
 use Rattle.wire.specs.declared.Version.{Version}
@@ -9,10 +9,8 @@ use Rattle.cells.specs.Prelude.{shape, shapes}
 use Rattle.cells.proofs.Views.{shape-List}
 use Rattle.structures.specs.Prelude.{fitted}
 use Rattle.structures.proofs.Fitted.{fitted_list}
-use Rattle.std.specs.declared.alloc.AllocError.{AllocError}
 use Rattle.engine.specs.declared.answer.Answer.{Answer}
 use Rattle.engine.specs.declared.answer.Mode.{Mode as QueryMode}
-use Rattle.engine.specs.declared.row_cells.Cells.{Cells}
 use Rattle.engine.specs.Prelude.{cells_in, rows_in, answer_view, IsAnswer}
 use Rattle.engine.proofs.Columns.{length-rows_in}
 use Rattle.session.specs.declared.remaining.Remaining.{Remaining}
@@ -46,10 +44,6 @@ rows_in_fitted v width (suc n) cells =
     ap (λ (r : List Tree). r ∷ rows_in width n (drop width (map (fitted v) cells))) (take-map (fitted v) width cells)
     ∙ ap (λ (r : List Tree). map (fitted v) (take width cells) ∷ rows_in width n r) (drop-map (fitted v) width cells)
     ∙ ap (λ (rs : List (List Tree)). map (fitted v) (take width cells) ∷ rs) (rows_in_fitted v width n (drop width cells))
-
--- there are as many of them
-as_many : (v : Version) (xs ys : List Cell) → shapes xs ≡ map (fitted v) (shapes ys) → length xs ≡ length ys
-as_many v xs ys h = sym (length-map xs shape) ∙ ap length h ∙ length-map (shapes ys) (fitted v) ∙ length-map ys shape
 
 -- the rows of an answer are few
 pub few_answered : (mode : QueryMode) (a : Answer) → IsAnswer mode (answer_view a) → a.rows.count ≤ 1024

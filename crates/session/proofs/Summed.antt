@@ -1,6 +1,6 @@
 -- The text of a summary, added an entry after the other.
-use Rattle.std.proofs.Common.{◌+◌, true, nat_lt, refl, codes, ◌≡◌, ◌≤◌, ◌<◌, ◌^◌, ℕ, List, [], ◌∷◌, ◌++◌, length, ap, sym, subst, ◌∙◌, append_assoc, arith, decimal}
-use Rattle.std.proofs.lemmas.List.{append-nil, length-append}
+use Rattle.std.proofs.Common.{◌+◌, true, nat_lt, refl, codes, ◌≡◌, ◌≤◌, ℕ, List, [], ◌∷◌, ◌++◌, length, ap, sym, ◌∙◌, append_assoc, arith}
+use Rattle.std.proofs.lemmas.List.{append-nil}
 use Rattle.std.proofs.lemmas.Bool.Decides.{nat_tests}
 use Rattle.packstream.specs.Prelude.{Tree, text, dict, structure, no_trees, tree_then, Entries, no_entries, entry_then, entry_count, head, text_bytes, canon, canon_entries}
 use Rattle.wire.specs.declared.Version.{Version}

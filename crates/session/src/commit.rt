@@ -18,55 +18,55 @@ use std::mem;
 /// the ledger's new length if an entry was added. The ledger has no entry under its token before. An `Err` changes nothing.
 pub(crate) fn leave<E: Engine>(
     alloc: Global,
-    open: &mut OpenResult,
+    left: &mut OpenResult,
     tx: &mut Transaction,
     after: After,
     id: EntryId,
     engine: &mut E,
 ) -> Result<Option<u64>, AllocError>
     requires { IsFree (E.entries engine.old)
-        (left_entry after (open_of open.old) (tx_of tx.old)) }
-    ensures open { OnOk result (open_of open.new ≡ left_result after (open_of open.old)) }
+        (left_entry after (open_of left.old) (tx_of tx.old)) }
+    ensures open { OnOk result (open_of left.new ≡ left_result after (open_of left.old)) }
     ensures tx { OnOk result (tx_of tx.new ≡ left_tx after None (tx_of tx.old)) }
     ensures ledger { OnOk result
         (E.entries engine.new ≡ E.entries engine.old
         ++ commit_entries id.conn id.ordinal
-        (left_entry after (open_of open.old) (tx_of tx.old))) }
+        (left_entry after (open_of left.old) (tx_of tx.old))) }
     ensures len { IfOk result
         (λ n. n ≡ length_after (E.entries engine.old)
-        (left_entry after (open_of open.old) (tx_of tx.old))) }
+        (left_entry after (open_of left.old) (tx_of tx.old))) }
     ensures below { IfOk result IsBelow }
-    ensures open_kept { OnErr result (open_of open.new ≡ open_of open.old) }
+    ensures open_kept { OnErr result (open_of left.new ≡ open_of left.old) }
     ensures tx_kept { OnErr result (tx_of tx.new ≡ tx_of tx.old) }
     ensures ledger_kept { OnErr result (E.entries engine.new ≡ E.entries engine.old) }
 {
     match after {
         After::Nothing => {
-            *open = OpenResult::closed(alloc);
+            *left = OpenResult::closed(alloc);
             tx.close(alloc);
             Ok(None)
         }
         After::Begun(mode) => {
-            *open = OpenResult::closed(alloc);
+            *left = OpenResult::closed(alloc);
             *tx = Transaction::begun(alloc, mode);
             Ok(None)
         }
         After::Rest(count) => {
-            drop_rows(open, count);
+            drop_rows(left, count);
             Ok(None)
         }
         After::Transaction => {
-            *open = OpenResult::closed(alloc);
+            *left = OpenResult::closed(alloc);
             Ok(None)
         }
         After::CommitsResult => {
-            let len = commit_result(alloc, open, id, engine)?;
+            let len = commit_result(alloc, left, id, engine)?;
             tx.close(alloc);
             Ok(Some(len))
         }
         After::CommitsTransaction => {
             let len = commit_writes(alloc, &mut tx.writes, &mut tx.token, id, engine)?;
-            *open = OpenResult::closed(alloc);
+            *left = OpenResult::closed(alloc);
             *tx = Transaction::none(alloc);
             Ok(Some(len))
         }
@@ -74,34 +74,34 @@ pub(crate) fn leave<E: Engine>(
 }
 
 /// Drops rows from the front of an open result. The count of written rows begins anew.
-fn drop_rows(open: &mut OpenResult, count: usize)
-    ensures { open_of open.new ≡ left_result (After.Rest count) (open_of open.old) }
+fn drop_rows(left: &mut OpenResult, count: usize)
+    ensures { open_of left.new ≡ left_result (After.Rest count) (open_of left.old) }
 {
-    open.rows.drop_front(count);
-    open.written = 0;
+    left.rows.drop_front(count);
+    left.written = 0;
 }
 
 /// Commits the write of an open result, or none, under its token, and closes it.
 #[tactic(auto, using(crate::proofs::Writes::one_write))]
 fn commit_result<E: Engine>(
     alloc: Global,
-    open: &mut OpenResult,
+    left: &mut OpenResult,
     id: EntryId,
     engine: &mut E,
 ) -> Result<u64, AllocError>
-    requires { IsFree (E.entries engine.old) (Some (change_alone (open_of open.old))) }
-    ensures open { OnOk result (open_of open.new ≡ no_result) }
+    requires { IsFree (E.entries engine.old) (Some (change_alone (open_of left.old))) }
+    ensures open { OnOk result (open_of left.new ≡ no_result) }
     ensures ledger { OnOk result
         (E.entries engine.new ≡ E.entries engine.old
-        ++ commit_entries id.conn id.ordinal (Some (change_alone (open_of open.old)))) }
+        ++ commit_entries id.conn id.ordinal (Some (change_alone (open_of left.old)))) }
     ensures len { IfOk result (λ n. n ≡ length (E.entries engine.old) + 1) }
     ensures below { IfOk result (λ n. n < ledger_bound) }
     ensures err { OnErr result
-        ((open_of open.new ≡ open_of open.old)
+        ((open_of left.new ≡ open_of left.old)
         × (E.entries engine.new ≡ E.entries engine.old)) }
 {
-    let len = commit_writes(alloc, &mut open.writes, &mut open.token, id, engine)?;
-    *open = OpenResult::closed(alloc);
+    let len = commit_writes(alloc, &mut left.writes, &mut left.token, id, engine)?;
+    *left = OpenResult::closed(alloc);
     Ok(len)
 }
 

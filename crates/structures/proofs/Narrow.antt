@@ -4,7 +4,6 @@ use borrow.Author.Tests.{ltb-true}
 use Rattle.packstream.specs.declared.fault.Reason.{Reason as PackReason}
 use Rattle.packstream.specs.Prelude.{Tree, list, dict, structure, Trees, no_trees, tree_then, Entries, no_entries, entry_then, count, is_among, own_fault, faults_in, faults_in_all, faults_in_entries, first_fault}
 use Rattle.wire.specs.declared.Version.{Version}
-use Rattle.cells.specs.declared.fault.Reason.{Reason}
 use Rattle.cells.specs.Prelude.{fault, structures, structures_in, structures_under, all_fine}
 use Rattle.cells.proofs.Fine.{fine_scan, fine_itself, fine_within, fine_left, fine_right}
 use Rattle.structures.specs.Prelude.{Form, IsUnpacked, IsOfPacking}
