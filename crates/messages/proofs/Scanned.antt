@@ -99,6 +99,11 @@ pub dict_scanned : (v : Version) (ps : Vec Pair Global) (rest b : List ℕ) → 
     → depth (form v (dict (entries_of (entries ps.items)))) ≤ 31 → IsWritable v (dict (entries_of (entries ps.items))) → SpellsDict v (dict (entries_of (entries ps.items))) rest b
 dict_scanned v ps rest b s g d w = record { entries = form_under v (entries_of (entries ps.items)); good = g; deep = d; spelled = s; told = told_cell v (dict (entries_of (entries ps.items))) (form v (dict (entries_of (entries ps.items)))) (dict_form v ps w) }
 
+-- a dictionary of no entries
+pub empty_scanned : (v : Version) (rest b : List ℕ) → b ≡ 0xA0 ∷ rest → SpellsDict v (dict no_entries) rest b
+unfolding head
+empty_scanned v rest b e = record { entries = no_entries; good = mode_good Write; deep = omega arith; spelled = (0xA0 ∷ [], canon_spells (dict no_entries) (mode_good Write) (omega arith), e); told = refl }
+
 pub list_scanned : (v : Version) (cs : Vec Cell Global) (rest b : List ℕ) → SpellsFront (form v (list (trees_of (shapes cs.items)))) rest b → IsGood (form v (list (trees_of (shapes cs.items))))
     → depth (form v (list (trees_of (shapes cs.items)))) ≤ 31 → IsWritable v (list (trees_of (shapes cs.items))) → SpellsList v (list (trees_of (shapes cs.items))) rest b
 list_scanned v cs rest b s g d w = record { members = form_all v (trees_of (shapes cs.items)); good = g; deep = d; spelled = s; told = told_cell v (list (trees_of (shapes cs.items))) (form v (list (trees_of (shapes cs.items)))) (list_form v cs w) }
