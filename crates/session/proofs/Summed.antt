@@ -9,12 +9,11 @@ use Rattle.messages.specs.Prelude.{Summary, run_of_result, response_of_summary, 
 use Rattle.messages.proofs.Fitting.{text_is}
 use Rattle.session.specs.Prelude.{IsRun}
 
--- the head of a structure of one dictionary, then its entries
-pub headed : (tag n : ℕ) (es : Entries) (old a new : List ℕ) → head 0xA0 0xD8 (entry_count es) ≡ n ∷ [] → a ≡ old ++ 0xB1 ∷ tag ∷ n ∷ [] → new ≡ a ++ canon_entries es → new ≡ old ++ canon (structure tag (tree_then (dict es) no_trees))
-headed tag n es old a new h p q =
-    q ∙ ap (λ x. x ++ canon_entries es) p ∙ append_assoc old (0xB1 ∷ tag ∷ n ∷ []) (canon_entries es)
-    ∙ ap (λ y. old ++ (0xB1 ∷ tag ∷ (y ++ canon_entries es))) (sym h)
-    ∙ ap (λ x. old ++ (0xB1 ∷ tag ∷ x)) (sym (append-nil (canon (dict es))))
+-- a place for a header and the head of a structure of one dictionary, then its entries
+pub headed : (tag n : ℕ) (es : Entries) (a new : List ℕ) → head 0xA0 0xD8 (entry_count es) ≡ n ∷ [] → a ≡ 0 ∷ 0 ∷ 0xB1 ∷ tag ∷ n ∷ [] → new ≡ a ++ canon_entries es → new ≡ 0 ∷ 0 ∷ canon (structure tag (tree_then (dict es) no_trees))
+headed tag n es a new h p q =
+    q ∙ ap (λ x. x ++ canon_entries es) p ∙ ap (λ y. 0 ∷ 0 ∷ 0xB1 ∷ tag ∷ (y ++ canon_entries es)) (sym h)
+    ∙ ap (λ x. 0 ∷ 0 ∷ 0xB1 ∷ tag ∷ x) (sym (append-nil (canon (dict es))))
 
 -- an entry, then others
 pub entry_first : (k s : List ℕ) (es : Entries) (a b new : List ℕ) → b ≡ a ++ (text_bytes k ++ text_bytes s) → new ≡ b ++ canon_entries es → new ≡ a ++ canon_entries (entry_then k (text s) es)
@@ -31,24 +30,18 @@ pub small_head : (tiny m n : ℕ) → n ≤ 15 → head tiny m n ≡ (tiny + n) 
 unfolding head
 small_head tiny m n h = let e : nat_lt n 16 ≡ true = grind (arith, nat_tests) in rw e refl
 
--- a bookmark of few digits
-pub bookmarked : (digits old a new : List ℕ) → length digits ≤ 12 → a ≡ old ++ (0x80 + (3 + length digits)) ∷ codes "bk:" → new ≡ a ++ digits
-    → new ≡ old ++ text_bytes (codes "bk:" ++ digits)
+-- a bookmark of few digits, and what follows it
+pub marked : (n : ℕ) (digits last old a b new : List ℕ) → length digits ≤ 12 → old ≡ []
+    → a ≡ old ++ 0 ∷ 0 ∷ 0xB1 ∷ 0x70 ∷ n ∷ 0x88 ∷ (codes "bookmark" ++ (0x80 + (3 + length digits)) ∷ codes "bk:") → b ≡ a ++ digits → new ≡ b ++ last
+    → new ≡ 0 ∷ 0 ∷ 0xB1 ∷ 0x70 ∷ n ∷ (text_bytes (codes "bookmark") ++ (text_bytes (codes "bk:" ++ digits) ++ last))
 unfolding head
-bookmarked digits old a new few p q =
-    let n : ℕ = 3 + length digits in
-    let h : List ℕ = (0x80 + n) ∷ codes "bk:" in
+marked n digits last old a b new few o p q r =
+    let front : List ℕ = 0 ∷ 0 ∷ 0xB1 ∷ 0x70 ∷ n ∷ 0x88 ∷ (codes "bookmark" ++ (0x80 + (3 + length digits)) ∷ codes "bk:") in
     let m : ℕ = length (codes "bk:" ++ digits) in
-    let same : m ≡ n = omega arith in
-    let e : head 0x80 0xD0 m ≡ (0x80 + n) ∷ [] = small_head 0x80 0xD0 m (omega (arith, few, same)) ∙ ap (λ x. (0x80 + x) ∷ []) same in
-    q ∙ ap (λ x. x ++ digits) p ∙ append_assoc old h digits ∙ ap (λ x. old ++ (x ++ (codes "bk:" ++ digits))) (sym e)
-
--- the head of a SUCCESS of so many entries, and the first of them, a bookmark
-pub marked : (n : ℕ) (old a b mark : List ℕ) → a ≡ old ++ 0xB1 ∷ 0x70 ∷ n ∷ 0x88 ∷ codes "bookmark" → b ≡ a ++ mark → b ≡ (old ++ 0xB1 ∷ 0x70 ∷ n ∷ []) ++ (text_bytes (codes "bookmark") ++ mark)
-unfolding head
-marked n old a b mark p q =
-    q ∙ ap (λ x. x ++ mark) p ∙ append_assoc old (0xB1 ∷ 0x70 ∷ n ∷ 0x88 ∷ codes "bookmark") mark
-    ∙ sym (append_assoc old (0xB1 ∷ 0x70 ∷ n ∷ []) (0x88 ∷ (codes "bookmark" ++ mark)))
+    let same : m ≡ 3 + length digits = omega arith in
+    let e : head 0x80 0xD0 m ≡ (0x80 + (3 + length digits)) ∷ [] = small_head 0x80 0xD0 m (omega (arith, few, same)) ∙ ap (λ x. (0x80 + x) ∷ []) same in
+    r ∙ ap (λ x. x ++ last) (q ∙ ap (λ x. x ++ digits) (p ∙ ap (λ x. x ++ front) o))
+    ∙ ap (λ x. 0 ∷ 0 ∷ 0xB1 ∷ 0x70 ∷ n ∷ (text_bytes (codes "bookmark") ++ ((x ++ (codes "bk:" ++ digits)) ++ last))) (sym e)
 
 -- the run of its text is the summary's
 pub summary_run : (v : Version) (s : Summary) (run : List ℕ) → IsShort s → run ≡ written_run (canon (form_of s)) → IsRun v (response_of_summary s) run

@@ -1,10 +1,9 @@
 //! The spellings of responses.
-ghost use Rattle.std.specs.Prelude.{◌≡◌, ◌≤◌, [], ◌∷◌, length, drop, true, false, OnOk, OnErr, IfErr};
+ghost use Rattle.std.specs.Prelude.{◌≡◌, ◌≤◌, [], length, drop, true, false, OnOk, OnErr, IfErr};
 ghost use Rattle.packstream.specs.Writing.{whole};
 ghost use Rattle.messages.specs.View.{response_view};
-ghost use Rattle.packstream.specs.Canon.{canon};
 ghost use Rattle.wire.specs.Texts.{written_run};
-ghost use Rattle.messages.specs.Summaries.{response_of_summary, form_of, IsShort};
+ghost use Rattle.messages.specs.Summaries.{response_of_summary};
 ghost use Rattle.session.specs.Said.{fits};
 ghost use Rattle.session.specs.Acts.{IsBody, IsRun, Refuses, summary_of, is_ready, unwritten_of};
 
@@ -79,7 +78,7 @@ fn put_made(version: Version, summary: Summary<'_>, out: &mut Output) -> Result<
         (IsRun version (response_of_summary (summary_of summary.entry)) out.new.more) }
     ensures err { OnErr result (out.new.more ≡ []) }
 {
-    match add_made(summary, out) {
+    match summary.put(out) {
         Ok(()) => closed(out),
         Err(AllocError) => {
             out.take_back();
@@ -99,18 +98,6 @@ fn closed(out: &mut Output) -> Result<(), AllocError>
         return Err(AllocError);
     }
     Ok(())
-}
-
-/// Adds a place for a header, and the text of a summary that tells a name, a number or a failure.
-fn add_made(summary: Summary<'_>, out: &mut Output) -> Result<(), AllocError>
-    requires empty { out.old.more ≡ [] }
-    requires made { is_ready summary ≡ false }
-    ensures before { out.new.before ≡ out.old.before }
-    ensures spelled { OnOk result (out.new.more ≡ 0 ∷ 0 ∷ canon (form_of (summary_of summary.entry))) }
-    ensures short { IsShort (summary_of summary.entry) }
-{
-    out.extend_from_slice(&[0, 0])?;
-    summary.put(out)
 }
 
 /// Puts the run of a response by way of its text, which takes the place of what the body held; or nothing, and why.

@@ -1,5 +1,5 @@
 //! The responses of a session but its rows and the SUCCESS of a RUN.
-ghost use Rattle.std.specs.Prelude.{◌≡◌, ◌≤◌, ◌+◌, ◌++◌, length, codes, OnOk, Some, IfSome, IsNone, false};
+ghost use Rattle.std.specs.Prelude.{◌≡◌, ◌≤◌, ◌+◌, ◌++◌, ◌∷◌, [], length, codes, OnOk, Some, IfSome, IsNone, false};
 ghost use Rattle.std.specs.Fmt.{decimal};
 ghost use Rattle.packstream.specs.Canon.{head, text_bytes, canon, canon_entries};
 ghost use Rattle.packstream.specs.Limits.{max_size};
@@ -58,12 +58,12 @@ impl<'a> Summary<'a> {
         }
     }
 
-    /// Adds the text of the response, if it tells a name, a number or a failure.
+    /// Adds a place for a header, and the text of the response, if it tells a name, a number or a failure.
     pub(crate) fn put(self, out: &mut Output) -> Result<(), AllocError>
-        requires { is_ready self ≡ false }
+        requires empty { out.old.more ≡ [] }
+        requires made { is_ready self ≡ false }
         ensures before { out.new.before ≡ out.old.before }
-        ensures spelled { OnOk result (out.new.more
-            ≡ out.old.more ++ canon (form_of (summary_of self.entry))) }
+        ensures spelled { OnOk result (out.new.more ≡ 0 ∷ 0 ∷ canon (form_of (summary_of self.entry))) }
         ensures short { IsShort (summary_of self.entry) }
     {
         match self {
@@ -132,40 +132,70 @@ fn put_numbered(out: &mut Output, key: &str, word: &str, number: u64) -> Result<
 }
 
 fn put_greeting(out: &mut Output, agent: &str, conn: u64) -> Result<(), AllocError>
-    requires { length agent.now ≤ max_agent }
+    requires empty { out.old.more ≡ [] }
+    requires agent { length agent.now ≤ max_agent }
     ensures before { out.new.before ≡ out.old.before }
-    ensures spelled { OnOk result (out.new.more
-        ≡ out.old.more ++ canon (form_of (Greeting agent.now conn))) }
+    ensures spelled { OnOk result (out.new.more ≡ 0 ∷ 0 ∷ canon (form_of (Greeting agent.now conn))) }
     ensures short { IsShort (Greeting agent.now conn) }
 {
-    out.extend_from_slice(&[0xB1, 0x70, 0xA2])?;
+    out.extend_from_slice(&[0, 0, 0xB1, 0x70, 0xA2])?;
     put_entry(out, "server", agent)?;
     put_numbered(out, "connection_id", "bolt-", conn)?;
     Ok(())
 }
 
-/// The text of a bookmark.
-fn put_bookmark(out: &mut Output, place: u64) -> Result<(), AllocError>
-    ensures before { out.new.before ≡ out.old.before }
-    ensures ok { OnOk result (out.new.more
-        ≡ out.old.more ++ text_bytes (codes "bk:" ++ decimal place)) }
+/// A place for a header, and a SUCCESS up to the digits of a bookmark, of which there are so many. Its dictionary begins with this byte.
+fn front_of(head: u8, count: usize) -> [u8; 18]
+    requires { count ≤ 12 }
+    ensures { result ≡ 0 ∷ 0 ∷ 0xB1 ∷ 0x70 ∷ head ∷ 0x88
+        ∷ (codes "bookmark" ++ (0x80 + (3 + count)) ∷ codes "bk:") }
 {
-    let mut buffer = Buffer::new();
-    put_bookmark_of(out, buffer.format(place))
+    let mut front = *b"\0\0\xB1\x70\xA1\x88bookmark\x83bk:";
+    front[4] = head;
+    front[14] = 0x80 + (3 + count as u8);
+    front
 }
 
-/// The text of the bookmark with these digits.
-fn put_bookmark_of(out: &mut Output, digits: &str) -> Result<(), AllocError>
-    requires { length digits.now ≤ 40 }
+/// A place for a header, and a SUCCESS of a bookmark and of the entries behind it. Its dictionary begins with this byte.
+fn put_marked(out: &mut Output, head: u8, place: u64, last: &[u8]) -> Result<(), AllocError>
+    requires { out.old.more ≡ [] }
     ensures before { out.new.before ≡ out.old.before }
-    ensures ok { OnOk result (out.new.more
-        ≡ out.old.more ++ text_bytes (codes "bk:" ++ digits.now)) }
+    ensures ok { OnOk result (out.new.more ≡ 0 ∷ 0 ∷ 0xB1 ∷ 0x70 ∷ head
+        ∷ (text_bytes (codes "bookmark") ++ (text_bytes (codes "bk:" ++ decimal place) ++ last.now))) }
+{
+    let mut buffer = Buffer::new();
+    put_digits(out, head, buffer.format(place), last)
+}
+
+/// The same of the bookmark with these digits.
+fn put_digits(out: &mut Output, head: u8, digits: &str, last: &[u8]) -> Result<(), AllocError>
+    requires empty { out.old.more ≡ [] }
+    requires digits { length digits.now ≤ 40 }
+    ensures before { out.new.before ≡ out.old.before }
+    ensures ok { OnOk result (out.new.more ≡ 0 ∷ 0 ∷ 0xB1 ∷ 0x70 ∷ head
+        ∷ (text_bytes (codes "bookmark") ++ (text_bytes (codes "bk:" ++ digits.now) ++ last.now))) }
 {
     if digits.len() > 12 {
-        return put_parts(out, "bk:", digits);
+        return put_many_digits(out, head, digits, last);
     }
-    out.extend_from_slice(&[0x80 + (3 + digits.len() as u8), b'b', b'k', b':'])?;
-    out.extend_from_slice(digits.as_bytes())
+    out.extend_from_slice(&front_of(head, digits.len()))?;
+    out.extend_from_slice(digits.as_bytes())?;
+    out.extend_from_slice(last)
+}
+
+/// The same, however many they are.
+#[tactic(auto, using(crate::proofs::Summed::added), unfolding(packstream::specs::Canon::head))]
+fn put_many_digits(out: &mut Output, head: u8, digits: &str, last: &[u8]) -> Result<(), AllocError>
+    requires empty { out.old.more ≡ [] }
+    requires digits { length digits.now ≤ 40 }
+    ensures before { out.new.before ≡ out.old.before }
+    ensures ok { OnOk result (out.new.more ≡ 0 ∷ 0 ∷ 0xB1 ∷ 0x70 ∷ head
+        ∷ (text_bytes (codes "bookmark") ++ (text_bytes (codes "bk:" ++ digits.now) ++ last.now))) }
+{
+    out.extend_from_slice(&[0, 0, 0xB1, 0x70, head])?;
+    put_short_text(out, "bookmark")?;
+    put_parts(out, "bk:", digits)?;
+    out.extend_from_slice(last)
 }
 
 /// The entries of the last SUCCESS of a result.
@@ -180,35 +210,31 @@ fn ending_of(mode: Mode) -> &'static [u8]
 }
 
 fn put_last_at(out: &mut Output, place: u64, mode: Mode) -> Result<(), AllocError>
+    requires { out.old.more ≡ [] }
     ensures before { out.new.before ≡ out.old.before }
-    ensures spelled { OnOk result (out.new.more
-        ≡ out.old.more ++ canon (form_of (Closing (Some place) mode))) }
+    ensures spelled { OnOk result (out.new.more ≡ 0 ∷ 0 ∷ canon (form_of (Closing (Some place) mode))) }
     ensures short { IsShort (Closing (Some place) mode) }
 {
-    out.extend_from_slice(b"\xB1\x70\xA3\x88bookmark")?;
-    put_bookmark(out, place)?;
-    out.extend_from_slice(ending_of(mode))?;
-    Ok(())
+    put_marked(out, 0xA3, place, ending_of(mode))
 }
 
 fn put_committed(out: &mut Output, place: u64) -> Result<(), AllocError>
+    requires { out.old.more ≡ [] }
     ensures before { out.new.before ≡ out.old.before }
-    ensures spelled { OnOk result (out.new.more
-        ≡ out.old.more ++ canon (form_of (Committed place))) }
+    ensures spelled { OnOk result (out.new.more ≡ 0 ∷ 0 ∷ canon (form_of (Committed place))) }
     ensures short { IsShort (Committed place) }
 {
-    out.extend_from_slice(b"\xB1\x70\xA1\x88bookmark")?;
-    put_bookmark(out, place)?;
-    Ok(())
+    put_marked(out, 0xA1, place, &[])
 }
 
 #[tactic(auto, using(crate::proofs::Summed::added), unfolding(packstream::specs::Canon::head))]
 fn put_failure(out: &mut Output, fault: Fault) -> Result<(), AllocError>
+    requires { out.old.more ≡ [] }
     ensures before { out.new.before ≡ out.old.before }
-    ensures spelled { OnOk result (out.new.more ≡ out.old.more ++ canon (form_of (failure fault))) }
+    ensures spelled { OnOk result (out.new.more ≡ 0 ∷ 0 ∷ canon (form_of (failure fault))) }
     ensures short { IsShort (failure fault) }
 {
-    out.extend_from_slice(&[0xB1, 0x7F, 0xA2])?;
+    out.extend_from_slice(&[0, 0, 0xB1, 0x7F, 0xA2])?;
     put_entry(out, "code", fault.code())?;
     put_entry(out, "message", fault.message())?;
     Ok(())

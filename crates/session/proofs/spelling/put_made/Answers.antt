@@ -6,4 +6,4 @@ use Rattle.session.proofs.Summed.{summary_run}
 use Rattle.session.proofs.spelling.put_made.Goals as goal
 
 pub returns-in-Ok-clause-ok : goal.returns-in-Ok-clause-ok
-returns-in-Ok-clause-ok c = on_ok_weaker c.closed.result (λ e. summary_run c.args.version (summary_of c.args.summary) c.closed.new.out.more c.add_made.ensures.short (e ∙ ap (λ x. written_run (drop 2 x)) c.in-Ok.ensures.spelled)) c.closed.ensures.ok
+returns-in-Ok-clause-ok c = on_ok_weaker c.closed.result (λ e. summary_run c.args.version (summary_of c.args.summary) c.closed.new.out.more c.put.ensures.short (e ∙ ap (λ x. written_run (drop 2 x)) c.in-Ok.ensures.spelled)) c.closed.ensures.ok

@@ -8,5 +8,5 @@ pub returns-clause-spelled : goal.returns-clause-spelled
 unfolding head
 returns-clause-spelled c =
     let id = text (codes "bolt-" ++ decimal c.args.conn) in
-    headed 0x70 0xA2 (entries_of (greeting c.args.agent.now c.args.conn)) _ _ _ refl c.in_ok-extend_from_slice.ensures.ok
+    headed 0x70 0xA2 (entries_of (greeting c.args.agent.now c.args.conn)) _ _ refl (rw c.requires.empty at c.in_ok-extend_from_slice.ensures.ok)
     (entry_first (codes "server") c.args.agent.now (entry_then (codes "connection_id") id no_entries) _ _ _ c.in_ok-put_entry.ensures.ok (entry_last (codes "connection_id") id _ _ c.in_ok-put_numbered.ensures.ok))
