@@ -1,6 +1,5 @@
 //! Dictionaries at the front of bytes.
 ghost use Rattle.std.specs.Prelude.{◌≡◌, ℕ, List, suc, Ok, IfOk, OnOk, true, [], ◌∷◌, ◌++◌, map, string_bytes};
-ghost use Rattle.packstream.specs.Hashing.{Knows};
 ghost use Rattle.packstream.specs.Reading.{key_at, entries_at, dict_at, layer, inner};
 ghost use Rattle.packstream.specs.Tree.{int, text, dict};
 ghost use Rattle.packstream.specs.Twins.{names};

@@ -1,5 +1,5 @@
 //! Dates, times, durations and points, behind their tag.
-ghost use Rattle.std.specs.Prelude.{◌≡◌, ℕ, IfOk};
+ghost use Rattle.std.specs.Prelude.{ℕ, IfOk};
 ghost use Rattle.packstream.specs.Reading.{layer, inner};
 ghost use Rattle.cells.specs.Shape.{shape};
 ghost use Rattle.structures.specs.Form.{form};
