@@ -158,10 +158,10 @@ each_at p (x ∷ xs) zero d h e a = ap (λ v. p (tree v)) e ∙ and_left _ _ a
 each_at p (x ∷ xs) (suc i) d h e a = each_at p xs i d (omega arith) e (and_right _ _ a)
 
 -- one more member read
-pub typed_next : (out : List Tree) (t : Tree) (xs : List Value) (i : ℕ) (d : Value) → i < length xs → d ≡ get_or xs i d → t ≡ typed (tree d) → out ≡ map typed (trees (take i xs)) → out ++ t ∷ [] ≡ map typed (trees (take (i + 1) xs))
-typed_next out t xs i d h e t-is o =
-    let a : trees (take (i + 1) xs) ≡ trees (take i xs) ++ tree d ∷ [] = map_more tree xs i d h ∙ ap (λ (x : Value). trees (take i xs) ++ tree x ∷ []) (sym e) in
-    ap (λ (r : List Tree). r ++ t ∷ []) o ∙ ap (λ (u : Tree). map typed (trees (take i xs)) ++ u ∷ []) t-is ∙ sym (ap (map typed) a ∙ map_push typed (trees (take i xs)) (tree d))
+pub read_next : {A : Type 0} (see : A → Tree) (old new : List A) (x : A) (xs : List Value) (i : ℕ) (d : Value) → i < length xs → d ≡ get_or xs i d → new ≡ old ++ x ∷ [] → see x ≡ typed (tree d) → map see old ≡ map typed (trees (take i xs)) → map see new ≡ map typed (trees (take (i + 1) xs))
+read_next see old new x xs i d h e n x-is o =
+    let a : trees (take (i + 1) xs) ≡ trees (take i xs) ++ tree d ∷ [] = map_more tree xs i d h ∙ ap (λ (y : Value). trees (take i xs) ++ tree y ∷ []) (sym e) in
+    ap (map see) n ∙ map_push see old x ∙ ap (λ (r : List Tree). r ++ see x ∷ []) o ∙ ap (λ (u : Tree). map typed (trees (take i xs)) ++ u ∷ []) x-is ∙ sym (ap (map typed) a ∙ map_push typed (trees (take i xs)) (tree d))
 
 abbrev pub field_at : ℕ → List Field → Option Field
 field_at i [] = None

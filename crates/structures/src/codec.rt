@@ -72,22 +72,13 @@ fn pack(alloc: Global, value: Value) -> Result<Packed, CellFault>
     }
 }
 
-#[tactic(auto, using(cells::proofs::Fine::fine_scan))]
-fn write_fine(alloc: Global, version: Version, cell: &Cell) -> Result<Packed, CellFault>
-    requires { IsWritable version (shape cell.now) }
-    ensures { Writes version (shape cell.now) result }
-{
-    let value = value_of(alloc, version, cell)?;
-    pack(alloc, value)
-}
-
-#[tactic(auto, using(crate::proofs::Formed::writable_when))]
+#[tactic(auto, using(cells::proofs::Fine::fine_scan, crate::proofs::Formed::writable_when, crate::proofs::Clauses::cell_packed))]
 fn write_cell(alloc: Global, version: Version, cell: &Cell) -> Result<Packed, CellFault>
     ensures { Writes version (shape cell.now) result }
 {
     match check_cell(version, cell, 0) {
         Err((reason, number)) => Err(CellFault::Refused(reason, number)),
-        Ok(_) => write_fine(alloc, version, cell),
+        Ok(_) => pack(alloc, value_of(alloc, version, cell)?),
     }
 }
 
@@ -113,22 +104,13 @@ pub fn write(alloc: Global, version: Version, cell: &Cell) -> Result<Packed, Cel
     write_cell(alloc, version, cell)
 }
 
-#[tactic(auto, using(cells::proofs::Fine::fine_scan))]
-fn members_fine(alloc: Global, version: Version, members: &Vec<Cell>) -> Result<Packed, CellFault>
-    requires { IsWritable version (list (trees_of (shapes members.now.items))) }
-    ensures { Writes version (list (trees_of (shapes members.now.items))) result }
-{
-    let values = values_of(alloc, version, members)?;
-    pack(alloc, Value::List(values))
-}
-
-#[tactic(auto, using(crate::proofs::Formed::writable_when))]
+#[tactic(auto, using(cells::proofs::Fine::fine_scan, crate::proofs::Formed::writable_when, crate::proofs::Clauses::list_packed))]
 fn write_list(alloc: Global, version: Version, members: &Vec<Cell>) -> Result<Packed, CellFault>
     ensures { Writes version (list (trees_of (shapes members.now.items))) result }
 {
     match check_cells(version, members, 0) {
         Err((reason, number)) => Err(CellFault::Refused(reason, number)),
-        Ok(_) => members_fine(alloc, version, members),
+        Ok(_) => pack(alloc, Value::List(values_of(alloc, version, members)?)),
     }
 }
 
@@ -155,20 +137,7 @@ pub fn write_members(
     write_list(alloc, version, members)
 }
 
-#[tactic(auto, using(cells::proofs::Fine::fine_scan))]
-fn entries_fine(
-    alloc: Global,
-    version: Version,
-    pairs: &Vec<(String, Cell)>,
-) -> Result<Packed, CellFault>
-    requires { IsWritable version (dict (entries_of (entries pairs.now.items))) }
-    ensures { Writes version (dict (entries_of (entries pairs.now.items))) result }
-{
-    let values = pair_values(alloc, version, pairs)?;
-    pack(alloc, Value::Dict(values))
-}
-
-#[tactic(auto, using(crate::proofs::Formed::writable_when))]
+#[tactic(auto, using(cells::proofs::Fine::fine_scan, crate::proofs::Formed::writable_when, crate::proofs::Clauses::dict_packed))]
 fn write_dict(
     alloc: Global,
     version: Version,
@@ -178,7 +147,7 @@ fn write_dict(
 {
     match check_entries(version, pairs, 0) {
         Err((reason, number)) => Err(CellFault::Refused(reason, number)),
-        Ok(_) => entries_fine(alloc, version, pairs),
+        Ok(_) => pack(alloc, Value::Dict(pair_values(alloc, version, pairs)?)),
     }
 }
 
