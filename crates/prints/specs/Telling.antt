@@ -7,7 +7,7 @@ use Rattle.hex.specs.Hex.{encode_lower}
 use Rattle.packstream.specs.Canon.{canon}
 use Rattle.packstream.specs.Tree.{Tree, list}
 use Rattle.packstream.specs.View.{trees_of}
-use Rattle.structures.specs.Form.{Form, form}
+use Rattle.structures.specs.Form.{form}
 use Rattle.wire.specs.declared.Version.{Version}
 use Rattle.session.specs.declared.kinds.Cause.{Cause}
 use Rattle.engine.specs.Views.{Token, EntryView}
@@ -23,10 +23,6 @@ use Rattle.prints.specs.Names.{cause_code, outcome_name, phase_name}
 -- the shortest spelling, in hex, of what a cell is at a version
 unfoldable pub spelled : Version → Tree → List ℕ
 spelled v cell = encode_lower (canon (form v cell))
-
--- this is the shortest spelling, in hex, of the form of a cell
-abbrev pub IsSpelled : Version → Tree → List ℕ → Type 0
-IsSpelled v cell hex = (t : Tree) × Form v cell t × (hex ≡ encode_lower (canon t))
 
 -- a row by the hex of the list of its cells
 abbrev pub row_line : List ℕ → List ℕ

@@ -9,6 +9,7 @@ ghost use Rattle.wire.specs.declared.Version.{Version};
 ghost use Rattle.prints.specs.Telling.{row_line, row_text};
 
 /// What is printed of a row that has a form at a version is the shortest spelling of that form, the only one.
+#[tactic(auto, using(crate::proofs::Spelled::spelled_form))]
 pub fn one_text()
     ensures { (v : Version) (cells : List Tree) (t : Tree) → Form v (list (trees_of cells)) t
         → row_text v cells ≡ row_line (encode_lower (canon t)) }

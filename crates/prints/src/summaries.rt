@@ -2,7 +2,7 @@
 ghost use Rattle.std.specs.Prelude.{◌≡◌, IfOk, string_bytes};
 ghost use Rattle.cells.specs.Shape.{shape, shapes};
 ghost use Rattle.messages.specs.View.{response_view};
-ghost use Rattle.prints.specs.Telling.{IsSpelled, row_line, row_text, heard_line, fault_line, failure_line};
+ghost use Rattle.prints.specs.Telling.{spelled, row_line, row_text, heard_line, fault_line, failure_line};
 ghost use Rattle.prints.specs.Names.{outcome_name, phase_name};
 
 use crate::escapes::escape;
@@ -47,8 +47,9 @@ pub(crate) fn row(alloc: Global, version: Version, cells: Vec<Cell>) -> Result<S
 }
 
 /// The shortest spelling of a cell, in lower case hex.
+#[tactic(auto, using(crate::proofs::Spelled::spelled_form))]
 fn spelled(alloc: Global, version: Version, cell: &Cell) -> Result<String, AllocError>
-    ensures { IfOk result (λ t. IsSpelled version (shape cell.now) (string_bytes t)) }
+    ensures { IfOk result (λ t. string_bytes t ≡ spelled version (shape cell.now)) }
 {
     let Ok(packed) = write(alloc, version, cell) else {
         return Err(AllocError);
@@ -80,17 +81,6 @@ pub fn summary(
 {
     let outcome = outcome_name(outcome);
     let phase = phase_name(phase);
-    summary_text(alloc, ordinal, outcome, phase)
-}
-
-fn summary_text(
-    alloc: Global,
-    ordinal: u64,
-    outcome: &str,
-    phase: &str,
-) -> Result<String, AllocError>
-    ensures { IfOk result (λ t. string_bytes t ≡ heard_line ordinal outcome.now phase.now) }
-{
     let text = format!(in alloc; "heard {ordinal} {outcome} {phase}\n")?;
     Ok(text)
 }

@@ -1,21 +1,19 @@
-use Rattle.std.proofs.Common.{ap, ◌∙◌, string_bytes}
-use Rattle.std.proofs.lemmas.Str.{IsUtf8-past_char}
-use Rattle.prints.specs.Prelude.{is_clean}
-use Rattle.prints.proofs.Escapings.{escaped_step, escaped_end, escaped_same, escaped_clean}
+use Rattle.std.proofs.Common.{ap, ◌∙◌, ◌++◌, sym, flat_map, encode_utf8_all}
+use Rattle.std.proofs.lemmas.List.{map-id}
+use Rattle.std.proofs.lemmas.Iterator.{YieldsList-from_chars}
+use Rattle.std.proofs.lemmas.Iterator.Consumers.{YieldsList-end}
+use Rattle.prints.specs.Prelude.{is_clean, shown}
+use Rattle.prints.proofs.Escapings.{escaped_same, escaped_clean, shown_more}
 use Rattle.prints.proofs.escapes.escape.Goals as goal
 
 pub loop-c-preserved : goal.loop-c-preserved
 loop-c-preserved c =
-    record {
-      text = IsUtf8-past_char _ _ c.in-Some.c c.loop-c.invariant.text c.in-Some.ensures.steps.0;
-      whole = escaped_step _ _ (string_bytes c.loop-c.out) _ _ c.in-Some.c c.loop-c.invariant.text c.in-Some.ensures.steps.0 c.in_ok-push_shown.ensures c.loop-c.invariant.whole;
-    }
+    c.in_ok-push_shown.ensures ∙ ap (λ z. z ++ encode_utf8_all (shown c.in-Some.c)) c.loop-c.invariant ∙ sym (shown_more c.loop-c.yielded c.in-Some.c)
 
-pub returns-clause-value : goal.returns-clause-value
-returns-clause-value c = escaped_end _ (string_bytes c.loop-c.out) _ c.in-None.ensures.steps.0.0 c.loop-c.invariant.whole
-
-pub returns-clause-clean : goal.returns-clause-clean
-returns-clause-clean c = ap is_clean (escaped_end _ (string_bytes c.loop-c.out) _ c.in-None.ensures.steps.0.0 c.loop-c.invariant.whole) ∙ escaped_clean c.args.text.now c.utf8.text
-
-pub returns-clause-same : goal.returns-clause-same
-returns-clause-same c = λ h. escaped_end _ (string_bytes c.loop-c.out) _ c.in-None.ensures.steps.0.0 c.loop-c.invariant.whole ∙ escaped_same c.args.text.now c.utf8.text h
+pub returns : goal.returns
+returns c =
+    let text = c.args.text.now in
+    let road = YieldsList-from_chars text c.utf8.text (cc) in
+    let all = sym (map-id c.loop-c.yielded) ∙ (YieldsList-end road _ _ c.loop-c.yielded_by _ _ c.in-None.is c.next.ensures.steps).0 in
+    let value = c.loop-c.invariant ∙ ap (λ cs. encode_utf8_all (flat_map shown cs)) all in
+    record { value = value; clean = ap is_clean value ∙ escaped_clean text c.utf8.text; same = λ h. value ∙ escaped_same text c.utf8.text h }

@@ -1,11 +1,7 @@
-use Rattle.std.proofs.Common.{◌≡◌, ◌++◌, IsUtf8, string_bytes}
-use Rattle.std.specs.Str.Iter.{chars_rest}
-use Rattle.prints.specs.Prelude.{escaped}
+use Rattle.std.proofs.Common.{◌≡◌, string_bytes, flat_map, encode_utf8_all}
+use Rattle.prints.specs.Prelude.{shown}
 use Rattle.prints.proofs.escapes.escape.Given as goal
 
--- what is printed so far, with what is to be printed of the rest, is the whole
+-- what is printed so far is what is printed of the characters so far
 abbrev pub invariant-loop-c : goal.invariant-loop-c
-invariant-loop-c l = record {
-  text : IsUtf8 (chars_rest l.c-iterator);
-  whole : string_bytes l.out ++ escaped (chars_rest l.c-iterator) ≡ escaped l.fn.text;
-}
+invariant-loop-c l = string_bytes l.out ≡ encode_utf8_all (flat_map shown l.yielded)
