@@ -26,15 +26,14 @@ does_none {now = now} {done = done} (Broken f) e r =
 -- nothing was done, for want of memory
 pub nothing_done : (now : Streams) → Does (Some (Broken Memory)) now now []
 nothing_done now =
-    let unsent = first_place.rest.unsent in
     let none = moves_none {fault = Some Memory} now in
-    let sent : AppendsFront now.written now.written unsent = ([], unsent, refl, Appends-nil now.written) in
-    let moves : Moves (Some Memory) now now (record (said [] []) { sent = unsent }) =
+    let sent : AppendsFront now.written now.written first_place.rest.unsent = ([], first_place.rest.unsent, refl, Appends-nil now.written) in
+    let moves : Moves (Some Memory) now now (record (said [] []) { sent = first_place.rest.unsent }) =
     record { read = none.read; sent = sent; printed = none.printed; told = none.told; source = none.source; sinks = none.sinks } in
     let heard : HeardUpTo (Some Memory) (sent_out first_place 0) =
     record { fed = []; unheard = []; needed = inl refl; whole = λ _. inl refl; printed = []; told = []; prints = inl prints_none } in
-    let x : Exchanges (Some Memory) first_place now now = record { out = 0; heard = heard; moves = moves; ends = λ e. absurd cc } in
-    record { done = []; lines = ([], refl); place = _; talked = fails_first Memory now x }
+    let talked = fails_first Memory now (record { out = 0; heard = heard; moves = moves; ends = λ e. absurd cc }) in
+    record { done = []; lines = ([], refl); place = _; talked = talked }
 
 -- those of some lines, and others behind them that weren't looked at
 done_more : (stop : StopReason) (all done after : List (ℕ × Text)) → AreDone (Some stop) all done → AreDone (Some stop) (all ++ after) done
@@ -52,23 +51,17 @@ module _ {start now : Streams} {script : List ℕ} {b : Conversation} (p : Progr
   -- the lines at a newline
   pub at_newline : (more : List ℕ) → filled_lines (script ++ 10 ∷ more) ≡ (p.done ++ last) ++ filled_from (b.number + 1) (lines more)
   at_newline more =
-      p.follow (10 ∷ more)
-      ∙ ap (λ (z : List Text). p.done ++ filled_from b.number z) (slice_split_at (λ x. x == 10) b.begun.items 10 more p.begun refl)
-      ∙ ap (λ (z : List (ℕ × Text)). p.done ++ z) (filled_first b.number b.begun.items (lines more)) ∙ sym (append_assoc p.done last _)
+      let line = slice_split_at (λ x. x == 10) b.begun.items 10 more p.begun refl in
+      simp append_assoc (simp (line, filled_first b.number b.begun.items (lines more)) at (p.follow (10 ∷ more)))
 
   pub at_end : filled_lines script ≡ p.done ++ last
-  at_end =
-      let line = slice_split_none (λ x. x == 10) b.begun.items p.begun in
-      ap filled_lines (sym (append-nil script)) ∙ p.follow []
-      ∙ ap (λ (z : List Text). p.done ++ filled_from b.number z) (ap lines (append-nil b.begun.items) ∙ line)
-      ∙ ap (λ (z : List (ℕ × Text)). p.done ++ z) (filled_first b.number b.begun.items [] ∙ append-nil last)
+  at_end = simp (append-nil, slice_split_none (λ x. x == 10) b.begun.items p.begun, filled_first b.number b.begun.items []) at (p.follow [])
 
   -- a byte that is no newline
   pub one_more : {c : Conversation} (x : ℕ) → c.caller ≡ b.caller → c.number ≡ b.number → c.begun.items ≡ b.begun.items ++ x ∷ []
       → All (λ y. (y == 10) ≡ false) (b.begun.items ++ x ∷ []) → Progress start now (script ++ x ∷ []) c
   one_more x same number items plain =
-      let reaches = subst (λ (z : Caller). Reaches start now p.done z) (sym same) p.reaches in
-      record { done = p.done; reaches = reaches; begun = rw items plain; follow = λ more. rw (number, items) (simp append_assoc (p.follow (x ∷ more))) }
+      record { done = p.done; reaches = rw same p.reaches; begun = rw items plain; follow = λ ys. rw (number, items) (simp append_assoc (p.follow (x ∷ ys))) }
 
   -- the line was done
   pub line_ends : {next : Streams} {c : Conversation} → Reaches start next (p.done ++ last) c.caller → c.number ≡ b.number + 1 → c.begun.items ≡ []
@@ -115,17 +108,13 @@ module _ {start now : Streams} {done : List (ℕ × Text)} {b : Caller} (s : Rea
 -- the bytes before a place, the byte there, and those after it
 pub at_place : (script t : List ℕ) (i : ℕ) → i < length t → (script ++ take i t) ++ get_or t i 0 ∷ drop (i + 1) t ≡ script ++ t
 at_place script t i lt =
-    append_assoc script (take i t) (get_or t i 0 ∷ drop (i + 1) t)
-    ∙ ap (λ (z : List ℕ). script ++ z) (ap (λ (z : List ℕ). take i t ++ z) (sym (drop-cons t i 0 lt ∙ rw add-one refl)) ∙ take-append-drop i t)
+    let e : take i t ++ get_or t i 0 ∷ drop (i + 1) t ≡ t = grind (arith, common_steps, lt) in append_assoc script (take i t) _ ∙ ap (λ z. script ++ z) e
 
 -- the input is at its end
-pub runs_to_end : {before after : Option (List ℕ)} {start now next : Streams} {script : List ℕ} {b : Conversation} (c : Caller)
-    (result : Result (Unit {0}) StopReason) → Consumes before after script → IsAtEnd after → (p : Progress start now script b)
-    → DoesMore (result_err result) start next (p.done ++ if_filled b.number b.begun.items) c → Runs (result_err result) before after start next
-runs_to_end {script = script} c (Ok x) r e p s =
-    record { script = script; read = r; end = λ _. e; does = record { done = _; lines = at_end p; place = s.place; talked = s.talked } }
-runs_to_end {script = script} c (Err stop) r e p s =
-    record { script = script; read = r; end = λ z. absurd cc; does = stops script [] stop (at_end p ∙ sym (append-nil _)) s }
+pub does_last : {start now next : Streams} {script : List ℕ} {b : Conversation} (stop : Option StopReason) (c : Caller) → (p : Progress start now script b)
+    → DoesMore stop start next (p.done ++ if_filled b.number b.begun.items) c → Does stop start next (filled_lines script)
+does_last None c p s = record { done = _; lines = at_end p; place = s.place; talked = s.talked }
+does_last {script = script} (Some stop) c p s = stops script [] stop (at_end p ∙ sym (append-nil _)) s
 
 pub runs_at_first : {input : Option (List ℕ)} {start now : Streams} (fault : StreamFault) → Does (Some (Broken fault)) start now []
     → Runs (Some (Broken fault)) input input start now
@@ -253,10 +242,7 @@ module _ {fault : Option StreamFault} {p : Place} {a b : Streams} (x : Exchanges
   -- what was heard of those that waited
   so_answered : (ws : List RequestView) (n : ℕ) → p.rest.knows.waiting ≡ ws → p.rest.knows.first ≡ n
       → Answers ws n (hears_all p.rest x.heard.fed).notes heard.knows
-  so_answered ws n e f =
-      let notes = (hears_all p.rest x.heard.fed).notes in
-      subst (λ (m : ℕ). Answers ws m notes heard.knows) f (subst (λ (us : List RequestView). Answers us p.rest.knows.first notes heard.knows) e
-      (answers p.rest.wish p.rest.knows (outputs at_client p.rest.item x.heard.fed)))
+  so_answered ws n e f = rw (← f, ← e) (answers p.rest.wish p.rest.knows (outputs at_client p.rest.item x.heard.fed))
 
   module _ (q : RequestView) (n : ℕ) where
     abbrev Fated : ℕ → Type 0

@@ -25,7 +25,8 @@ use Rattle.prints.specs.Names.{refusal_code}
 use Rattle.prints.specs.Stopping.{Gets, IsStopOf, ends_with, said_of}
 use Rattle.prints.specs.Telling.{refused_line}
 use Rattle.shells.specs.Printing.{Prints, versions_after}
-use Rattle.shells.specs.Talking.{FailsToPut, Place, IsAt, submitted, sent_out, heard_log, heard_place, HeardUpTo, Exchanges, IsServersTurn, Moves, parted, Talked}
+use Rattle.shells.specs.Talking.{FailsToPut, Place, IsAt, submitted, sent_out, heard_log, heard_place, HeardUpTo, Exchanges, IsServersTurn, Moves, parted}
+use Rattle.shells.specs.Talking.{Talked}
 use Rattle.shells.specs.Streams.{Streams}
 
 -- These notes are printed, or a fault came while one was: what standard output took of them, which is sound unless it is told, and what standard

@@ -46,11 +46,6 @@ moves_told {a = a} {b = b} {l = l} told deaf text h k =
     let all = gets_then a.deaf b.deaf deaf a.told b.told told l.told text h.told k in
     record { read = h.read; sent = h.sent; printed = h.printed; told = all; source = h.source; sinks = h.sinks }
 
-pub version_next : {X : Type 0} (v : Version) (see : X → Note) (xs : List X) (x : X) (w u : Version) → w ≡ versions_after v (map see xs)
-    → u ≡ version_after w (see x) → u ≡ versions_after v (map see (xs ++ x ∷ []))
-version_next v see xs x w u e f =
-    f ∙ ap (λ z. version_after z (see x)) e ∙ sym (versions_more v (map see xs) (see x ∷ [])) ∙ ap (versions_after v) (sym (map-append see xs (x ∷ [])))
-
 prints_then : {v : Version} {ns ms : List Note} {fault : Option StreamFault} {p q t u : List ℕ} → Prints v None ns p t
     → Prints (versions_after v ns) fault ms q u → Prints v fault (ns ++ ms) (p ++ q) (t ++ u)
 prints_then prints_none y = y
@@ -149,9 +144,8 @@ spoken : {p : Place} {a b : Streams} {k : Caller} {fault read broken : Option St
     → (fault ≡ None → (read ≡ None) × (drop out p.rest.unsent ≡ [])) → Converses fault p a b k
 spoken {p = p} {fault = fault} out r puts version sent whole up source sinks all =
     let prints = subst (λ (ns : List Note). PrintsUpTo fault p.version ns puts.printed puts.told) r.told (up puts.prints) in
-    let rest = λ (e : is_printed fault ≡ true). r.whole (whole e) in
     let heard : HeardUpTo fault (sent_out p out) =
-    record { fed = r.fed; unheard = r.unheard; needed = r.needed; whole = rest; printed = puts.printed; told = puts.told; prints = prints } in
+    record { fed = r.fed; unheard = r.unheard; needed = r.needed; whole = λ e. r.whole (whole e); printed = puts.printed; told = puts.told; prints = prints } in
     record {
       out = out;
       heard = heard;
@@ -166,17 +160,16 @@ not_memory fault e m = true≢false (sym e ∙ ap is_printed m)
 -- it is the server's turn where an answer is still to come
 pub turn_comes : {p : Place} {a b : Streams} {k : Caller} {left taken : Option (List ℕ)} → HearsOn p a b k → awaits (rest_of k.client).knows ≡ true
     → Appends b.written taken [] → left ≡ b.left → IsTurn p.rest a.left left a.written taken
-turn_comes {p = p} {a = a} {b = b} {taken = taken} so e w l =
-    let waits = ap (λ (r : Rest). awaits r.knows) (sym so.reads.now) ∙ e in
-    let asked = Appends-trans a.written b.written taken p.rest.unsent [] so.sent.0 w in
-    record { awaited = rw l (is_awaited so.reads waits); asked = subst (Appends a.written taken) (append-nil p.rest.unsent) asked }
+turn_comes {p = p} {a = a} {b = b} {taken = taken} so e w l = record {
+  awaited = rw l (is_awaited so.reads (ap (λ (r : Rest). awaits r.knows) (sym so.reads.now) ∙ e));
+  asked = rw append-nil at (Appends-trans a.written b.written taken p.rest.unsent [] so.sent.0 w);
+}
 
 -- no answer is still to come
 pub heard_all : {p : Place} {a b : Streams} {k : Caller} → HearsOn p a b k → awaits (rest_of k.client).knows ≡ false → Converses None p a b k
 heard_all so e =
-    let waits = ap (λ (r : Rest). awaits r.knows) (sym so.reads.now) ∙ e in
-    spoken so.out (stops_waiting so.reads waits) so.puts so.version so.sent.0 (not_memory None) inl (λ _. so.source)
-    (λ _. (so.sink, so.puts.sound (λ e. cc))) (λ e. (e, so.sent.1))
+    spoken so.out (stops_waiting so.reads (ap (λ (r : Rest). awaits r.knows) (sym so.reads.now) ∙ e)) so.puts so.version so.sent.0 (not_memory None) inl
+    (λ _. so.source) (λ _. (so.sink, so.puts.sound (λ e. cc))) (λ e. (e, so.sent.1))
 
 module _ {p : Place} {a b : Streams} {k : Caller} (c : Streams) (l : Caller) (new : List Note) (so : HearsOn p a b k)
     (waits : awaits (rest_of k.client).knows ≡ true) (version : l.version ≡ versions_after k.version new)
@@ -249,20 +242,18 @@ module _ {p : Place} {a b : Streams} {k : Caller} (c : Streams) (l : Caller) (ne
   heard_cut f never (Err Memory) h new sound = broken_off f never new (sound (λ e. cc)) (faulted Memory (piece_more so.notes (λ e. e) h))
 
 -- what waited wasn't all written
-pub written_some : {p : Place} {a : Streams} {k : Caller} {f : StreamFault} (written : Option (List ℕ)) (failed : Bool) (out : ℕ) → (f ≡ ReadFailed → ⊥)
+pub written_some : {p : Place} {a : Streams} {k : Caller} {f : StreamFault} (written : Option (List ℕ)) (failed : Bool) (out : ℕ)
     → Writes p.rest.unsent out (Some f) a.written written → Fits k.client (taken_out p.rest out) → k.version ≡ p.version
     → ((f ≡ WriteFailed → ⊥) → StaysSound a.write_failed failed) → Converses (Some f) p a (record a { written = written; write_failed = failed }) k
-written_some {p = p} {a = a} {k = k} {f = f} written failed out never w fits version s =
+written_some {p = p} {a = a} {k = k} {f = f} written failed out w fits version s =
     let none : ReadsAll (taken_out p.rest out) a.left a.left [] [] (Fits k.client) (Some f) =
     record { fed = []; unheard = []; input = Consumes-nil _; told = refl; now = fits; needed = inl refl; whole = λ _. inl refl; ends = λ e. absurd cc } in
-    spoken out none notes_none version (puts f never w) (not_memory (Some f)) inl (λ _ x. x)
-    (λ n. (s (λ e. n (ap Some e)), λ x. x)) (λ e. absurd cc)
+    spoken out none notes_none version (puts f w) (not_memory (Some f)) inl (λ _ x. x) (λ n. (s (λ e. n (ap Some e)), λ x. x)) (λ e. absurd cc)
   where
-    puts : (f : StreamFault) → (f ≡ ReadFailed → ⊥) → Writes p.rest.unsent out (Some f) a.written written
-        → Puts (is_printed (Some f)) a.written written p.rest.unsent
-    puts ReadFailed never w = absurd (never refl)
-    puts WriteFailed never w = w.0
-    puts Memory never w = w
+    puts : (f : StreamFault) → Writes p.rest.unsent out (Some f) a.written written → Puts (is_printed (Some f)) a.written written p.rest.unsent
+    puts Memory w = w
+    puts ReadFailed w = w.0
+    puts WriteFailed w = w.0
 
 -- and then the client is given up, unless all was answered
 pub asked : {fault : Option StreamFault} {p : Place} {a b : Streams} {k l : Caller} {told : Option (List ℕ)} {deaf : Bool} (x : Converses fault p a b k)

@@ -1,5 +1,5 @@
-use Rattle.shells.proofs.Followed.{◌++◌, [], ◌<◌, append-nil, length, subst, take, rules, false≢true, Consumes, Consumes-kept, Consumes-trans, ReadFailed}
-use Rattle.shells.proofs.Followed.{Memory, Broken, asks_version, first_place, at_end, does_none, nothing_done, runs_at_first, runs_to_end, unless_so}
+use Rattle.shells.proofs.Followed.{◌++◌, ◌<◌, append-nil, length, take, rules, false≢true, Consumes-kept, Consumes-trans, ReadFailed, Memory, Broken}
+use Rattle.shells.proofs.Followed.{result_err, asks_version, first_place, at_end, does_last, does_none, nothing_done, runs_at_first, unless_so}
 use Rattle.shells.proofs.shells.run.Goals as goal
 
 pub begin-requires : goal.begin-requires
@@ -31,7 +31,8 @@ returns-then-len-eq0-clause-runs g c =
     let some : 0 < length c.read.new.buffer = search rules in
     let bytes = c.in-Ok-read.ensures.bytes in
     let read = rw (c.if-len-eq0.true, append-nil) at (Consumes-trans _ _ _ so.script _ so.read bytes.0) in
-    runs_to_end _ c.send.result read (bytes.1 c.if-len-eq0.true some) so.progress (c.send.ensures.sends _ so.progress.done so.progress.reaches)
+    let does = does_last (result_err c.send.result) _ so.progress (c.send.ensures.sends _ so.progress.done so.progress.reaches) in
+    record { script = so.script; read = read; end = λ _. bytes.1 c.if-len-eq0.true some; does = does }
 
 pub loop-len-preserved : goal.loop-len-preserved
 loop-len-preserved g c =

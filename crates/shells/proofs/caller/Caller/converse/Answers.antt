@@ -17,7 +17,7 @@ hear_some-requires-clause-turn g c = λ s taken n few turn. c.requires.lets s ta
 pub returns-in-Err-clause-converses : goal.returns-in-Err-clause-converses
 returns-in-Err-clause-converses g c = λ p at.
     let out = c.in-Err.ensures.out p.rest at.fits in
-    rw (← c.streams.view_is) (written_some _ _ out.0 c.in-Err.ensures.fault out.1 out.2 at.version c.in-Err.ensures.sound)
+    rw (← c.streams.view_is) (written_some _ _ out.0 out.1 out.2 at.version c.in-Err.ensures.sound)
 
 pub loop-self-preserved : goal.loop-self-preserved
 loop-self-preserved g c = λ p at. rw c.in-Ok-true.field-0-test at (c.in-Ok-true.ensures.hears p _ (c.loop-self.invariant p at))

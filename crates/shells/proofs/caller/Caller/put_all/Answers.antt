@@ -1,5 +1,5 @@
 use Rattle.streams.proofs.Parts.{all_done}
-use Rattle.shells.proofs.Followed.{◌∙◌, ◌++◌, ◌∷◌, [], append_assoc, rules, refl, sym, ap, map, map-append, nil_from_length, note, notes_none, version_next}
+use Rattle.shells.proofs.Followed.{◌∙◌, ◌++◌, ◌∷◌, [], append_assoc, rules, refl, sym, ap, map, map-append, nil_from_length, note, notes_none, versions_more}
 use Rattle.shells.proofs.caller.Caller.put_all.Goals as goal
 
 pub loop-one-init : goal.loop-one-init
@@ -11,11 +11,10 @@ pub loop-one-preserved : goal.loop-one-preserved
 loop-one-preserved g c =
     let so = c.loop-one.invariant in
     let k = c.put_next-done.ensures in
-    let v = c.args.self.now.version in
     record {
       client = k.client ∙ so.client;
-      version = version_next v note c.loop-one.yielded c.in-Some.one c.loop-one.self.version c.put_next-done.new.self.version so.version k.version;
-      puts = rw map-append (k.puts v (map note c.loop-one.yielded) _ _ _ _ so.version so.puts);
+      version = rw (map-append, versions_more, ← so.version) k.version;
+      puts = rw map-append (k.puts c.args.self.now.version (map note c.loop-one.yielded) _ _ _ _ so.version so.puts);
       parts = append_assoc c.loop-one.yielded (c.in-Some.one ∷ []) c.next.new.self.rest.items
           ∙ ap (λ xs. c.loop-one.yielded ++ xs) (sym c.in-Some.ensures.steps.0) ∙ so.parts;
       read = k.read so.read;
