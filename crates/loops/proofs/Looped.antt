@@ -1,7 +1,7 @@
 -- What two ends have come to, and how far they have where a fault breaks them off.
 pub use Rattle.std.proofs.Common.{Bool, Err, IsErrOf, IsSome, List, MatchResult, None, Ok, OnErr, OnOk, Option, Result, Some, [], ap, append-nil, append_assoc}
-pub use Rattle.std.proofs.Common.{arith, bytes_eq, drop, false, fold, inl, inr, is_ok, length, length-append, length-take, map, not, refl, rules, subst, sym}
-pub use Rattle.std.proofs.Common.{take, take-append-drop, take_all, take_at, true, true≢false, ℕ, ⊎_elim, ◌++◌, ◌+◌, ◌-◌, ◌<◌, ◌∙◌, ◌∷◌, ◌≡◌, ◌≤◌, ◌⊎◌}
+pub use Rattle.std.proofs.Common.{arith, bytes_eq, drop, false, fold, inl, inr, is_ok, length, length-append, length-take, map, refl, rules, subst, sym, take}
+pub use Rattle.std.proofs.Common.{take-append-drop, take_all, take_at, true, true≢false, ℕ, ⊎_elim, ◌++◌, ◌+◌, ◌-◌, ◌<◌, ◌∙◌, ◌∷◌, ◌≡◌, ◌≤◌, ◌⊎◌}
 pub use Rattle.std.proofs.KnownBytes.{Appends-nil, Appends-trans, Consumes-nil, Consumes-trans}
 pub use Rattle.std.proofs.Math.Seq.{drop-append_seam, drop-length, take-append-add, take-append_seam, take-nil}
 pub use Rattle.std.proofs.lemmas.Bool.{cases_Bool, cases_lt, false_from_ne_true, not-false, not-true}
@@ -11,7 +11,6 @@ pub use Rattle.std.specs.Io.KnownBytes.{Appends, Consumes}
 pub use borrow.Rule.Slice.PartMut.{post_of, put_mid}
 pub use Rattle.wire.proofs.Readers.{outputs-append}
 pub use Rattle.wire.specs.Prelude.{Item, Opened, at_client, at_server, items_received, outputs, state}
-pub use Rattle.wire.specs.declared.Version.{Version}
 pub use Rattle.cells.proofs.Equality.{bytes_are, bytes_is}
 pub use Rattle.messages.specs.View.{RequestView}
 pub use Rattle.engine.specs.Prelude.{EntryView, entries_view}
@@ -19,7 +18,6 @@ pub use Rattle.session.specs.Prelude.{Setting, begun}
 pub use Rattle.server.specs.Prelude.{Fits, Live, Rest, find, fresh, opened, setting}
 pub use Rattle.client.specs.Prelude.{Note, Rest as ClientRest, awaits, note, refuses, rest_of, taken_out}
 pub use Rattle.client.specs.declared.SubmitFault.{SubmitFault}
-pub use Rattle.client.specs.declared.heard.Heard.{Heard}
 pub use Rattle.streams.proofs.Fronts.{front_after, front_whole}
 pub use Rattle.streams.proofs.Parts.{all_done, empty_nil}
 pub use Rattle.streams.specs.Limits.{max_piece}
@@ -28,17 +26,18 @@ pub use Rattle.streams.specs.declared.fault.StreamFault.{StreamFault}
 pub use Rattle.streams.specs.declared.fault.StreamFault.TheVariants.{Memory, ReadFailed, WriteFailed}
 pub use Rattle.asks.proofs.Asked.{all_taken}
 pub use Rattle.asks.proofs.Tales.{hears_all-append, over_tale}
-pub use Rattle.asks.specs.Prelude.{FeedsPiece, Tale, after_all, after_notes, hears_all}
+pub use Rattle.asks.specs.Prelude.{FeedsPiece, Tale, after_all, hears_all}
 pub use Rattle.serves.proofs.Called.{grows_by, lives_same, replace-itself}
 pub use Rattle.serves.proofs.Talks.{item_talk-append, talk_by_items, told_over}
 pub use Rattle.serves.specs.Prelude.{Grows, IsLive, TakesPiece, Talk, item_talk, told_by, with_talk}
 pub use Rattle.serves.specs.declared.liveness.Liveness.{Liveness}
 pub use Rattle.serves.specs.declared.liveness.Liveness.TheVariants.{Open, Over}
 pub use Rattle.scripts.specs.Prelude.{ScriptRequestView, filled_lines, lines_read, request_line_of, said_requests, script_request_view}
+pub use Rattle.prints.proofs.Gets.{front_in}
 pub use Rattle.prints.proofs.Stops.{cause_of}
 pub use Rattle.prints.specs.Prelude.{Gets, PutsLine, entries_text, note_text, stop_status, stop_text}
 pub use Rattle.prints.specs.declared.stop.StopReason.{StopReason}
-pub use Rattle.prints.specs.declared.stop.StopReason.TheVariants.{Broken, Unreadable}
+pub use Rattle.prints.specs.declared.stop.StopReason.TheVariants.{Unreadable, Broken}
 pub use Rattle.one_by_one.proofs.Served.{found_by}
 pub use Rattle.one_by_one.specs.Prelude.{HasOpened}
 pub use Rattle.shells.proofs.Printed.{place_more, texts_more}
@@ -49,6 +48,7 @@ pub use Rattle.loops.specs.Prelude.{IsOpened, IsQuiet, LetsReadWaiting, Meets, N
 pub use Rattle.loops.specs.Prelude.{all_sent, answer_to, asked, due, end, exchanged, given, next_turn, no_turns, outset, place_by, stage, talk_for, text_by}
 pub use Rattle.loops.specs.Prelude.{turns_of, with_item, with_line}
 pub use Rattle.loops.specs.declared.loops.Pair.{Pair}
+pub use Rattle.std.proofs.lemmas.Result.{on_ok_weaker}
 
 pub ruleset parts = (take-append-drop, length-take)
 
@@ -60,10 +60,8 @@ was_open r bytes e =
 
 over_heard : (r : ClientRest) (fed unheard : List ℕ) → (hears_all r fed).knows.over ≡ true → hears_all r (fed ++ unheard) ≡ hears_all r fed
 over_heard r fed unheard over =
-    let t = hears_all r fed in
-    hears_all-append r fed unheard
-    ∙ ap (after_notes t.notes) (over_tale r.wish t.knows (outputs at_client (state at_client r.item fed) unheard) over)
-    ∙ ap (λ z. record { knows = t.knows; notes = z }) (append-nil t.notes)
+    let gone = over_tale r.wish (hears_all r fed).knows (outputs at_client (state at_client r.item fed) unheard) over in
+    rw (hears_all-append r fed unheard, gone, append-nil) refl
 
 module _ {b : Caller} {p : Place} (s : StandsAt b p) where
   abbrev here : ClientRest
@@ -73,25 +71,20 @@ module _ {b : Caller} {p : Place} (s : StandsAt b p) where
   hears_alike : (bytes : List ℕ) → hears_all here bytes ≡ hears_all p.rest bytes
   hears_alike bytes =
       let ended = λ (i : Opened) (o : p.rest.knows.over ≡ true). over_tale p.rest.wish p.rest.knows (outputs at_client i bytes) o in
-      ⊎_elim (λ o. ended s.item o ∙ sym (ended p.rest.item o)) (λ o. ap (λ (z : Opened). hears_all (with_item p z).rest bytes) (s.same o))
-      (cases_Bool p.rest.knows.over)
+      ⊎_elim (λ o. ended s.item o ∙ sym (ended p.rest.item o)) (λ o. rw (s.same o) refl) (cases_Bool p.rest.knows.over)
 
   module _ {piece : List ℕ} {notes : List Note} {whole : Bool} {Now : ClientRest → Type 0} (h : FeedsPiece here piece [] notes whole Now) where
     -- what is heard of some of a piece
     pub heard_front : (x y : Option (List ℕ)) → AppendsFront x y (notes_text b.version notes) → HearsFront [] p piece x y
     heard_front x y k =
-        let told = ap (λ (v : Version). notes_text v notes) s.at.version
-        ∙ ap (notes_text p.version) (h.told ∙ ap (λ (t : Tale). t.notes) (hears_alike h.fed)) in
-        record { heard = h.fed; rest = h.unheard; parts = sym h.parts; prints = subst (AppendsFront x y) told k }
+        record { heard = h.fed; rest = h.unheard; parts = sym h.parts; prints = rw (← hears_alike h.fed, ← h.told, ← s.at.version) k }
 
     -- a piece that was fed whole, or up to the client's end, was heard as the whole piece is
     heard_whole : (h.unheard ≡ []) ⊎ ((hears_all here h.fed).knows.over ≡ true) → (hears_all here h.fed ≡ hears_all p.rest piece)
         × ((hears_all p.rest piece).knows.over ≡ false → state at_client s.item h.fed ≡ state at_client p.rest.item piece)
     heard_whole (inl none) =
-        let same = sym (h.parts ∙ ap (λ z. h.fed ++ z) none ∙ append-nil h.fed) in (
-          hears_alike h.fed ∙ ap (hears_all p.rest) same,
-          λ e. ap (λ (z : Opened). state at_client z h.fed) (s.same (was_open p.rest piece e)) ∙ ap (state at_client p.rest.item) same,
-        )
+        let same : h.fed ≡ piece = sym (h.parts ∙ ap (λ z. h.fed ++ z) none ∙ append-nil h.fed) in
+        (rw same (hears_alike piece), λ e. rw (s.same (was_open p.rest piece e), same) refl)
     heard_whole (inr over) =
         let tale = sym (over_heard here h.fed h.unheard over) ∙ ap (hears_all here) (sym h.parts) ∙ hears_alike piece in
         (tale, λ e. absurd (true≢false (sym over ∙ ap (λ (t : Tale). t.knows.over) tale ∙ e)))
@@ -100,25 +93,19 @@ module _ {b : Caller} {p : Place} (s : StandsAt b p) where
   pub heard_as_fed : {piece : List ℕ} {notes : List Note} {Now : ClientRest → Type 0} (c : Caller) (x y : Option (List ℕ)) (fed : Result (Unit {0}) StreamFault)
       → FeedsPiece here piece [] notes (is_ok fed) Now → ((q : ClientRest) → Now q → rest_of c.client ≡ q) → c.version ≡ versions_after b.version notes
       → Appends x y (notes_text b.version notes) → MatchResult fed (λ _. IsHeardAll p piece c x y) (λ _. HearsFront [] p piece x y)
-  heard_as_fed {notes = notes} c x y (Ok done) h fits v k =
+  heard_as_fed {piece = piece} c x y (Ok done) h fits v k =
       let w = heard_whole h (h.ends refl) in
       let told = h.told ∙ ap (λ (t : Tale). t.notes) w.0 in
       let item = state at_client s.item h.fed in
       let rest = fits _ h.now ∙ ap (λ (t : Tale). record here { knows = t.knows; item = item }) w.0 in
-      let version = v ∙ ap (λ (u : Version). versions_after u notes) s.at.version ∙ ap (versions_after p.version) told in
-      let printed = subst (Appends x y) (ap (λ (u : Version). notes_text u notes) s.at.version ∙ ap (notes_text p.version) told) k in
-      record { stands = record { item = item; at = record { fits = rest; version = version }; same = w.1 }; printed = printed }
+      let at : IsAt c (with_item (place_after p piece) item) = record { fits = rest; version = rw (← told, ← s.at.version) v } in
+      record { stands = record { item = item; at = at; same = w.1 }; printed = rw (← told, ← s.at.version) k }
   heard_as_fed c x y (Err fault) h fits v k = heard_front h x y (front_whole x y _ k)
 
 -- one piece after another
 pub text_more : (p : Place) (a b : List ℕ) → text_of p (a ++ b) ≡ text_of p a ++ text_of (place_after p a) b
 text_more p a b =
-    ap (λ (t : Tale). notes_text p.version t.notes) (hears_all-append p.rest a b)
-    ∙ texts_more note_text p.version (hears_all p.rest a).notes (hears_all (after_all p.rest a) b).notes
-
--- a beginning of a text begins what has more behind it
-pub front_in : (a b : Option (List ℕ)) (xs ys : List ℕ) → AppendsFront a b xs → AppendsFront a b (xs ++ ys)
-front_in a b xs ys h = (h.0, h.1 ++ ys, sym (append_assoc h.0 h.1 ys) ∙ ap (λ z. z ++ ys) h.2, h.3)
+    rw (hears_all-append p.rest a b) (texts_more note_text p.version (hears_all p.rest a).notes (hears_all (after_all p.rest a) b).notes)
 
 -- of a line that isn't put out whole a beginning is
 pub line_front : (line : List ℕ) (a b : Option (List ℕ)) (fault : StreamFault) → PutsLine line a b (Err fault) → AppendsFront a b line
@@ -158,12 +145,12 @@ module _ {o : Outset} {heard : List ℕ} {mid : Way} {x : Option (List ℕ)} {c 
   -- a part more
   pub heard_more : {now : Way} {y : Option (List ℕ)} {d : Caller} (part : List ℕ) → Passes mid now part → IsHeardAll (place_after o.place heard) part d x y
       → HasHeard o (heard ++ part) now y d
-  heard_more {now = now} {y = y} {d = d} part passes k =
-      let text = append_assoc o.text (text_of o.place heard) _ ∙ ap (λ z. o.text ++ z) (sym (text_more o.place heard part)) in record {
-        stands = subst (StandsAt d) (sym (place_more o.place heard part)) k.stands;
-        passes = subst (Passes o.way now) (append_assoc o.behind heard part) (passes_then h.passes passes);
-        printed = subst (Appends o.out y) text (Appends-trans o.out x y _ _ h.printed k.printed);
-      }
+  heard_more {y = y} part passes k = record {
+    stands = rw (place_more o.place heard part) k.stands;
+    passes = rw (← append_assoc o.behind heard part) (passes_then h.passes passes);
+    printed = rw (text_more o.place heard part, ← append_assoc o.text (text_of o.place heard) (text_of (place_after o.place heard) part))
+        (Appends-trans o.out x y _ _ h.printed k.printed);
+  }
 
   -- or nothing more, though some was read
   pub reads_none : {left : Option (List ℕ)} (rest whole unheard : List ℕ) → heard ++ rest ≡ whole → Consumes mid.left left unheard → length unheard ≤ max_piece
@@ -249,11 +236,6 @@ module _ {G : Type 0} (r : Rest G) (conn : ℕ) (S : Setting) (Now : Rest G → 
       let parts = append_assoc up h.front h.rest ∙ ap (λ z. up ++ z) h.parts in
       record { front = up ++ h.front; rest = h.rest; parts = parts; stands = h.stands; over = h.over }
 
--- where all went well, what follows from what is so then
-pub on_ok : {T E P Q : Type 0} (x : Result T E) → OnOk x P → (P → Q) → OnOk x Q
-on_ok (Ok t) p f = f p
-on_ok (Err e) p f = tt
-
 -- a request was submitted, or refused
 pub line_put : (p : Place) (q : RequestView) (n : ℕ) (x y : Option (List ℕ)) (Now : Place → Type 0) (b : Bool) → Submits p q n x y Now (Ok b)
     → Appends x y (text_by (refuses p.rest.knows q) n) × Now (place_by (refuses p.rest.knows q) p q)
@@ -285,9 +267,7 @@ pub loop_begins : {G : Type 0} (r : Rest G) (S : Setting) {p : Pair} {Now : Rest
 loop_begins r S {Now = Now} {conn = conn} none o e g at =
     let f = found_by r none o.number in
     let found : IsSome (find conn (opened r).sessions) = subst IsSome (sym f) refl in
-    let same : with_talk (opened r) conn at_server.start r.ledger begun ≡ opened r =
-    ap (λ (ss : List Live). record { sessions = ss; next = r.next + 1; ledger = r.ledger; gate = r.gate })
-    (replace-itself conn (fresh conn) (opened r).sessions f) in
+    let same = ap (λ (ss : List Live). record (opened r) { sessions = ss }) (replace-itself conn (fresh conn) (opened r).sessions f) in
     record {
       number = o.number;
       found = found;
@@ -394,9 +374,8 @@ module _ (S : Setting) (conn : ℕ) (ledger : List EntryView) where
   pub breaks_line : (IsSo : Turns → Type 0) (ls : List (ℕ × ScriptRequestView)) (l : ℕ × ScriptRequestView) (rest : List (ℕ × ScriptRequestView))
       → IsSo (next (stage S conn ledger ls) l) → (n : ℕ) × IsSo (stage S conn ledger (take n (ls ++ l ∷ rest)))
   breaks_line IsSo ls l rest k =
-      let n = length (ls ++ l ∷ []) in
-      let front = sym (take-append_seam (ls ++ l ∷ []) rest) ∙ ap (take n) (append_assoc ls (l ∷ []) rest) in
-      (n, subst IsSo (sym (fold-append next no_turns ls (l ∷ [])) ∙ ap (stage S conn ledger) front) k)
+      let seam = take-append_seam (ls ++ l ∷ []) rest in
+      (length (ls ++ l ∷ []), rw (← append_assoc ls (l ∷ []) rest, seam, fold-append next no_turns ls (l ∷ [])) k)
 
   -- what is printed then is a beginning of what is printed in the end, since each line prints more
   lines_front : (x y : Option (List ℕ)) (t : Turns) (ls : List (ℕ × ScriptRequestView)) → AppendsFront x y (exchanged S conn ledger t).text

@@ -1,4 +1,4 @@
-use Rattle.loops.proofs.Looped.{Err, Fits, List, answer_due, answer_to, ap, breaks_here, cause_of, drop, grows_by, inl, length, on_ok, outset, setting}
+use Rattle.loops.proofs.Looped.{Err, Fits, List, answer_due, answer_to, ap, breaks_here, cause_of, drop, grows_by, inl, length, on_ok_weaker, outset, setting}
 use Rattle.loops.proofs.Looped.{source_after, turn_goes, ℕ, ◌++◌, ◌∙◌}
 use Rattle.loops.proofs.loops.turn.Goals as goal
 
@@ -18,7 +18,7 @@ returns-in-Err-give-clause-goes g c = λ r start t sent after i parts m0.
     rw c.in-Err-give.ensures.fault (lives, tt, breaks_here m (c.args.piece.now ++ after) parts)
 
 pub returns-clause-on : goal.returns-clause-on
-returns-clause-on g c = on_ok c.hand_over.result c.hand_over.ensures.lets (λ near. (c.give.ensures.live, near, c.in-Ok.ensures.lets))
+returns-clause-on g c = on_ok_weaker c.hand_over.result (λ near. (c.give.ensures.live, near, c.in-Ok.ensures.lets)) c.hand_over.ensures.lets
 
 pub returns-clause-goes : goal.returns-clause-goes
 returns-clause-goes g c = λ r start t sent after i parts m0.

@@ -11,11 +11,8 @@ taken_more a k n xs ys p q =
 pub loop-at-preserved : goal.loop-at-preserved
 loop-at-preserved g c =
     let so = c.loop-at.invariant in
-    let left = g.S.PeerSource.left in
-    let begin = left c.args.source.now in
-    let end = left c.read_after.new.self in
     let old = c.loop-at.buffer in
     let new = c.read_after.new.buffer in
     let same = taken_more c.loop-at.at (length old - c.loop-at.at) c.in-Ok.count old new so.0 (search rules) in
-    let both = Consumes-trans begin (left c.loop-at.source) end (take c.loop-at.at old) (take c.in-Ok.count new) so.2 c.in-Ok.ensures.bytes.0 in
-    (search rules, search rules, subst (Consumes begin end) (sym same) both)
+    let both = Consumes-trans _ _ _ (take c.loop-at.at old) (take c.in-Ok.count new) so.2 c.in-Ok.ensures.bytes.0 in
+    (search rules, search rules, subst (Consumes _ _) (sym same) both)
