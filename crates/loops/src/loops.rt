@@ -1,5 +1,5 @@
 //! A client and a server in one process, over the two ends of a connection.
-ghost use Rattle.std.specs.Prelude.{◌≡◌, ◌⊎◌, ◌<◌, ◌++◌, ℕ, List, [], drop, true, None, IsSome, IfErr, OnOk, MatchResult};
+ghost use Rattle.std.specs.Prelude.{◌≡◌, ◌⊎◌, ◌<◌, ◌++◌, ℕ, List, [], drop, None, IsSome, IfErr, OnOk, MatchResult};
 ghost use Rattle.server.specs.Serving.{Rest, find, setting};
 ghost use Rattle.server.specs.Views.{Fits};
 ghost use Rattle.loops.specs.Passing.{FailsToRead, FailsToWrite, LetsReadWaiting};

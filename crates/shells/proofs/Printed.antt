@@ -1,5 +1,5 @@
 -- What is printed of one piece after another.
-use Rattle.std.proofs.Common.{◌≡◌, refl, sym, ap, ◌∙◌, ℕ, List, [], ◌∷◌, ◌++◌, append_assoc}
+use Rattle.std.proofs.Common.{◌≡◌, refl, ap, ◌∙◌, ℕ, List, [], ◌∷◌, ◌++◌, append_assoc}
 use Rattle.wire.specs.declared.Version.{Version}
 use Rattle.client.specs.Prelude.{Note, Rest}
 use Rattle.asks.proofs.Tales.{after_all-append, hears_all-append}
