@@ -90,5 +90,7 @@ int main(int argc, char **argv) {
         bolt_outcome(&client, i, &outcome);
         printf("%d: %s\n", (int)i, outcomes[outcome]);
     }
-    return bolt_close(&client), close(fd);
+    int printed = !fflush(stdout) && !ferror(stdout);
+    if (!printed) fprintf(stderr, "standard output failed\n");
+    return bolt_close(&client), close(fd), printed ? 0 : 1;
 }
