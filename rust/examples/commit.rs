@@ -2,6 +2,7 @@
 //! broke, why.
 
 use bolt::{Connection, Error, Login, Query, Request};
+use std::io;
 use std::net::TcpStream;
 use std::process::ExitCode;
 
@@ -14,15 +15,23 @@ fn commit(stream: TcpStream, key: &str) -> Result<Vec<Request>, Error> {
     Ok(connection.settle()?.to_vec())
 }
 
+fn connect(address: &str, port: &str) -> io::Result<TcpStream> {
+    let port: u16 = port.parse().map_err(io::Error::other)?;
+    TcpStream::connect((address, port))
+}
+
 fn main() -> ExitCode {
     let words: Vec<String> = std::env::args().skip(1).collect();
     let [address, port, key] = words.as_slice() else {
         eprintln!("commit ADDRESS PORT KEY");
         return ExitCode::from(2);
     };
-    let Ok(stream) = TcpStream::connect(format!("{address}:{port}")) else {
-        eprintln!("no server");
-        return ExitCode::from(2);
+    let stream = match connect(address, port) {
+        Ok(stream) => stream,
+        Err(error) => {
+            eprintln!("no server: {error}");
+            return ExitCode::from(2);
+        }
     };
     let told = commit(stream, key);
     let requests = match &told {
