@@ -59,8 +59,15 @@ class Server:
     def causes(self):
         return sorted(it.split()[2] for it in list(self.lines))
 
+    def fields(self):
+        """What the system says of it behind its name."""
+        return pathlib.Path(f"/proc/{self.program.pid}/stat").read_text().rpartition(")")[2].split()
+
+    def state(self):
+        return self.fields()[0]
+
     def ticks(self):
-        fields = pathlib.Path(f"/proc/{self.program.pid}/stat").read_text().rpartition(")")[2].split()
+        fields = self.fields()
         return int(fields[11]) + int(fields[12])
 
     def most_memory(self):

@@ -131,6 +131,20 @@ impl<'a, R: Net + Clock + Eprint + Drop> Network<'a, R> {
         self.waits && !self.is_full()
     }
 
+    /// Waits for so many milliseconds at most until something is ready, or a signal comes.
+    fn look(&mut self, most: u64) -> Result<(), Failed> {
+        match self
+            .poll
+            .poll(&mut self.events, Some(Duration::from_millis(most)))
+        {
+            Ok(()) => Ok(()),
+            Err(error) => {
+                self.error = Some(error);
+                Err(Failed)
+            }
+        }
+    }
+
     /// Says on standard error why somebody waits who can't be taken, the first time alone: nobody is answered meanwhile, and it is tried again
     /// and again.
     fn tell(&mut self, error: io::Error) {
@@ -189,16 +203,12 @@ impl<'a, R: Net + Clock + Eprint + Drop> Peers for Network<'a, R> {
     fn wait(&mut self, most: u64) -> Result<(), Failed> {
         self.seen = 0;
         let most = if self.is_to_greet() { 0 } else { most };
-        match self
-            .poll
-            .poll(&mut self.events, Some(Duration::from_millis(most)))
-        {
-            Ok(()) => Ok(()),
-            Err(error) => {
-                self.error = Some(error);
-                Err(Failed)
-            }
+        self.look(most)?;
+        // A signal ends the wait with no event, also that of a stop that has lasted: who has sent meanwhile isn't silent.
+        if most > 0 && self.events.is_empty() {
+            return self.look(0);
         }
+        Ok(())
     }
 
     fn ready(&mut self) -> Option<Ready> {
