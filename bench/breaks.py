@@ -637,6 +637,8 @@ MISTAKEN = (
     (51, lambda c: bolt.Session("127.0.0.1", c.port, USER, versions=52), "versions is NEWEST, V4_4, V5_0 or V5_1"),
     (51, lambda c: bolt.Session("127.0.0.1", c.port, USER[:2]), "auth is the scheme, the principal and the credentials"),
     (51, lambda c: bolt.Session("127.0.0.1", c.port + 65536, USER), "a port is 0 to 65535"),
+    *((51, lambda c, it=it: bolt.unpack(it), "not one value of PackStream") for it in (b"\x85text"[:-1], b"\x01\x02")),
+    *((51, lambda c, it=it: bolt.unpack(it), "no value of PackStream") for it in (b"", b"\xC9\x01", b"\xC4", b"\xB1\x7F\x01", b"\xB2\x44\x01\x02", b"\xA1\x90\x01")),
     *((51, call, "a session can't be copied or pickled") for call in (copy.copy, copy.deepcopy, pickle.dumps)),
 )
 

@@ -53,7 +53,8 @@ def reads_rows(port):
                 and other == [1] and [it["i"] for it in rest] == [2, 3, 4, 5] and summary.outcome == bolt.COMMITTED and summary.bookmark.startswith("bk:")
                 and list(kept) == [] and three.data() == [{"i": 1}, {"i": 2}, {"i": 3}] and three.keys() == ["i"]
                 and isinstance(breaks.raised(lambda: connection.run("ROWS", n=2).single()), ValueError)
-                and isinstance(breaks.raised(lambda: first["j"]), KeyError) and connection.run("ROWS", n=0).values() == [])
+                and isinstance(breaks.raised(lambda: first["j"]), KeyError) and connection.run("ROWS", n=0).values() == []
+                and {first} == {(1,)})
 
 
 def loses_no_record(port):
@@ -129,9 +130,9 @@ def keeps_results_apart(port):
         with odd_servers.Server([(*begun, *ends)]) as server, connected(server.port, fetch=1) as connection:
             left = connection.run("ROWS", n=3)
             said += [next(left)[0], *(str(breaks.raised(lambda: list(left))) for _ in range(3)), left.summary.outcome]
-    # (a word that isn't true ends a result)
-    ends = row, more[:-1] + b"\x01"
-    with odd_servers.Server([(*begun[:2], odd_servers.told(DONE, *ends))]) as server, connected(server.port) as connection:
+    # (a word that isn't true ends a result, and what is no list names no column)
+    ends = bytes.fromhex("B170A1") + odd_servers.text("fields") + b"\x05", row, more[:-1] + b"\x01"
+    with odd_servers.Server([(*begun[:2], odd_servers.told(*ends))]) as server, connected(server.port) as connection:
         is_apart = is_apart and connection.run("ROWS").values() == [[1]]
     broken, refused = f"PULL of ROWS: UNKNOWN ({bolt.GONE})", f"{odd_servers.REFUSED}: no"
     return is_apart and said == [1, *[broken] * 3, bolt.UNKNOWN, 1, *[refused] * 3, bolt.REFUSED]
@@ -271,6 +272,30 @@ OWN = (datetime.date(2021, 2, 3), datetime.date(1, 1, 1), datetime.datetime(2021
 OURS = (bolt.Date(10 ** 9), bolt.LocalTime(1), bolt.Time(1, 0), bolt.LocalDateTime(0, 1), bolt.DateTime(10 ** 15, 0, 0), bolt.Duration(1, 0, 0, 0),
         bolt.Duration(0, 0, 86_400, 0), bolt.Point2D(7203, 1.0, 2.0), bolt.Node(1, ["A"], {"p": 1}, "1"))
 
+
+class Zone(datetime.tzinfo):
+    """A named zone whose hours all come twice."""
+    key = "UTC"
+
+    def utcoffset(self, moment):
+        return datetime.timedelta(hours=1 - moment.fold)
+
+
+class Stamp(datetime.datetime):
+    """A moment with nanoseconds, as pandas has it."""
+    nanosecond = 7
+
+
+class Span(datetime.timedelta):
+    nanoseconds = 8
+
+
+# What loses nothing on its way: the second of two hours at 4.4, and nanoseconds.
+WHOLE = (((44,), datetime.datetime(2021, 2, 3, 4, tzinfo=Zone(), fold=1), datetime.datetime(2021, 2, 3, 4, tzinfo=datetime.timezone.utc)),
+         ((44,), datetime.datetime(1970, 1, 1, tzinfo=Zone()), bolt.ZonedLocal(0, 0, "UTC")),
+         ((50, 51), datetime.datetime(1970, 1, 1, tzinfo=Zone(), fold=1), bolt.ZonedUtc(0, 0, "UTC")),
+         ((44, 50, 51), Stamp(1970, 1, 1, 0, 0, 0, 1), bolt.LocalDateTime(0, 1007)), ((44, 50, 51), Span(0, 1, 1), bolt.Duration(0, 0, 1, 1008)))
+
 NODE, THERE = bolt.Node(1, ["A"], {"d": datetime.date(2000, 1, 1)}, "1"), bolt.UnboundRelationship(2, "TO", {"d": [datetime.timedelta(1)]}, "2")
 GRAPH = (NODE, THERE, bolt.Relationship(2, 1, 1, "TO", {"d": datetime.date(2000, 1, 1)}, "2", "1", "1"), bolt.Path([NODE], [THERE], [1, 0]))
 
@@ -285,6 +310,9 @@ def keeps_moments(port):
                 wanted = bolt.Node(1, ["A"], {"p": 1}) if version == 44 and isinstance(value, bolt.Node) else value
                 if said != wanted:
                     wrong.append(f"{value!r} at {version}: {said!r}")
+            for _, value, wanted in (it for it in WHOLE if version in it[0]):
+                said = connection.run("ECHO", x=value).single()["x"]
+                wrong += [] if (type(said), said) == (type(wanted), wanted) else [f"{value!r} at {version}: {said!r}"]
     if wrong:
         print("moments:", *wrong, sep="\n")
     return not wrong
@@ -382,6 +410,19 @@ def keeps_tokens(port):
     return number > 20 and known.stands and all(it.stands for it in told) and length(port) == number + 1
 
 
+class Frozen(Exception):
+    """What takes no attribute, but those of Python's own."""
+
+    def __setattr__(self, name, value):
+        if name == "token":
+            raise AttributeError(name)
+        super().__setattr__(name, value)
+
+
+def fails(_):
+    raise Frozen
+
+
 def tells_fates(port):
     """Whether other writes under a token, a refusal, and a server that isn't there are told as such."""
     connect = lambda: connected(port)
@@ -392,6 +433,7 @@ def tells_fates(port):
     absent = bolt.until_known(lambda: connected(1), put("fates", 3), tries=2, pause=lambda _: 0)
     late = bolt.until_known(lambda: connected(1), put("fates", 3), tries=9, within=0, pause=lambda _: 0.01)
     own = breaks.raised(lambda: bolt.until_known(connect, lambda tx: tx.run("PUT", key={1}, value=1)))
+    frozen = breaks.raised(lambda: bolt.until_known(connect, fails))
     dropped = bolt.until_known(connect, lambda tx: (tx.run("PUT", key="fates", value=3), tx.rollback()))
     def goes_wrong(tx):
         tx.run("PUT", key="behind", value=1)
@@ -409,6 +451,7 @@ def tells_fates(port):
     behind = bolt.until_known(connect, goes_wrong, tries=1)
     by_itself = bolt.until_known(connect, lambda tx: (tx.run("PUT", key="alone", value=1), tx.commit()))
     return ((made.fate, clash.fate, again.fate, refused.fate, absent.fate, late.fate) == (bolt.STANDS, bolt.CLASH, bolt.STANDS, bolt.REFUSED, bolt.ABSENT, bolt.ABSENT)
+            and type(frozen) is Frozen and len(frozen.token) == 32 and 2 < bolt.retry.pause(5000) <= 5
             and made.bookmark == again.bookmark and len(made.token) == 32 and isinstance(own, TypeError) and isinstance(refused.error, bolt.Refused)
             and keeps_the_token(connect) and len(own.token) == 32 and behind.stands and isinstance(behind.error, bolt.Refused)
             and value_of(port, "fates") == [1] and dropped.fate == bolt.ABSENT and by_itself.stands and by_itself.bookmark.startswith("bk:")

@@ -7,7 +7,7 @@ import weakref
 from typing import Any, Optional
 
 from .errors import LOST, OUTCOMES, UNKNOWN, NotSent
-from .values import unpack, unpack_message
+from .values import Unpacked, unpack_message
 
 OK, NOT_ALLOWED, FULL, CLOSED, MEMORY, BAD_PEER, NO_CLIENT = 0, 1, 2, 4, 5, 6, 100
 WAITS, MESSAGE, PIPELINE, ALL = 6, 65536, 32, (1 << 63) - 1
@@ -112,7 +112,7 @@ class Client:
             if code := row(handle, ordinal, index, buffer, MESSAGE, length):
                 raise NotSent(code)
             # (behind the two bytes of a row stands the list of its cells)
-            rows.append(unpack(text[2:length.value].tobytes()))
+            rows.append(Unpacked(text[2:length.value].tobytes()).value())
         if rows:
             check(LIBRARY.bolt_drop_rows(handle, ordinal))
         return rows

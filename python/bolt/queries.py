@@ -26,7 +26,7 @@ class Deferred(Generic[Found]):
 
     def __iter__(self) -> Iterator[Record]:
         if self.result is None:
-            raise ValueError("the pipeline hasn't ended")
+            raise ValueError("the pipeline hasn't ended, or was broken off")
         return self.result._held()
 
 

@@ -53,7 +53,8 @@ class Record(Sequence[Any]):
         return isinstance(other, (list, tuple)) and list(self._cells) == list(other)
 
     def __hash__(self) -> int:
-        return hash((self._names, self._cells))
+        # (that of a tuple, to which it may be equal)
+        return hash(self._cells)
 
     def __repr__(self) -> str:
         return f"<Record {' '.join(f'{name}={cell!r}' for name, cell in self.items())}>"
@@ -135,8 +136,9 @@ class Pulled:
         return Summary(self._last.outcome or LOST, self._last.metadata)
 
     def keys(self) -> list[str]:
-        """The names of the columns."""
-        return list(self._run.metadata.get("fields", []))
+        """The names of the columns, none where the server tells none."""
+        names = self._run.metadata.get("fields")
+        return list(names) if isinstance(names, list) else []
 
 
 def only(records: list[Record]) -> Record:

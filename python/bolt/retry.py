@@ -23,7 +23,7 @@ FINAL = "Neo.ClientError."
 @dataclasses.dataclass(frozen=True)
 class Known:
     """What is known of a transaction: STANDS, it is committed, once; CLASH, other writes stand under the token; REFUSED, the server refuses it, and
-    nothing of it stands; OPEN, the tries are used up, and it may stand; ABSENT, they are, and nothing of it stands.
+    nothing of these tries stands; OPEN, they are used up, and it may stand; ABSENT, they are, and nothing of them stands.
 
     `value` is what the work answered in the attempt that stands, `error` what the last attempt that failed raised."""
     fate: str
@@ -39,7 +39,7 @@ class Known:
 
 def pause(tried: int) -> float:
     """Seconds to wait behind so many tries: twice as long each time, up to five, and by chance down to half of that."""
-    return float(min(5.0, 0.05 * 2 ** tried)) * random.uniform(0.5, 1)
+    return float(min(5.0, 0.05 * 2 ** min(tried, 7))) * random.uniform(0.5, 1)
 
 
 class Tries:
@@ -57,7 +57,8 @@ class Tries:
 
     def ends_by(self, why: BaseException) -> None:
         """Whatever ends the tries, an interrupt too, has the token with it, so that the transaction can be sent again."""
-        setattr(why, "token", self.token)
+        # (one that is frozen takes no attribute otherwise)
+        vars(why)["token"] = self.token
 
     def pause(self) -> Optional[float]:
         """The seconds to wait before the next try, None where none is left."""

@@ -32,13 +32,18 @@ def nanoseconds_of(it: datetime.time) -> int:
 
 
 def stored_moment(it: datetime.datetime, version: int) -> Any:
+    # (a moment of pandas has nanoseconds beside, as has a span)
+    nanoseconds = it.microsecond * 1000 + getattr(it, "nanosecond", 0)
     if it.tzinfo is None:
-        return values.LocalDateTime(seconds_of(it), it.microsecond * 1000)
+        return values.LocalDateTime(seconds_of(it), nanoseconds)
     zone = getattr(it.tzinfo, "key", None)
     utc = seconds_of(it) - offset_of(it)
-    if isinstance(zone, str):
-        return values.ZonedLocal(seconds_of(it), it.microsecond * 1000, zone) if version == V4_4 else values.ZonedUtc(utc, it.microsecond * 1000, zone)
-    return values.DateTime(utc, it.microsecond * 1000, offset_of(it))
+    if isinstance(zone, str) and version != V4_4:
+        return values.ZonedUtc(utc, nanoseconds, zone)
+    # (local seconds that a zone has twice are those of the first time)
+    if isinstance(zone, str) and it.utcoffset() == it.replace(fold=0).utcoffset():
+        return values.ZonedLocal(seconds_of(it), nanoseconds, zone)
+    return values.DateTime(utc, nanoseconds, offset_of(it))
 
 
 def within(value: Any, turn: Callable[[Any], Any]) -> Any:
@@ -57,7 +62,7 @@ def stored(value: Any, version: int) -> Any:
     if isinstance(value, datetime.time):
         return values.LocalTime(nanoseconds_of(value)) if value.tzinfo is None else values.Time(nanoseconds_of(value), offset_of(value))
     if isinstance(value, datetime.timedelta):
-        return values.Duration(0, value.days, value.seconds, value.microseconds * 1000)
+        return values.Duration(0, value.days, value.seconds, value.microseconds * 1000 + getattr(value, "nanoseconds", 0))
     if isinstance(value, (list, tuple)):
         return [stored(it, version) for it in value]
     if isinstance(value, dict):

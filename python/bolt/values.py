@@ -211,7 +211,7 @@ def pack(value: Any, version: int = V5_1) -> bytes:
 
 
 class Unpacked:
-    """Reads values from bytes that the library wrote, so that they are well formed."""
+    """Reads values from bytes that are well formed, as those that the library wrote."""
 
     def __init__(self, data: bytes) -> None:
         self.data, self.at = data, 0
@@ -259,8 +259,15 @@ class Unpacked:
 
 
 def unpack(data: bytes) -> Any:
-    """The value that these bytes spell."""
-    return Unpacked(data).value()
+    """The value that these bytes spell; ValueError where they spell none, or more than one."""
+    whole = Unpacked(data)
+    try:
+        value = whole.value()
+    except (struct.error, LookupError, TypeError) as why:
+        raise ValueError("no value of PackStream") from why
+    if whole.at != len(data):
+        raise ValueError("not one value of PackStream")
+    return value
 
 
 def unpack_message(data: bytes) -> tuple[int, list[Any]]:
