@@ -13,6 +13,7 @@ import sys
 import threading
 import time
 import traceback
+import types
 import warnings
 
 import bolt
@@ -385,11 +386,11 @@ def ends(_, connect=blocking):
 
 
 def wants_memory(_):
-    raise bolt.NotSent(bolt.library.MEMORY)
+    raise NotSent(MEMORY)
 
 
 # (as if the library's own: what has frames from elsewhere is an interrupt)
-wants_memory.__code__ = wants_memory.__code__.replace(co_filename=bolt.library.__file__)
+wants_memory = types.FunctionType(wants_memory.__code__, vars(bolt.library))
 
 
 def gives_up(port):
@@ -700,17 +701,19 @@ def crosses_processes(values):
 
 
 def frees(port):
-    """Whether a connection that is dropped and isn't closed frees its client and its socket, and says so."""
+    """Whether a connection that is dropped and isn't closed frees its client and its socket, and says so, and one that never came to be doesn't."""
     connection = bolt.Session("127.0.0.1", port, USER)
     client, other = connection._client, connection._socket
     asked = connection.ask_begin()
     with WARNINGS, warnings.catch_warnings(record=True) as told:
         warnings.simplefilter("always")
         del connection
+        never = type(raised(lambda: bolt.Session("127.0.0.1", port, USER, timeout="no")))
         gc.collect()
     # (others may be dropped meanwhile; a warning holds what it is about)
     warned = [it for it in told if it.category is ResourceWarning and getattr(it.source, "_client", None) is client]
-    return len(warned) == 1 and not client.handle.at and other.fileno() == -1 and asked.outcome == bolt.LOST
+    is_quiet = never is TypeError and not any(getattr(it.source, "timeout", None) == "no" for it in told)
+    return len(warned) == 1 and not client.handle.at and other.fileno() == -1 and asked.outcome == bolt.LOST and is_quiet
 
 
 def forgets(port):

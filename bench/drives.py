@@ -1,5 +1,6 @@
 """What the package of python/bolt does for who runs queries, transactions, and a transaction until it is known: rows that `bench/languages` tries, each against a server of
 its own."""
+import asyncio
 import contextlib
 import datetime
 import importlib.util
@@ -15,6 +16,7 @@ import threading
 import zipfile
 
 import bolt
+import bolt.aio
 import breaks
 import odd_servers
 import proxy
@@ -330,6 +332,32 @@ def tells_errors(port):
     return ((type(unreached), unreached.why, unreached.outcome, type(unreached.__cause__)) == (bolt.Broken, bolt.UNREACHED, None, ConnectionRefusedError)
             and (type(stranger), stranger.code[-12:]) == (bolt.Refused, "Unauthorized") and (type(unsent), unsent.rule) == (bolt.NotSent, "S3") and goes_on
             and all(isinstance(it, bolt.BoltError) for it in (unreached, stranger, unsent)))
+
+
+# A loop and a context of TLS of another package.
+ANOTHER = """
+class Loop(asyncio.SelectorEventLoop):
+    async def create_connection(self, *words, **named):
+        return await super().create_connection(*words, **named)
+
+
+class Context(ssl.SSLContext):
+    def wrap_socket(self, *words, **named):
+        return super().wrap_socket(*words, **named)
+"""
+
+
+def hears_another(_):
+    """Whether what the loop and the context of another package raise of a server that isn't there, or doesn't go on, is told as Broken."""
+    another = {"__name__": "another", "asyncio": asyncio, "ssl": ssl}
+    exec(ANOTHER, another)
+    loop, context = another["Loop"](), another["Context"](ssl.PROTOCOL_TLS_CLIENT)
+    with socket.create_server(("127.0.0.1", 0)) as mute:
+        there = mute.getsockname()[1]
+        told = [breaks.raised(lambda: bolt.connect("localhost", there, tls=context, timeout=0.2))]
+    told.append(breaks.raised(lambda: loop.run_until_complete(bolt.aio.connect("127.0.0.1", there))))
+    loop.close()
+    return [(str(it), type(it.__cause__)) for it in told] == [(f"before any request ({bolt.UNREACHED})", it) for it in (TimeoutError, ConnectionRefusedError)]
 
 
 def put(key, value):
@@ -692,8 +720,20 @@ def encrypts(port):
     return told == (1024, False, bolt.Broken, ssl.SSLCertVerificationError, bolt.Broken)
 
 
+UNREACHED = """
+import bolt, os, socket
+with socket.socket() as taken:
+    taken.bind(("127.0.0.1", 0))
+    try:
+        bolt.connect("127.0.0.1", taken.getsockname()[1])
+    except bolt.Broken as why:
+        print(f"{os.path.dirname(bolt.__file__)}: {why.why}")
+"""
+
+
 def installs(port):
-    """Whether the wheel is built and installed into an environment of its own, and the page's first program, and that of asyncio, print there what the page says."""
+    """Whether the wheel is built and installed into an environment of its own, and the page's first program, and that of asyncio, print there what the page says;
+    and a socket's failure is told by a package without its text, too."""
     page = (HERE / "docs" / "PYTHON.md").read_text()
     program, _, behind = page.partition("```python\n")[2].partition("```\n")
     wanted = behind.partition("prints\n\n")[2].partition("\n\n")[0]
@@ -716,8 +756,16 @@ def installs(port):
             with zipfile.ZipFile(f"{folder}/{wheel}") as packed:
                 packed.extractall(run(f"{folder}/fresh/bin/python", "-c", "import site; print(site.getsitepackages()[0])").strip())
         said = run(f"{folder}/fresh/bin/python", "-B", "-c", program.replace("7687", str(port)))
+        # (compiled elsewhere, and laid there without its text)
+        built = source / "bolt"
+        run(sys.executable, "-m", "compileall", "-q", "-b", "-d", "elsewhere", str(built))
+        for text in built.glob("*.py"):
+            text.unlink()
+        environment["PYTHONPATH"] = str(source)
+        said += run(sys.executable, "-c", UNREACHED)
+        wanted += f"\n{built}: {bolt.UNREACHED}"
     return bool(wanted) and said == "".join(f"{line.strip()}\n" for line in wanted.split("\n"))
 
 
-WORKS = (reads_rows, loses_no_record, tells_lost_records, leaves_nothing_open, sends_nothing_twice, keeps_results_apart, transacts, commits_nothing_by_itself, tells_what_it_heard, breaks_off_connecting, pipes,
+WORKS = (reads_rows, hears_another, loses_no_record, tells_lost_records, leaves_nothing_open, sends_nothing_twice, keeps_results_apart, transacts, commits_nothing_by_itself, tells_what_it_heard, breaks_off_connecting, pipes,
          keeps_moments, tells_errors, keeps_tokens, tells_fates, encrypts, installs)

@@ -15,7 +15,7 @@ became of each request; one that comes between two calls changes nothing. Once t
 `bolt.aio` has the calls for asyncio.
 """
 from .connection import Connection, Deferred, Pipeline, Result, Transaction, connect
-from .errors import (BAD_ANSWER, COMMITTED, DONE, FAILED, GONE, IGNORED, INTERRUPTED, LOST, NO_MEMORY, NO_VERSION, NOT_BOLT, OUTCOMES, REFUSED, TIMED_OUT, UNKNOWN,
+from .errors import (BAD_ANSWER, CLOSED_HERE, COMMITTED, DONE, FAILED, GONE, IGNORED, INTERRUPTED, LOST, NO_MEMORY, NO_VERSION, NOT_BOLT, OUTCOMES, REFUSED, TIMED_OUT, UNKNOWN,
                      UNREACHED, BoltError, Broken, NotSent, Refused, Request)
 from .results import Record, Summary
 from .retry import ABSENT, CLASH, OPEN, STANDS, Known, until_known
@@ -28,6 +28,6 @@ __version__ = "1.0"
 __all__ = ["connect", "Connection", "Transaction", "Pipeline", "Deferred", "Result", "Record", "Summary", "until_known", "Known",
            "STANDS", "CLASH", "OPEN", "ABSENT", "Session", "Request", "BoltError", "NotSent", "Refused", "Broken", "NEWEST", "V4_4", "V5_0", "V5_1",
            "OUTCOMES", "DONE", "COMMITTED", "REFUSED", "IGNORED", "LOST", "UNKNOWN",
-           "NO_VERSION", "NOT_BOLT", "TIMED_OUT", "GONE", "FAILED", "UNREACHED", "BAD_ANSWER", "NO_MEMORY", "INTERRUPTED",
+           "NO_VERSION", "NOT_BOLT", "TIMED_OUT", "GONE", "FAILED", "UNREACHED", "BAD_ANSWER", "NO_MEMORY", "INTERRUPTED", "CLOSED_HERE",
            "Structure", "Node", "Relationship", "UnboundRelationship", "Path", "Date", "Time", "LocalTime", "LocalDateTime", "DateTime", "ZonedLocal", "ZonedUtc",
            "Duration", "Point2D", "Point3D", "pack", "unpack"]

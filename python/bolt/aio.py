@@ -13,7 +13,7 @@ import contextlib
 import ssl
 from typing import Any, AsyncIterator, Awaitable, Callable, Iterator, Optional, Union
 
-from .core import Answer, Core, Stepped, Steps, is_from_elsewhere, login_of, own, port_of
+from .core import Answer, Core, Stepped, Steps, calls, is_from_elsewhere, login_of, own, port_of
 from .errors import CLOSED_HERE, INTERRUPTED, TIMED_OUT, UNREACHED, BoltError, Broken, NotSent, Request
 from .library import MESSAGE
 from .queries import Pipeline, Queries, Transacting
@@ -38,6 +38,7 @@ class AsyncSession(Core):
             raise
 
     async def _connect(self, host: str, port: int, tls: Optional[ssl.SSLContext]) -> None:
+        calls(asyncio.get_running_loop(), tls)
         opening = asyncio.ensure_future(asyncio.open_connection(host, port, limit=MESSAGE, ssl=tls, server_hostname=host if tls else None))
         opening.add_done_callback(self._connected)
         try:

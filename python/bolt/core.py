@@ -2,7 +2,6 @@
 keeps the protocol and the account; `session` and `aio` have the sockets."""
 from __future__ import annotations
 
-import contextlib
 import functools
 import os
 import socket
@@ -23,20 +22,25 @@ BEGIN = 0x11
 Answer = TypeVar("Answer")
 # What a call does, step by step: behind each, what waits is to be sent, and a piece of the server's bytes to be heard.
 Steps = Generator[None, None, Answer]
-# Whose frames an error has that a call of this package meets: its own, and those of what it calls.
-FOLDERS = os.path.dirname(__file__), os.path.join(os.path.dirname(socket.__file__), "asyncio")
-FILES = socket.__file__, ssl.__file__, contextlib.__file__
+# Whose frames an error has that a call of this package meets, beside its own: those of what it calls.
+CALLED = {"asyncio", "concurrent", "contextlib", "socket", "ssl"}
+
+
+def calls(*called: object) -> None:
+    """Counts the packages of a socket, a loop or a context of TLS among what is called: they may be others, as uvloop and gevent."""
+    CALLED.update({getattr(it, "__module__", "socket").partition(".")[0] for it in called} - {"__main__"})
 
 
 def is_from_elsewhere(why: BaseException) -> bool:
     """Whether what is raised in the midst of a call comes from elsewhere, as from the handler of a signal, which has frames of its own."""
-    files = [frame.f_code.co_filename for frame, _ in traceback.walk_tb(why.__traceback__)]
-    return any(it not in FILES and os.path.dirname(it) not in FOLDERS for it in files)
+    # (by modules: what a file was called where it was compiled needn't be what it is called here)
+    names = [frame.f_globals.get("__name__", "") for frame, _ in traceback.walk_tb(why.__traceback__)]
+    return any(it.rpartition(".")[0] != __package__ and it.partition(".")[0] not in CALLED for it in names)
 
 
 def own(failed: OSError) -> OSError:
     """The error of a socket's call, without its frames. One that comes from elsewhere is raised."""
-    # (a context of TLS and a look-up of names may be another's)
+    # (what a context of TLS or a look-up of names calls may be another's)
     if not isinstance(failed, (ssl.SSLError, socket.gaierror)) and is_from_elsewhere(failed):
         raise failed
     # (a time out has a class of its own before Python 3.10)
@@ -119,8 +123,8 @@ class Core:
         self._begun = 0  # how many transactions were asked for
         self._cut: Optional[OSError] = None  # why nothing more is sent
         self._why: Optional[str] = None  # why the client has ended
-        self._client = Client(versions, self)
         self._until = self._by()
+        self._client = Client(versions, self)
 
     def _by(self) -> Optional[float]:
         """By when a call has to be done that begins now."""

@@ -15,8 +15,8 @@ UNREACHED = "the server can't be reached"
 BAD_ANSWER = "the server sent what no server may"
 NO_MEMORY = "out of memory"
 INTERRUPTED = "interrupted"
-ENDED = "a FAILURE ended the session"  # raised as Refused
 CLOSED_HERE = "closed"
+ENDED = "a FAILURE ended the session"  # raised as Refused
 
 FAULTS = {1: "the request isn't allowed here", 2: "no room among the 32 requests that may wait", 3: "the message is too long", 4: "the client has ended",
           5: "out of memory", 6: "the server sent what no server may", 7: "the request can't be written", 8: "no request of this version",
@@ -114,7 +114,7 @@ class Refused(Told):
 
 
 class Broken(Told):
-    """The connection broke, was given up, or never came to be. `why` is one of the reasons NO_VERSION to INTERRUPTED, and `__cause__` the socket's own
+    """The connection broke, was given up, or never came to be. `why` is one of the reasons NO_VERSION to CLOSED_HERE, and `__cause__` the socket's own
     error if there is one."""
 
     def __init__(self, requests: list[Request], why: str) -> None:

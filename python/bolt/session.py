@@ -6,7 +6,7 @@ import socket
 import ssl
 from typing import Any, Optional, Union
 
-from .core import BEGIN, Answer, Core, Stepped, Steps, ends, extra, is_from_elsewhere, login_of, own, port_of
+from .core import BEGIN, Answer, Core, Stepped, Steps, calls, ends, extra, is_from_elsewhere, login_of, own, port_of
 from .errors import TIMED_OUT, UNREACHED, Broken, NotSent, Request
 from .library import MESSAGE
 from .versions import NEWEST
@@ -40,6 +40,7 @@ class Session(Core):
 
     def _connect(self, host: str, port: int) -> None:
         """Connects to the first address of the host that takes it."""
+        calls(socket.socket, self._tls)
         try:
             addresses = socket.getaddrinfo(host, port, type=socket.SOCK_STREAM)
         except OSError as why:
@@ -47,13 +48,12 @@ class Session(Core):
         failed = OSError("the host has no address")
         for *kind, _, address in addresses:
             try:
-                if (left := self._left()) == 0:
-                    raise TimeoutError(TIMED_OUT)
                 self._socket = socket.socket(*kind)
-                self._give(left)
+                self._give(self._rest())
                 self._socket.connect(address)
                 self._socket.setsockopt(socket.IPPROTO_TCP, socket.TCP_NODELAY, 1)
                 if self._tls:
+                    self._give(self._rest())
                     self._socket = self._tls.wrap_socket(self._socket, server_hostname=host)
                 return
             except OSError as why:
@@ -82,6 +82,12 @@ class Session(Core):
             # (whatever it says, it is closed)
             own(why)
 
+    def _rest(self) -> Optional[float]:
+        """The seconds that are left, which must be some."""
+        if (left := self._left()) == 0:
+            raise TimeoutError(TIMED_OUT)
+        return left
+
     def _give(self, left: Optional[float]) -> None:
         """Gives the next call of the socket so many seconds, None for no end."""
         assert self._socket
@@ -92,8 +98,7 @@ class Session(Core):
         said = None
         while said is None and not self._cut and (piece := self._open.unsent()):
             try:
-                if (left := self._left()) == 0:
-                    raise TimeoutError(TIMED_OUT)
+                left = self._rest()
                 assert self._socket
                 self._give(0)
                 self._open.went = True
