@@ -148,6 +148,12 @@ def goes_on(connection):
         return why.code in (bolt.library.CLOSED, bolt.library.NO_CLIENT)
 
 
+def refused_within(connection):
+    """A transaction whose block passes over a FAILURE."""
+    with connection.transaction() as tx:
+        breaks.raised(lambda: tx.run("NOPE"))
+
+
 def transacts(port):
     """Whether a transaction commits at the block's end, and not where an exception or a FAILURE ends it; the connection goes on each time."""
     with connected(port) as connection:
@@ -161,6 +167,7 @@ def transacts(port):
         with contextlib.suppress(bolt.Refused), connection.transaction() as tx:
             tx.run("PUT", key="goes", value=1)
             tx.run("NOPE")
+        said = str(breaks.raised(lambda: refused_within(connection)))
         with connection.transaction() as tx:
             tx.run("PUT", key="goes", value=1)
             tx.rollback()
@@ -207,6 +214,7 @@ def transacts(port):
             connection.session.begin()
             is_over = is_over and breaks.code_of(lambda: tx.run("PUT", key="goes", value=1)) == bolt.library.NOT_ALLOWED
         is_free = is_free and goes_on(connection)
+    is_over = is_over and said == "the request isn't allowed here: the transaction has ended"
     return is_kept and is_over and is_refused and is_free and (value_of(port, "stays"), value_of(port, "goes")) == ([1], [])
 
 

@@ -195,7 +195,7 @@ class Transacting:
     def _ends(self, text: str, message: bytes) -> Steps[None]:
         """Ends it, once: what ends one that has ended would end another that began since."""
         session = self._connection.session
-        if not self.is_open or self.number != session._begun:
+        if not self.is_open or not self._is_current():
             raise self._over()
         self.is_open = False
         try:
