@@ -13,6 +13,7 @@ import subprocess
 import sys
 import tempfile
 import threading
+import time
 import zipfile
 
 import bolt
@@ -366,6 +367,21 @@ def hears_another(_):
     told.append(breaks.raised(lambda: loop.run_until_complete(bolt.aio.connect("127.0.0.1", there))))
     loop.close()
     return [(str(it), type(it.__cause__)) for it in told] == [(f"before any request ({bolt.UNREACHED})", it) for it in (TimeoutError, ConnectionRefusedError)]
+
+
+def bounds_the_handshake(_):
+    """Whether the handshake of TLS is given what connecting left of the call's time."""
+    given = []
+
+    class Slow(bolt.Session):
+        def _give(self, left):
+            given.append(left)
+            time.sleep(0.1)
+            super()._give(left)
+
+    with socket.create_server(("127.0.0.1", 0)) as mute:
+        why = breaks.raised(lambda: Slow("127.0.0.1", mute.getsockname()[1], timeout=0.3, tls=ssl.create_default_context()))
+    return (type(why), why.why, len(given)) == (bolt.Broken, bolt.UNREACHED, 2) and given[1] < 0.25
 
 
 def put(key, value):
@@ -775,5 +791,5 @@ def installs(port):
     return bool(wanted) and said == "".join(f"{line.strip()}\n" for line in wanted.split("\n"))
 
 
-WORKS = (reads_rows, hears_another, loses_no_record, tells_lost_records, leaves_nothing_open, sends_nothing_twice, keeps_results_apart, transacts, commits_nothing_by_itself, tells_what_it_heard, breaks_off_connecting, pipes,
+WORKS = (reads_rows, hears_another, bounds_the_handshake, loses_no_record, tells_lost_records, leaves_nothing_open, sends_nothing_twice, keeps_results_apart, transacts, commits_nothing_by_itself, tells_what_it_heard, breaks_off_connecting, pipes,
          keeps_moments, tells_errors, keeps_tokens, tells_fates, encrypts, installs)

@@ -57,8 +57,11 @@ class Tries:
 
     def ends_by(self, why: BaseException) -> None:
         """Whatever ends the tries, an interrupt too, has the token with it, so that the transaction can be sent again."""
-        # (one that is frozen takes no attribute otherwise)
-        vars(why)["token"] = self.token
+        try:
+            setattr(why, "token", self.token)
+        except AttributeError:
+            # (it is frozen)
+            vars(why)["token"] = self.token
 
     def pause(self) -> Optional[float]:
         """The seconds to wait before the next try, None where none is left."""
