@@ -11,11 +11,11 @@ pub enum Fate {
     Stands,
     /// Other writes stand under the token.
     Clash,
-    /// The server refuses it, and nothing of it stands.
+    /// The server refuses it, and none of the tries stands.
     Refused,
     /// The tries are used up, and it may stand.
     Open,
-    /// The tries are used up, and nothing of it stands.
+    /// The tries are used up, and none of them stands.
     Absent,
 }
 
