@@ -14,9 +14,9 @@ pub(crate) struct Asked<'a> {
     pub(crate) sessions: Option<u16>,
     /// The name that the server tells.
     pub(crate) agent: &'a str,
-    /// Seconds for which a peer may be silent.
+    /// Seconds for which a peer may be silent, at least one: with none nobody would be served.
     pub(crate) silence: u32,
-    /// Seconds for which a peer may take to log on.
+    /// Seconds for which a peer may take to log on, at least one.
     pub(crate) arrival: u32,
     /// Seconds for which a connection is drained at its end.
     pub(crate) last: u32,
@@ -37,9 +37,15 @@ fn option<'a>(
         .help(help)
 }
 
-/// A number of seconds.
-fn seconds<'a>(alloc: Global, name: &'a str, default: &'a str, help: &'a str) -> Arg<'a> {
-    option(alloc, name, "SECONDS", default, help).value_parser(value_parser!(u32))
+/// A number of seconds, no fewer than these.
+fn seconds<'a>(
+    alloc: Global,
+    name: &'a str,
+    least: i64,
+    default: &'a str,
+    help: &'a str,
+) -> Arg<'a> {
+    option(alloc, name, "SECONDS", default, help).value_parser(value_parser!(u32).range(least..))
 }
 
 /// The words that there may be.
@@ -85,18 +91,21 @@ fn command<'a>(alloc: Global) -> Result<Command<'a>, AllocError> {
         .arg(seconds(
             alloc,
             "silence",
+            1,
             "60",
             "How long a client may send and take nothing",
         ))?
         .arg(seconds(
             alloc,
             "arrival",
+            1,
             "10",
             "How long a client may take to log on",
         ))?
         .arg(seconds(
             alloc,
             "last",
+            0,
             "1",
             "How long what a client still sends is read after its end",
         ))
