@@ -23,6 +23,9 @@ use streams::{Over, Sink, Source, StreamFault};
 /// How many seconds a peer may say nothing, or take nothing of what it is sent.
 const SILENCE: u64 = 10;
 
+/// How many seconds each read waits for what a peer still sends after its end: the others wait meanwhile.
+const LAST: u64 = 1;
+
 /// How many connections behind one another are passed over that fail as they are accepted. Behind these none comes, as where no descriptor is free.
 const MOST_GONE: u32 = 64;
 
@@ -108,6 +111,7 @@ fn serve_stream<E: Engine, G: Gate, O: Sink, W: Sink>(
     let told = serve_told(alloc, server, &mut streams, out, err);
     // A close with bytes unread would throw away what hasn't arrived.
     let _stopped = stream.shutdown(Shutdown::Write);
+    let _read = stream.set_read_timeout(Some(Duration::from_secs(LAST)));
     drain(&mut streams);
     told
 }
