@@ -36,9 +36,9 @@ fn run(rt: &HostRuntime, words: &[String]) -> io::Result<u8> {
         Some(word) => word.as_str(),
         None => "",
     };
-    match (name, port_of(words.get(2))) {
-        ("driver", Some(port)) => return driving::drive(rt, port),
-        ("query", Some(port)) => {
+    match (name, port_of(words.get(2)), words.len()) {
+        ("driver", Some(port), 3) => return driving::drive(rt, port),
+        ("query", Some(port), 6) => {
             if let [_, _, _, token, tries, puts] = words
                 && let Some(tries) = tries.parse::<u32>().ok()
                 && let Some(puts) = puts.parse::<u32>().ok()
@@ -47,8 +47,8 @@ fn run(rt: &HostRuntime, words: &[String]) -> io::Result<u8> {
             }
             return Ok(refuse(rt));
         }
-        ("server", Some(port)) => serving::serve(rt, port)?,
-        ("engine", None) => noting::note_all(rt)?,
+        ("server", Some(port), 3) => serving::serve(rt, port)?,
+        ("engine", _, 2) => noting::note_all(rt)?,
         _ => return Ok(refuse(rt)),
     }
     Ok(0)
