@@ -126,20 +126,6 @@ fn put_struct(out: &mut Output, tag: u8, fields: &[Value]) -> Result<(), Unwritt
     put_members(out, fields)
 }
 
-/// A member of a list that is no integer, unless too much is written before it.
-#[cycle(encoder)]
-#[inline(always)]
-fn put_member(out: &mut Output, value: &Value) -> Result<(), Unwritten>
-    requires { IsSound (tree value.now) }
-    ensures before { out.new.before ≡ out.old.before }
-    ensures writes { Writes result out.old.more out.new.more (canon (tree value.now)) }
-{
-    if out.len() > MAX_SIZE {
-        return Err(Unwritten::Size);
-    }
-    put_value(out, value)
-}
-
 #[cycle(encoder)]
 #[tactic(auto, using(crate::proofs::Putting::flat_more, crate::proofs::Putting::flat_room, crate::proofs::Putting::sound_at, crate::proofs::Putting::parts))]
 fn put_members(out: &mut Output, members: &[Value]) -> Result<(), Unwritten>
@@ -151,7 +137,8 @@ fn put_members(out: &mut Output, members: &[Value]) -> Result<(), Unwritten>
     for member in members {
         match member {
             Value::Int(n) => put_int(out, *n)?,
-            _ => put_member(out, member)?,
+            _ if out.len() > MAX_SIZE => return Err(Unwritten::Size),
+            _ => put_value(out, member)?,
         }
     }
     Ok(())
@@ -169,21 +156,10 @@ fn put_pairs(out: &mut Output, pairs: &[(String, Value)]) -> Result<(), Unwritte
         if out.len() > MAX_SIZE {
             return Err(Unwritten::Size);
         }
-        put_pair(out, pair)?;
+        put_key(out, pair.0.as_str())?;
+        put_value(out, &pair.1)?;
     }
     Ok(())
-}
-
-#[cycle(encoder)]
-#[tactic(auto, using(crate::proofs::Putting::parts))]
-fn put_pair(out: &mut Output, pair: &(String, Value)) -> Result<(), Unwritten>
-    requires { IsSound (tree pair.now.1) }
-    ensures before { out.new.before ≡ out.old.before }
-    ensures writes { Writes result out.old.more out.new.more
-        (text_bytes (string_bytes pair.now.0) ++ canon (tree pair.now.1)) }
-{
-    put_key(out, pair.0.as_str())?;
-    put_value(out, &pair.1)
 }
 
 /// Adds the shortest spelling, if it is not too long.

@@ -14,7 +14,7 @@ pub const FEW: u64 = 16;
 pub enum Lookup {
     /// Each is compared with each before it, which takes no memory.
     Compared,
-    /// Among many, each is looked up in a set, for which memory is taken.
+    /// Among many, each is looked up in a set, for which memory is taken; if there is none, it does without.
     InSet(Global),
 }
 
@@ -23,22 +23,12 @@ pub fn first_twin<T>(lookup: Lookup, pairs: &[(String, T)]) -> usize
     ensures { IsFirstTwin pairs.now result }
 {
     match lookup {
-        Lookup::Compared => twin_compared(pairs),
-        Lookup::InSet(alloc) => twin_looked_up(alloc, pairs),
+        Lookup::InSet(alloc) if pairs.len() as u64 > FEW => match twin_in_set(alloc, pairs) {
+            Ok(at) => at,
+            Err(_) => twin_compared(pairs),
+        },
+        _ => twin_compared(pairs),
     }
-}
-
-/// If there is no memory for the set, it does without.
-fn twin_looked_up<T>(alloc: Global, pairs: &[(String, T)]) -> usize
-    ensures { IsFirstTwin pairs.now result }
-{
-    if pairs.len() as u64 <= FEW {
-        return twin_compared(pairs);
-    }
-    let Ok(at) = twin_in_set(alloc, pairs) else {
-        return twin_compared(pairs);
-    };
-    at
 }
 
 fn twin_in_set<T>(alloc: Global, pairs: &[(String, T)]) -> Result<usize, AllocError>

@@ -1,24 +1,6 @@
-use Rattle.std.proofs.Common.{◌≡◌, ◌+◌, ◌-◌, ◌*◌, ◌≤◌, [], take, drop}
+use Rattle.std.proofs.Common.{◌≡◌, ◌-◌, ◌≤◌, [], take, drop}
 use Rattle.packstream.specs.Prelude.{trees, trees_of, entries, entries_of, first_fault, faults_in_all, faults_in_entries, ArePlain, HavePlain, names}
 use Rattle.packstream.proofs.check.+checker.Given as goal
-
-abbrev pub decreases-check : goal.decreases-check
-decreases-check l = 3 * l.room + 2
-
-abbrev pub decreases-check_list : goal.decreases-check_list
-decreases-check_list l = 3 * l.room + 1
-
-abbrev pub decreases-check_dict : goal.decreases-check_dict
-decreases-check_dict l = 3 * l.room + 1
-
-abbrev pub decreases-check_struct : goal.decreases-check_struct
-decreases-check_struct l = 3 * l.room + 1
-
-abbrev pub decreases-check_members : goal.decreases-check_members
-decreases-check_members l = 3 * l.room + 3
-
-abbrev pub decreases-check_pairs : goal.decreases-check_pairs
-decreases-check_pairs l = 3 * l.room + 3
 
 abbrev pub invariant-check_members-loop-member : goal.invariant-check_members-loop-member
 invariant-check_members-loop-member l = (first_fault (faults_in_all (32 - l.room) (trees_of (trees (drop l.member-index l.members)))) l.at ≡ first_fault (faults_in_all (32 - l.room) (trees_of (trees l.members))) l.from) × ArePlain (trees_of (trees (take l.member-index l.members)))

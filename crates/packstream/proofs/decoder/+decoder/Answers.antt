@@ -1,11 +1,11 @@
-use Rattle.std.proofs.Common.{rules, to_z, of_z, w64, ◌≡◌, ◌++◌, ◌∷◌, [], ap, sym, subst, ◌∙◌, List, ℕ, string_bytes}
+use Rattle.std.proofs.Common.{rules, to_z, of_z, w64, ◌≡◌, ◌++◌, ◌∷◌, [], refl, ap, sym, subst, ◌∙◌, List, ℕ, string_bytes}
 use Rattle.std.proofs.lemmas.Result.{err_from_is_err_and}
 use Rattle.std.proofs.lemmas.List.{map_push}
 use Rattle.packstream.specs.Prelude.{int, tree, trees, entry, entries, layer, inner, items_at, entries_at, names, Knows}
-use Rattle.packstream.proofs.Views.{keys-entries}
+use Rattle.packstream.proofs.Views.{keys-entries, tree-Int}
 use Rattle.packstream.proofs.Steps.{items_on, items_end, entries_on, entries_end_key, entries_end_value}
 use Rattle.packstream.proofs.decoder.+decoder.Goals as goal
-use Rattle.packstream.proofs.decoder.+decoder.Goals.{members_of-in-Some+in_ok-push_int, members_of-in_default+in_ok-member+in_ok-push}
+use Rattle.packstream.proofs.decoder.+decoder.Goals.{members_of-in-Some, members_of-then-len-capacity+in_ok-grow, members_of-else-len-capacity, members_of-in_default+in_ok-member+in_ok-push}
 
 pub members_of-returns-in_err-member : goal.members_of-returns-in_err-member
 members_of-returns-in_err-member t c =
@@ -14,9 +14,11 @@ members_of-returns-in_err-member t c =
 
 pub members_of-loop-i-preserved : goal.members_of-loop-i-preserved
 members_of-loop-i-preserved t c = elim c.match-int_front.branch [
-  | members_of-in-Some+in_ok-push_int w ↦
+  | members_of-in-Some w ↦
       let n : to_z w64 (of_z w64 w.in-Some.number) ≡ w.in-Some.number = search rules in
-      rw (w.members-is, w.rest-is, w.in_ok-push_int.ensures, n) (items_on (layer (inner c.args.room)) c.args.count c.loop-i.i (trees c.loop-i.members.items) c.loop-i.rest.now w.in-Some.after.now (int w.in-Some.number) (items_at (layer (inner c.args.room)) c.args.count [] c.args.bytes.now) c.loop-i-test.true (w.in-Some.ensures (inner c.args.room)) c.loop-i.invariant)
+      let same : w.if-len-capacity.members.items ≡ c.loop-i.members.items = elim w.if-len-capacity.branch [ members_of-then-len-capacity+in_ok-grow v ↦ cc (ap (λ v. v.items) v.members-is, v.in_ok-grow.ensures.same) | members_of-else-len-capacity v ↦ ap (λ v. v.items) v.members-is ] in
+      let e : trees w.push_reserved.new.self.items ≡ trees c.loop-i.members.items ++ int w.in-Some.number ∷ [] = rw (w.push_reserved.ensures.items, same, n) (map_push tree c.loop-i.members.items _ ∙ rw tree-Int refl) in
+      rw (w.members-is, w.rest-is, e) (items_on (layer (inner c.args.room)) c.args.count c.loop-i.i (trees c.loop-i.members.items) c.loop-i.rest.now w.in-Some.after.now (int w.in-Some.number) (items_at (layer (inner c.args.room)) c.args.count [] c.args.bytes.now) c.loop-i-test.true (w.in-Some.ensures (inner c.args.room)) c.loop-i.invariant)
   | members_of-in_default+in_ok-member+in_ok-push w ↦
       let n = w.in_ok-member.member in
       let e : trees w.push.new.self.items ≡ trees c.loop-i.members.items ++ tree n ∷ [] = rw w.in_ok-push.ensures.items (map_push tree c.loop-i.members.items n) in

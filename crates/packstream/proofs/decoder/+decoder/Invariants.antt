@@ -3,28 +3,16 @@ use Rattle.packstream.specs.Prelude.{trees, entries, layer, inner, items_at, ent
 use Rattle.packstream.proofs.decoder.+decoder.Given as goal
 
 abbrev pub decreases-value_of : goal.decreases-value_of
-decreases-value_of l = 4 * l.room + 2
-
-abbrev pub decreases-list_of : goal.decreases-list_of
-decreases-list_of l = 4 * l.room + 1
-
-abbrev pub decreases-dict_of : goal.decreases-dict_of
-decreases-dict_of l = 4 * l.room + 1
-
-abbrev pub decreases-struct_of : goal.decreases-struct_of
-decreases-struct_of l = 4 * l.room + 1
+decreases-value_of l = 2 * l.room + 1
 
 abbrev pub decreases-members_of : goal.decreases-members_of
-decreases-members_of l = 4 * l.room + 3
-
-abbrev pub decreases-counted_pairs_of : goal.decreases-counted_pairs_of
-decreases-counted_pairs_of l = 4 * l.room + 4
+decreases-members_of l = 2 * l.room + 2
 
 abbrev pub decreases-many_pairs_of : goal.decreases-many_pairs_of
-decreases-many_pairs_of l = 4 * l.room + 3
+decreases-many_pairs_of l = 2 * l.room + 2
 
 abbrev pub decreases-pairs_of : goal.decreases-pairs_of
-decreases-pairs_of l = 4 * l.room + 3
+decreases-pairs_of l = 2 * l.room + 2
 
 abbrev pub invariant-members_of-loop-i : goal.invariant-members_of-loop-i
 invariant-members_of-loop-i l = items_at (layer (inner l.room)) (l.count - l.i) (trees l.members.items) l.rest ≡ items_at (layer (inner l.room)) l.count [] l.bytes
