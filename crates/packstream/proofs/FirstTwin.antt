@@ -1,11 +1,12 @@
 -- The first key that stands before it too.
-use Rattle.std.proofs.Common.{String, Global, ◌≡◌, ◌<◌, ◌≤◌, ◌+◌, ℕ, List, [], ◌∷◌, ◌++◌, length, take, get_or, string_bytes, Bool, true, false, ◌==◌, Result, Ok, Err, refl, sym, ap, subst, ◌∙◌, arith, below_more, eqb-true}
+use Rattle.std.proofs.Common.{String, Global, ◌≡◌, ◌<◌, ◌≤◌, ◌+◌, ℕ, List, [], length, take, get_or, string_bytes, Bool, true, false, ◌==◌, Result, Ok, Err, refl, sym, ap, subst, ◌∙◌, arith, below_more, eqb-true}
 use Rattle.std.proofs.lemmas.Bool.{eqb-false}
-use Rattle.std.proofs.lemmas.List.{map_more, get_or-map}
+use Rattle.std.proofs.lemmas.List.{drop_all, get_or-map}
 use Rattle.packstream.specs.declared.fault.Reason.{Reason}
 use Rattle.packstream.specs.declared.fault.Reason.TheVariants as reason
 use Rattle.packstream.specs.Prelude.{Tree, is_among, first_fault, faults_in, names, stands_before, IsFirstTwin}
-use Rattle.packstream.proofs.Checking.{fault_again}
+use Rattle.packstream.proofs.Checking.{fault_again, names_more, pairs_more, none_left}
+use Rattle.packstream.proofs.Keys.{was}
 
 abbrev pub AllNew : {A : Type 0} → List (String Global × A) → ℕ → Type 0
 AllNew es i = (k : ℕ) → k < i → stands_before es k ≡ false
@@ -33,6 +34,6 @@ pub still_before : (n i h at next : ℕ) (t : Tree) (b : Bool) → (i == n) ≡ 
 still_before n i h at next t true e le f = absurd (let two : ◌≡◌ {A = Result ℕ (Reason × ℕ)} (Ok next) (Err (reason.KeyTwice, at)) = f ∙ fault_again t h at in cc)
 still_before n i h at next t false e le f = let off : i ≡ n → ⊥ = eqb-false _ _ e in omega arith
 
--- names with one more
-pub names_more : {A : Type 0} (es : List (String Global × A)) (i : ℕ) (e : String Global × A) → i < length es → e ≡ get_or es i e → names (take (i + 1) es) ≡ names (take i es) ++ string_bytes e.0 ∷ []
-names_more {A = A} es i e h is = map_more (λ (x : String Global × A). string_bytes x.0) es i e h ∙ ap (λ (y : String Global × A). names (take i es) ++ string_bytes y.0 ∷ []) (sym is)
+pub ruleset twins = (new_more, names_more, was)
+
+pub ruleset pairs = (twin_is, pairs_more, drop_all, none_left)

@@ -1,7 +1,6 @@
 //! Bytes out of values.
-ghost use Rattle.std.specs.Prelude.{◌≡◌, ◌<◌, ◌+◌, [], ◌++◌, length};
+ghost use Rattle.std.specs.Prelude.{◌≡◌, ◌<◌, ◌+◌, ◌++◌, length};
 ghost use Rattle.packstream.specs.Canon.{long_head, text_bytes, canon, canon_all, canon_entries, IsShortest};
-ghost use Rattle.std.specs.Prelude.{string_bytes};
 ghost use Rattle.packstream.specs.Tree.{list, dict, structure};
 ghost use Rattle.packstream.specs.Good.{IsSound, AreSound, HaveSoundValues};
 ghost use Rattle.packstream.specs.View.{tree, trees, trees_of, entries, entries_of};
@@ -127,7 +126,7 @@ fn put_struct(out: &mut Output, tag: u8, fields: &[Value]) -> Result<(), Unwritt
 }
 
 #[cycle(encoder)]
-#[tactic(auto, using(crate::proofs::Putting::flat_more, crate::proofs::Putting::flat_room, crate::proofs::Putting::sound_at, crate::proofs::Putting::parts))]
+#[tactic(auto, using(crate::proofs::Putting::flat_room, crate::proofs::Putting::parts))]
 fn put_members(out: &mut Output, members: &[Value]) -> Result<(), Unwritten>
     requires { AreSound (trees_of (trees members.now)) }
     ensures before { out.new.before ≡ out.old.before }
@@ -162,27 +161,6 @@ fn put_pairs(out: &mut Output, pairs: &[(String, Value)]) -> Result<(), Unwritte
     Ok(())
 }
 
-/// Adds the shortest spelling, if it is not too long.
-#[tactic(auto, using(crate::proofs::Only::shortest, crate::proofs::Only::none_short))]
-fn spell(out: &mut Output, packed: &Packed) -> Result<(), PackFault>
-    requires { out.old.more ≡ [] }
-    ensures before { out.new.before ≡ out.old.before }
-    ensures ok { OnOk result (out.new.more ≡ canon packed.now) }
-    ensures shortest { OnOk result (IsShortest packed.now (canon packed.now)) }
-    ensures size { UnlessMemory result
-        ((result ≡ Err (fault.Refused reason.Size 0)) ↔ (max_size < length (canon packed.now))) }
-    ensures none { (max_size < length (canon packed.now))
-        ↔ ((b : List ℕ) → Spells packed.now b → max_size < length b) }
-    ensures other { (r : Reason) (o : ℕ) → result ≡ Err (fault.Refused r o)
-        → (r ≡ reason.Size) × (o ≡ 0) }
-{
-    put_value(out, packed.value())?;
-    if out.len() > MAX_SIZE {
-        return Err(PackFault::Refused(Reason::Size, 0));
-    }
-    Ok(())
-}
-
 /// How many bytes the shortest spelling of the value takes, or 65,537 if that is more. Takes no memory.
 pub fn size(packed: &Packed) -> usize
     ensures { result ≡ min (length (canon packed.now)) (max_size + 1) }
@@ -192,6 +170,7 @@ pub fn size(packed: &Packed) -> usize
 
 /// Appends the shortest spelling (PackStream version 1), or nothing: `Size` at 0 exactly if no spelling has at most
 /// 65,536 bytes, or want of memory.
+#[tactic(auto, using(crate::proofs::Only::shortest, crate::proofs::Only::none_short))]
 pub fn encode(packed: &Packed, out: &mut BytesMut) -> Result<(), PackFault>
     ensures ok { OnOk result (out.new.items ≡ out.old.items ++ canon packed.now) }
     ensures shortest { OnOk result (IsShortest packed.now (canon packed.now)) }
@@ -205,14 +184,14 @@ pub fn encode(packed: &Packed, out: &mut BytesMut) -> Result<(), PackFault>
     ensures err { OnErr result (out.new.items ≡ out.old.items) }
 {
     let mut adding = Output::taking(out);
-    match spell(&mut adding, packed) {
-        Ok(()) => {
+    let fault = match put_value(&mut adding, packed.value()) {
+        Ok(()) if adding.len() <= MAX_SIZE => {
             *out = adding.keep();
-            Ok(())
+            return Ok(());
         }
-        Err(fault) => {
-            *out = adding.undo();
-            Err(fault)
-        }
-    }
+        Err(Unwritten::Memory) => PackFault::Memory,
+        _ => PackFault::Refused(Reason::Size, 0),
+    };
+    *out = adding.undo();
+    Err(fault)
 }

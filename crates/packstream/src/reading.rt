@@ -29,7 +29,7 @@ fn unsigned(wide: Width, bytes: &[u8]) -> u64
 }
 
 /// The same in two's complement.
-pub(crate) fn signed(wide: Width, bytes: &[u8]) -> i64
+fn signed(wide: Width, bytes: &[u8]) -> i64
     requires { width wide ≤ length bytes.now }
     ensures { result ≡ twos_complement (width wide) (big_number (width wide) bytes.now) }
 {
@@ -145,7 +145,7 @@ pub fn key_of<'a, T>(pairs: &[(String, T)], bytes: &'a [u8]) -> Result<(&'a str,
 }
 
 /// A key that none of these pairs has, whose keys were seen, and which joins them.
-#[tactic(auto, using(crate::proofs::Keys::key_stops))]
+#[tactic(auto, using(crate::proofs::Keys::new_keys))]
 pub fn new_key_of<'a, T>(
     seen: &mut Seen<'a>,
     pairs: &[(String, T)],

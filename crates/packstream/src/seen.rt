@@ -1,5 +1,5 @@
 //! Keys that were seen.
-ghost use Rattle.std.specs.Prelude.{◌≡◌, ◌<◌, ◌%◌, ◌++◌, ◌∷◌, [], not, true, length, IfOk};
+ghost use Rattle.std.specs.Prelude.{◌≡◌, ◌<◌, ◌%◌, ◌++◌, ◌∷◌, [], not, true, length, slice_index_or, IfOk};
 ghost use Rattle.packstream.specs.Good.{is_among};
 ghost use Rattle.packstream.specs.Hashing.{hash, numbered, is_key, Knows};
 ghost use Rattle.packstream.specs.Twins.{names};
@@ -31,6 +31,14 @@ impl<'a> Seen<'a> {
     {
         (hash % self.places.len() as u64) as usize
     }
+
+    /// The number in a place.
+    fn number_in(&self, place: usize) -> usize
+        requires { place < length self.now.places.items }
+        ensures { result ≡ slice_index_or self.now.places.items place 0 }
+    {
+        self.places[place]
+    }
 }
 
 #[tactic(auto, unfolding(crate::specs::Hashing::hash_more))]
@@ -47,6 +55,7 @@ fn hash_of(key: &str) -> u64
 }
 
 /// Whether the pair with this number, from 1, has the key.
+#[tactic(auto, using(crate::proofs::Keys::numbers))]
 #[inline]
 fn is_numbered<T>(pairs: &[(String, T)], number: usize, key: &str) -> bool
     requires { 0 < number }
@@ -59,6 +68,7 @@ fn is_numbered<T>(pairs: &[(String, T)], number: usize, key: &str) -> bool
 }
 
 /// Whether the key is none of those of the pairs, which were seen, and joins them; or want of memory.
+#[tactic(auto, using(crate::proofs::Keys::looks))]
 pub fn is_new<'a, T>(
     seen: &mut Seen<'a>,
     pairs: &[(String, T)],
@@ -71,7 +81,7 @@ pub fn is_new<'a, T>(
 {
     let hash = hash_of(key);
     let place = seen.place_of(hash);
-    let number = seen.places[place];
+    let number = seen.number_in(place);
     if number == 0 {
         seen.places[place] = pairs.len() + 1;
         return Ok(true);

@@ -31,6 +31,7 @@ pub fn first_twin<T>(lookup: Lookup, pairs: &[(String, T)]) -> usize
     }
 }
 
+#[tactic(auto, using(crate::proofs::FirstTwin::twins))]
 fn twin_in_set<T>(alloc: Global, pairs: &[(String, T)]) -> Result<usize, AllocError>
     ensures { IfOk result (IsFirstTwin pairs.now) }
 {
