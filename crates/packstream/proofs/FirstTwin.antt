@@ -1,9 +1,8 @@
 -- The first key that stands before it too.
-use Rattle.std.proofs.Common.{String, Global, ◌≡◌, ◌<◌, ◌≤◌, ◌+◌, ℕ, List, [], length, take, get_or, string_bytes, Bool, true, false, ◌==◌, Result, Ok, Err, refl, sym, ap, subst, ◌∙◌, arith, below_more, eqb-true}
-use Rattle.std.proofs.lemmas.Bool.{eqb-false}
+use Rattle.std.proofs.Common.{String, Global, ◌≡◌, ◌<◌, ◌≤◌, ◌+◌, ℕ, List, [], length, take, get_or, string_bytes, Bool, false, ◌==◌, Result, Ok, refl, sym, ap, ◌∙◌, arith, below_more}
+use Rattle.std.proofs.lemmas.Bool.Decides.{nat_tests}
 use Rattle.std.proofs.lemmas.List.{drop_all, get_or-map}
 use Rattle.packstream.specs.declared.fault.Reason.{Reason}
-use Rattle.packstream.specs.declared.fault.Reason.TheVariants as reason
 use Rattle.packstream.specs.Prelude.{Tree, is_among, first_fault, faults_in, names, stands_before, IsFirstTwin}
 use Rattle.packstream.proofs.Checking.{fault_again, names_more, pairs_more, none_left}
 use Rattle.packstream.proofs.Keys.{was}
@@ -22,8 +21,7 @@ pub new_more : {A : Type 0} (es : List (String Global × A)) (i : ℕ) (e : Stri
 new_more es i e h is all f = below_more (λ k. stands_before es k ≡ false) i all (before_is es i e h is ∙ f)
 
 same_by : {A : Type 0} (es : List (String Global × A)) (n i : ℕ) (b : Bool) → (i == n) ≡ b → IsFirstTwin es n → i ≤ n → i < length es → stands_before es i ≡ b
-same_by es n i true e t le lt = let at : i ≡ n = eqb-true _ _ e in subst (λ (k : ℕ). stands_before es k ≡ true) (sym at) (t.twin (omega arith))
-same_by es n i false e t le lt = let off : i ≡ n → ⊥ = eqb-false _ _ e in t.fresh i (omega arith)
+same_by es n i b e t le lt = grind (arith, nat_tests)
 
 -- up to the first twin, a key stands before it exactly where it is that
 pub twin_is : {A : Type 0} (es : List (String Global × A)) (n i : ℕ) (e : String Global × A) → IsFirstTwin es n → i ≤ n → i < length es → e ≡ get_or es i e → (i == n) ≡ is_among (string_bytes e.0) (names (take i es))
@@ -31,8 +29,7 @@ twin_is es n i e t le lt is = sym (same_by es n i (i == n) refl t le lt) ∙ bef
 
 -- what passes isn't the twin
 pub still_before : (n i h at next : ℕ) (t : Tree) (b : Bool) → (i == n) ≡ b → i ≤ n → ◌≡◌ {A = Result ℕ (Reason × ℕ)} (Ok next) (first_fault (faults_in h b t) at) → i + 1 ≤ n
-still_before n i h at next t true e le f = absurd (let two : ◌≡◌ {A = Result ℕ (Reason × ℕ)} (Ok next) (Err (reason.KeyTwice, at)) = f ∙ fault_again t h at in cc)
-still_before n i h at next t false e le f = let off : i ≡ n → ⊥ = eqb-false _ _ e in omega arith
+still_before n i h at next t b e le f = grind (arith, nat_tests, fault_again)
 
 pub ruleset twins = (new_more, names_more, was)
 

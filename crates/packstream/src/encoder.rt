@@ -126,7 +126,7 @@ fn put_struct(out: &mut Output, tag: u8, fields: &[Value]) -> Result<(), Unwritt
 }
 
 #[cycle(encoder)]
-#[tactic(auto, using(crate::proofs::Putting::flat_room, crate::proofs::Putting::parts))]
+#[tactic(auto, using(crate::proofs::Putting::members))]
 fn put_members(out: &mut Output, members: &[Value]) -> Result<(), Unwritten>
     requires { AreSound (trees_of (trees members.now)) }
     ensures before { out.new.before ≡ out.old.before }
