@@ -1,10 +1,11 @@
 -- The fields of a structure, and the row that it has where it has no fault.
-use Rattle.std.proofs.Common.{◌≡◌, ◌++◌, take, ℤ, pos, neg_ℤ, ◌-ℤ◌, ◌≤ℤ◌, int_le, ℕ, suc, zero, ◌+◌, ◌<◌, ◌≤◌, List, [], ◌∷◌, map, length, get_or, append-nil, Bool, true, false, ◌&&◌, ◌==◌, cond, Option, Some, None, Result, Ok, Err, refl, sym, ap, ◌∙◌, arith, eqb-true, subst}
+use Rattle.std.proofs.Common.{◌≡◌, ◌++◌, take, ℤ, pos, neg_ℤ, ◌-ℤ◌, ◌≤ℤ◌, int_le, ℕ, suc, zero, ◌+◌, ◌<◌, ◌≤◌, List, [], ◌∷◌, map, length, get_or, append-nil, Bool, true, false, ◌&&◌, ◌==◌, cond, Option, Some, None, Result, Ok, Err, refl, sym, ap, ◌∙◌, arith, eqb-true, subst, Vec, Global}
 use Rattle.std.proofs.lemmas.Int.{ints}
-use Rattle.std.proofs.lemmas.List.{map_more, map_push}
-use Rattle.packstream.specs.Prelude.{Tree, null, int, structure, Trees, no_trees, tree_then, entry_then, count, tree, trees, trees_of, entries_of}
-use Rattle.packstream.specs.declared.value.Value.{Value}
+use Rattle.std.proofs.lemmas.List.{map_more, map_push, take_all}
+use Rattle.packstream.specs.Prelude.{Tree, null, int, list, structure, Trees, no_trees, tree_then, entry_then, count, tree, trees, trees_of, entries_of}
+use Rattle.packstream.specs.declared.value.Value.{Value, List as ListCase, Struct as StructCase}
 use Rattle.packstream.proofs.Putting.{len_trees}
+use Rattle.packstream.proofs.Views.{tree-List, tree-Struct}
 use Rattle.wire.specs.declared.Version.{Version}
 use Rattle.wire.specs.declared.Version.TheVariants.{V44}
 use Rattle.wire.specs.Prelude.{has_element_ids, every_version}
@@ -12,8 +13,10 @@ use Rattle.cells.specs.declared.table.Field.{Field}
 use Rattle.cells.specs.declared.table.Field.TheVariants.{Integer, Text, Properties, Nodes, Relationships, Indices}
 use Rattle.cells.specs.declared.fault.Reason.{Reason}
 use Rattle.cells.specs.declared.fault.Reason.TheVariants.{NotInVersion}
-use Rattle.cells.specs.Prelude.{row, row_in, table, fields_in, fields_at, fields_of, kinds, moment_fields, to_utc, each, is_kind, are_kinds, are_in_range, utc_fields, is_path, wrong, fault, fault_by}
+use Rattle.cells.specs.Prelude.{row, row_in, table, fields_in, fields_at, fields_of, kinds, moment_fields, to_utc, each, is_kind, are_kinds, are_in_range, utc_fields, is_path, wrong, fault, fault_by, FaultOf, structures, structures_in, all_fine, has_tag, is_list_of}
 use Rattle.cells.proofs.Both.{and_left, and_right}
+use Rattle.cells.proofs.Views.{shape-Date, shape-Time, shape-LocalTime, shape-LocalDateTime, shape-DateTime}
+use Rattle.cells.proofs.Fine.{fine_itself, fine_within, fine_member}
 use Rattle.structures.specs.Prelude.{typed, typed_all, typed_under, date_time_fields as three, tree_at, ReadElements, typed_entry}
 
 pub at_some : (xs : List Value) (i : ℕ) (d : Value) → i < length xs → d ≡ get_or xs i d → tree_at i (trees_of (trees xs)) ≡ tree d
@@ -135,6 +138,8 @@ plain_is v tag k ts us ks stands is e other h n g =
     let same : structure k (typed_all ts) ≡ typed (structure k ts) = rw other refl in
     ap (λ (x : Trees). structure k x) (read_by v k ts us ks (at_fine v k stands ks ts e f) f n g) ∙ same ∙ ap (λ (m : ℕ). typed (structure m ts)) (sym is)
 
+pub ruleset shapes = (shape-Date, shape-Time, shape-LocalTime, shape-LocalDateTime, shape-DateTime)
+
 -- local seconds, nanoseconds and offset, by the fields
 pub local_is : (v : Version) (tag : ℕ) (ts : Trees) (s n o : ℤ) → tag ≡ 0x46 → fault v tag ts ≡ None → Got 0 moment_fields (three s n o) ts → (structure 0x49 (three (s -ℤ o) n o) ≡ typed (structure tag ts)) × IsUtc s o
 local_is v tag ts s n o is h g =
@@ -157,11 +162,38 @@ each_at p [] i d h e a = absurd (omega arith)
 each_at p (x ∷ xs) zero d h e a = ap (λ v. p (tree v)) e ∙ and_left _ _ a
 each_at p (x ∷ xs) (suc i) d h e a = each_at p xs i d (omega arith) e (and_right _ _ a)
 
+-- a member of a list of structures with one tag has that tag
+pub tag_at : (k : ℕ) (v d : Value) (xs : Vec Value Global) (zs : List Value) (i : ℕ) → v ≡ ListCase xs → zs ≡ xs.items → i < length zs → d ≡ get_or zs i d
+    → is_list_of (has_tag k) (tree v) ≡ true → has_tag k (tree d) ≡ true
+tag_at k v d xs zs i vi same lt at g =
+    let e = ap tree vi ∙ tree-List xs ∙ ap (λ (us : List Value). list (trees_of (trees us))) (sym same) in
+    each_at (has_tag k) zs i d lt at (sym (ap (is_list_of (has_tag k)) e) ∙ g)
+
+-- and its fields have no fault
+pub tagged_at : (j : FaultOf) (k tag : ℕ) (v d : Value) (xs ys : Vec Value Global) (zs : List Value) (i : ℕ) → v ≡ ListCase xs → zs ≡ xs.items
+    → d ≡ StructCase tag ys → i < length zs → d ≡ get_or zs i d → all_fine j (structures (tree v)) ≡ true → is_list_of (has_tag k) (tree v) ≡ true
+    → (j k (trees_of (trees ys.items)) ≡ None) × (all_fine j (structures_in (trees_of (trees ys.items))) ≡ true) × (tree d ≡ structure k (trees_of (trees ys.items)))
+tagged_at j k tag v d xs ys zs i vi same di lt at f g =
+    let e = ap tree vi ∙ tree-List xs ∙ ap (λ (us : List Value). list (trees_of (trees us))) (sym same) in
+    let s = ap tree di ∙ tree-Struct tag ys in
+    let n : tag ≡ k = eqb-true _ _ (sym (ap (has_tag k) s) ∙ tag_at k v d xs zs i vi same lt at g) in
+    let m = fine_member tree j zs i d lt at (sym (ap (λ (u : Tree). all_fine j (structures u)) e) ∙ f) in
+    let w = sym (ap (λ (u : Tree). all_fine j (structures u)) s) ∙ m in
+    let is = ap (λ q. structure q (trees_of (trees ys.items))) n in
+    (subst (λ q. j q (trees_of (trees ys.items)) ≡ None) n (fine_itself j tag _ w), fine_within j tag _ w, s ∙ is)
+
 -- one more member read
 pub read_next : {A : Type 0} (see : A → Tree) (old new : List A) (x : A) (xs : List Value) (i : ℕ) (d : Value) → i < length xs → d ≡ get_or xs i d → new ≡ old ++ x ∷ [] → see x ≡ typed (tree d) → map see old ≡ map typed (trees (take i xs)) → map see new ≡ map typed (trees (take (i + 1) xs))
 read_next see old new x xs i d h e n x-is o =
     let a : trees (take (i + 1) xs) ≡ trees (take i xs) ++ tree d ∷ [] = map_more tree xs i d h ∙ ap (λ (y : Value). trees (take i xs) ++ tree y ∷ []) (sym e) in
     ap (map see) n ∙ map_push see old x ∙ ap (λ (r : List Tree). r ++ see x ∷ []) o ∙ ap (λ (u : Tree). map typed (trees (take i xs)) ++ u ∷ []) x-is ∙ sym (ap (map typed) a ∙ map_push typed (trees (take i xs)) (tree d))
+
+-- the members of a list that are read one by one, when all are
+pub list_read : {A : Type 0} (see : A → Tree) (v : Value) (xs : Vec Value Global) (zs : List Value) (ys : List A) (i : ℕ) → v ≡ ListCase xs → zs ≡ xs.items
+    → length zs ≤ i → map see ys ≡ map typed (trees (take i zs)) → list (trees_of (map see ys)) ≡ typed (tree v)
+list_read see v xs zs ys i vi same h m =
+    let all = m ∙ ap (λ (us : List Value). map typed (trees us)) (take_all i zs h ∙ same) in
+    ap (λ (ts : List Tree). list (trees_of ts)) all ∙ ap list (sym (typed_list (trees xs.items))) ∙ ap typed (sym (ap tree vi ∙ tree-List xs))
 
 abbrev pub field_at : ℕ → List Field → Option Field
 field_at i [] = None

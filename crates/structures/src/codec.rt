@@ -8,7 +8,7 @@ ghost use Rattle.cells.specs.Faults.{IsBad, IsFine};
 ghost use Rattle.cells.specs.Shape.{shape, shapes, entries};
 ghost use Rattle.cells.specs.Writing.{IsWritable, IsUnwritable};
 ghost use Rattle.structures.specs.declared.fault.CellFault.TheVariants as fault;
-ghost use Rattle.structures.specs.Answers.{Reads, Writes, HasGoodForm, HasBadForm, Packs, Gave, UnlessMemory};
+ghost use Rattle.structures.specs.Answers.{Writes, HasGoodForm, HasBadForm, Packs, Gave, UnlessMemory};
 ghost use Rattle.structures.specs.Form.{Form};
 
 use crate::fault::CellFault;
@@ -19,20 +19,8 @@ use packstream::{PackFault, Packed, Value};
 use std::alloc::Global;
 use wire::Version;
 
-#[tactic(auto, using(cells::proofs::Fine::fine_scan))]
-fn read_cell(alloc: Global, version: Version, value: &Value) -> Result<Cell, CellFault>
-    ensures { Reads version (tree value.now) result }
-{
-    match check_value(version, value, 0) {
-        Err((reason, number)) => Err(CellFault::Refused(reason, number)),
-        Ok(_) => match cell_of(alloc, version, value) {
-            Ok(cell) => Ok(cell),
-            Err(_) => Err(CellFault::Memory),
-        },
-    }
-}
-
 /// The cell of a value that stands inside another, as `read` reads it.
+#[tactic(auto, using(cells::proofs::Fine::fine_scan))]
 pub fn read_value(alloc: Global, version: Version, value: &Value) -> Result<Cell, CellFault>
     // Apart from memory, it is the cell whose form the value is, if it is one's ..
     ensures cell { (s : Tree) → UnlessMemory result (Gave result s ↔ Form version s (tree value.now)) }
@@ -42,7 +30,10 @@ pub fn read_value(alloc: Global, version: Version, value: &Value) -> Result<Cell
         → UnlessMemory result ((result ≡ Err (fault.Refused r k)) ↔ IsBad version (tree value.now) k r) }
     ensures memory { result ≡ Err fault.Memory → IsFine version (tree value.now) }
 {
-    read_cell(alloc, version, value)
+    match check_value(version, value, 0) {
+        Err((reason, number)) => Err(CellFault::Refused(reason, number)),
+        Ok(_) => Ok(cell_of(alloc, version, value)?),
+    }
 }
 
 /// The cell of a value in the form of a version.

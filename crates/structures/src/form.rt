@@ -15,10 +15,8 @@ pub fn fit(alloc: Global, cell: Cell, version: Version) -> Result<Cell, CellFaul
     ensures { Fits version (shape cell) result }
 {
     let mut fitted = cell;
-    match fit_cell(alloc, version, &mut fitted) {
-        Ok(()) => Ok(fitted),
-        Err(_) => Err(CellFault::Memory),
-    }
+    fit_cell(alloc, version, &mut fitted)?;
+    Ok(fitted)
 }
 
 /// The element id of a node or of a relationship in a path.

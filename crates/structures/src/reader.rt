@@ -82,10 +82,7 @@ fn structure_of(
         ≡ typed (structure tag (trees_of (trees fields.now.items)))) }
 {
     match tag {
-        tags::NODE => {
-            let node = node_of(alloc, version, fields)?;
-            Ok(Cell::Node(Box::new(alloc, node)?))
-        }
+        tags::NODE => Ok(Cell::Node(Box::new(alloc, node_of(alloc, version, fields)?)?)),
         tags::UNBOUND_RELATIONSHIP => {
             let unbound = unbound_of(alloc, version, fields)?;
             Ok(Cell::UnboundRelationship(Box::new(alloc, unbound)?))
@@ -94,10 +91,7 @@ fn structure_of(
             let relationship = relationship_of(alloc, version, fields)?;
             Ok(Cell::Relationship(Box::new(alloc, relationship)?))
         }
-        tags::PATH => {
-            let path = path_of(alloc, version, fields)?;
-            Ok(Cell::Path(Box::new(alloc, path)?))
-        }
+        tags::PATH => Ok(Cell::Path(Box::new(alloc, path_of(alloc, version, fields)?)?)),
         _ => plain_of(alloc, version, tag, fields),
     }
 }
@@ -110,15 +104,11 @@ fn node_of(alloc: Global, version: Version, fields: &Vec<Value>) -> Result<Node,
     ensures { IfOk result (λ n. node_shape n
         ≡ typed (structure node_tag (trees_of (trees fields.now.items)))) }
 {
-    let id = int_at(fields, 0);
-    let labels = texts_at(alloc, fields, 1)?;
-    let properties = properties_of(alloc, version, fields, 2)?;
-    let element_id = element_at(alloc, fields, 3)?;
     Ok(Node {
-        id,
-        labels,
-        properties,
-        element_id,
+        id: int_at(fields, 0),
+        labels: texts_at(alloc, fields, 1)?,
+        properties: properties_of(alloc, version, fields, 2)?,
+        element_id: element_at(alloc, fields, 3)?,
     })
 }
 
@@ -134,15 +124,11 @@ fn unbound_of(
     ensures { IfOk result (λ n. unbound_shape n
         ≡ typed (structure unbound_tag (trees_of (trees fields.now.items)))) }
 {
-    let id = int_at(fields, 0);
-    let kind = text_at(alloc, fields, 1)?;
-    let properties = properties_of(alloc, version, fields, 2)?;
-    let element_id = element_at(alloc, fields, 3)?;
     Ok(UnboundRelationship {
-        id,
-        kind,
-        properties,
-        element_id,
+        id: int_at(fields, 0),
+        kind: text_at(alloc, fields, 1)?,
+        properties: properties_of(alloc, version, fields, 2)?,
+        element_id: element_at(alloc, fields, 3)?,
     })
 }
 
@@ -158,19 +144,13 @@ fn relationship_of(
     ensures { IfOk result (λ n. relationship_shape n
         ≡ typed (structure relationship_tag (trees_of (trees fields.now.items)))) }
 {
-    let id = int_at(fields, 0);
-    let start = int_at(fields, 1);
-    let end = int_at(fields, 2);
-    let kind = text_at(alloc, fields, 3)?;
-    let properties = properties_of(alloc, version, fields, 4)?;
-    let element_ids = elements_at(alloc, fields)?;
     Ok(Relationship {
-        id,
-        start,
-        end,
-        kind,
-        properties,
-        element_ids,
+        id: int_at(fields, 0),
+        start: int_at(fields, 1),
+        end: int_at(fields, 2),
+        kind: text_at(alloc, fields, 3)?,
+        properties: properties_of(alloc, version, fields, 4)?,
+        element_ids: elements_at(alloc, fields)?,
     })
 }
 
@@ -182,13 +162,10 @@ fn path_of(alloc: Global, version: Version, fields: &Vec<Value>) -> Result<Path,
     ensures { IfOk result (λ p. path_shape p
         ≡ typed (structure path_tag (trees_of (trees fields.now.items)))) }
 {
-    let nodes = nodes_of(alloc, version, &fields[0])?;
-    let relationships = unbounds_of(alloc, version, &fields[1])?;
-    let indices = ints_of(alloc, &fields[2])?;
     Ok(Path {
-        nodes,
-        relationships,
-        indices,
+        nodes: nodes_of(alloc, version, &fields[0])?,
+        relationships: unbounds_of(alloc, version, &fields[1])?,
+        indices: ints_of(alloc, &fields[2])?,
     })
 }
 
@@ -198,36 +175,17 @@ fn nodes_of(alloc: Global, version: Version, value: &Value) -> Result<Vec<Node>,
     requires kind { is_kind Field.Nodes (tree value.now) ≡ true }
     ensures { IfOk result (λ v. list (trees_of (map node_shape v.items)) ≡ typed (tree value.now)) }
 {
-    match value {
-        Value::List(members) => nodes_in(alloc, version, members),
-        _ => unreachable!(),
-    }
-}
-
-#[cycle(read)]
-fn nodes_in(alloc: Global, version: Version, members: &Vec<Value>) -> Result<Vec<Node>, AllocError>
-    requires fine { all_fine (fault version) (structures_in (trees_of (trees members.now.items)))
-        ≡ true }
-    requires tagged { each (has_tag node_tag) (trees_of (trees members.now.items)) ≡ true }
-    ensures { IfOk result (λ v. map node_shape v.items ≡ map typed (trees members.now.items)) }
-{
+    let Value::List(members) = value else {
+        unreachable!()
+    };
     let mut nodes = Vec::with_capacity(alloc, members.len())?;
     for member in members {
-        nodes.push(node_from(alloc, version, member)?)?;
+        let Value::Struct(_, fields) = member else {
+            unreachable!()
+        };
+        nodes.push(node_of(alloc, version, fields)?)?;
     }
     Ok(nodes)
-}
-
-#[cycle(read)]
-fn node_from(alloc: Global, version: Version, value: &Value) -> Result<Node, AllocError>
-    requires fine { all_fine (fault version) (structures (tree value.now)) ≡ true }
-    requires tagged { has_tag node_tag (tree value.now) ≡ true }
-    ensures { IfOk result (λ n. node_shape n ≡ typed (tree value.now)) }
-{
-    match value {
-        Value::Struct(_, fields) => node_of(alloc, version, fields),
-        _ => unreachable!(),
-    }
 }
 
 #[cycle(read)]
@@ -241,44 +199,17 @@ fn unbounds_of(
     ensures { IfOk result (λ v. list (trees_of (map unbound_shape v.items))
         ≡ typed (tree value.now)) }
 {
-    match value {
-        Value::List(members) => unbounds_in(alloc, version, members),
-        _ => unreachable!(),
-    }
-}
-
-#[cycle(read)]
-fn unbounds_in(
-    alloc: Global,
-    version: Version,
-    members: &Vec<Value>,
-) -> Result<Vec<UnboundRelationship>, AllocError>
-    requires fine { all_fine (fault version) (structures_in (trees_of (trees members.now.items)))
-        ≡ true }
-    requires tagged { each (has_tag unbound_tag) (trees_of (trees members.now.items)) ≡ true }
-    ensures { IfOk result (λ v. map unbound_shape v.items ≡ map typed (trees members.now.items)) }
-{
+    let Value::List(members) = value else {
+        unreachable!()
+    };
     let mut relationships = Vec::with_capacity(alloc, members.len())?;
     for member in members {
-        relationships.push(unbound_from(alloc, version, member)?)?;
+        let Value::Struct(_, fields) = member else {
+            unreachable!()
+        };
+        relationships.push(unbound_of(alloc, version, fields)?)?;
     }
     Ok(relationships)
-}
-
-#[cycle(read)]
-fn unbound_from(
-    alloc: Global,
-    version: Version,
-    value: &Value,
-) -> Result<UnboundRelationship, AllocError>
-    requires fine { all_fine (fault version) (structures (tree value.now)) ≡ true }
-    requires tagged { has_tag unbound_tag (tree value.now) ≡ true }
-    ensures { IfOk result (λ n. unbound_shape n ≡ typed (tree value.now)) }
-{
-    match value {
-        Value::Struct(_, fields) => unbound_of(alloc, version, fields),
-        _ => unreachable!(),
-    }
 }
 
 #[cycle(read)]
