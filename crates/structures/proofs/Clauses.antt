@@ -6,7 +6,6 @@ use Rattle.packstream.proofs.Views.{tree-List, tree-Dict}
 use Rattle.wire.specs.declared.Version.{Version}
 use Rattle.wire.specs.declared.Version.TheVariants.{V44}
 use Rattle.cells.specs.declared.table.Field.{Field}
-use Rattle.cells.specs.declared.table.Field.TheVariants.{Nodes, Relationships, Indices}
 use Rattle.cells.specs.declared.fault.Reason.{Reason}
 use Rattle.cells.specs.declared.fault.Reason.TheVariants.{NotInVersion, Range, PathShape}
 use Rattle.cells.specs.Prelude.{kinds, first_failed, to_utc, are_in_range, is_path, fault, structures, structures_in, structures_under, scan, IsBad, IsFine, all_fine, moment_tag, fault_of_structure, fault_of_structure_by, IsWritable, IsUnwritable, shape, shapes, entries}
@@ -14,8 +13,8 @@ use Rattle.cells.proofs.Scanning.{Found}
 use Rattle.cells.proofs.Both.{both_true}
 use Rattle.cells.proofs.Fine.{scan_fine, fine_scan, fine_append, fine_itself, fine_within, fine_left, fine_right}
 use Rattle.structures.specs.Prelude.{Form, typed, typed_all, typed_under, form, HasOneReading, HasOneWriting, Reads, Writes, HasGoodForm, HasBadForm, Gave, UnlessMemory, IsUnpacked, Packs, form_entry}
-use Rattle.structures.proofs.Got.{passed, at_both, fine_at, row_of, of_local}
-use Rattle.structures.proofs.Formed.{Maps, ranges_kept, count_kept, path_kept, again, form_is, packed_is}
+use Rattle.structures.proofs.Got.{passed, fine_at, row_of, of_local}
+use Rattle.structures.proofs.Formed.{ranges_typed, count_typed, path_typed, again, form_is, packed_is}
 use Rattle.structures.proofs.Fitted.{form_list, form_pairs}
 use Rattle.cells.proofs.Typed.{typed_shape, shapes_typed, pairs_typed}
 use Rattle.cells.specs.declared.cell.Cell.{Cell}
@@ -23,15 +22,6 @@ use Rattle.packstream.specs.declared.fault.Reason.{Reason as PackReason}
 use Rattle.packstream.proofs.Checking.{bad_when}
 use Rattle.structures.specs.declared.fault.CellFault.{CellFault}
 use Rattle.structures.specs.declared.fault.CellFault.TheVariants as told
-
-typed_maps : Maps typed typed_all
-typed_maps = record { none = refl; more = λ t ts. refl; on_int = λ z. refl; on_list = λ ts. refl }
-
-walk_kept : (v : Version) (tag : ℕ) (ts : Trees) (b : Bool) → (tag == 0x50) ≡ b → fault v tag ts ≡ None → cond b (is_path (typed_all ts)) true ≡ true
-walk_kept v tag ts true e h =
-    let p = passed v 0x50 ts (Nodes ∷ Relationships ∷ Indices ∷ []) (at_both v 0x50 _ refl) (fine_at v tag 0x50 ts (eqb-true _ _ e) h) in
-    path_kept typed typed_all typed_maps ts p.counted p.kinded ∙ p.shaped
-walk_kept v tag ts false e h = refl
 
 -- the tag that reading gave is written as it was
 tag_back : (v : Version) (tag : ℕ) (ts : Trees) (b : Bool) → (tag == 0x49) ≡ b → fault v tag ts ≡ None → cond b (moment_tag v) tag ≡ tag
@@ -47,9 +37,10 @@ plain_writable : (v : Version) (tag : ℕ) (ts : Trees) → (tag == 0x46) ≡ fa
 plain_writable v tag ts n h =
     let k = row_of v tag ts h in
     let p = passed v tag ts k.0 k.1 h in
-    let ranged = ranges_kept typed typed_all typed_maps k.0 ts p.kinded ∙ ap (λ c. are_in_range k.0 (cond c (to_utc ts) ts)) (sym n) ∙ p.ranged in
+    let ranged = ranges_typed k.0 ts ∙ ap (λ c. are_in_range k.0 (cond c (to_utc ts) ts)) (sym n) ∙ p.ranged in
     ap (λ m. fault_of_structure_by (kinds v m) tag (typed_all ts)) (tag_back v tag ts (tag == 0x49) refl h) ∙ ap (λ r. fault_of_structure_by r tag (typed_all ts)) k.1
-    ∙ passes_by k.0 tag (typed_all ts) true true true (eq-eqb _ _ (count_kept typed typed_all typed_maps ts ∙ p.counted)) ranged (walk_kept v tag ts (tag == 0x50) refl h)
+    ∙ passes_by k.0 tag (typed_all ts) true true true (eq-eqb _ _ (count_typed ts ∙ p.counted)) ranged
+    (ap (λ x. cond (tag == 0x50) x true) (path_typed ts) ∙ p.shaped)
 
 -- local seconds that were brought to UTC
 moment_writable : (v : Version) (ts : Trees) → fault v 0x46 ts ≡ None → all_fine (fault_of_structure v) (structures (structure 0x49 (to_utc (typed_all ts)))) ≡ true

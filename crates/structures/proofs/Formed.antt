@@ -1,17 +1,18 @@
 -- What is written is read back, and what is read is written back. The form of a cell that can be written has no fault, and is what is written of it.
-use Rattle.std.proofs.Common.{◌≡◌, ℕ, ℤ, ◌+ℤ◌, ◌-ℤ◌, Bool, true, false, not, cond, ◌==◌, None, refl, sym, ap, ◌∙◌, arith, eqb-true, subst, suc, pos, neg_ℤ, ◌≤ℤ◌, List, [], ◌∷◌, ◌++◌, length, ◌&&◌, Option, Some, is_none, Result, Ok, Err, eq-eqb}
+use Rattle.std.proofs.Common.{◌≡◌, ℕ, ℤ, ◌+ℤ◌, ◌-ℤ◌, Bool, true, false, not, cond, ◌==◌, None, refl, sym, ap, ◌∙◌, arith, eqb-true, subst, suc, pos, neg_ℤ, ◌≤ℤ◌, List, [], ◌∷◌, ◌++◌, length, ◌&&◌, ◌||◌, Option, Some, is_none, Result, Ok, Err}
 use Rattle.std.proofs.lemmas.Int.{ints}
 use Rattle.std.proofs.lemmas.Bool.{not-true}
 use Rattle.packstream.specs.Prelude.{Tree, int, list, dict, structure, Trees, no_trees, tree_then, Entries, no_entries, entry_then, text, IsGood, count}
 use Rattle.wire.specs.declared.Version.{Version}
 use Rattle.wire.specs.declared.Version.TheVariants.{V44}
-use Rattle.cells.specs.Prelude.{row_in, table, Row, fields_of, kinds, scan, to_utc, fault, structures, structures_in, structures_under, first_failed, moment_fields, is_int, is_text, has_tag, each, is_list_of, is_kind, are_kinds, in_range, are_in_range, is_path, all_fine, is_typed, are_typed, have_typed, is_row, has_count, shape, moment_tag, fault_of_structure, fault_of_structure_by, IsWritable}
+use Rattle.cells.specs.Prelude.{row_in, table, Row, fields_of, kinds, scan, to_utc, fault, structures, structures_in, structures_under, first_failed, moment_fields, is_int, is_text, has_tag, each, is_list_of, is_kind, are_kinds, in_range, are_in_range, is_relationship, is_walk, is_path, all_fine, is_typed, are_typed, have_typed, is_row, has_count, shape, moment_tag, fault_of_structure, fault_of_structure_by, IsWritable}
+use Rattle.cells.specs.Faults.{is_place}
 use Rattle.cells.proofs.Both.{and_left, and_right, both_true}
 use Rattle.cells.proofs.Fine.{fine_itself, fine_within, fine_left, fine_right, scan_fine, fine_scan, fine_append}
-use Rattle.structures.specs.Prelude.{typed, typed_all, typed_under, form, form_all, form_under, moment, to_local, Form, date_time_fields as three, Writes, Packs, has_kinds}
-use Rattle.structures.proofs.Got.{of_local, stood, at_both, first_none, between, of_three}
+use Rattle.structures.specs.Prelude.{typed, typed_all, typed_under, form, form_all, form_under, moment, to_local, Form, date_time_fields as three, Writes, Packs}
+use Rattle.structures.proofs.Got.{of_local, stood, first_none, between, of_three}
 use Rattle.cells.specs.declared.table.Field.{Field}
-use Rattle.cells.specs.declared.table.Field.TheVariants.{Nanosecond, DayNanosecond, Offset, UtcSecond, Text, Labels, Nodes, Relationships, Indices}
+use Rattle.cells.specs.declared.table.Field.TheVariants.{Nanosecond, Offset, UtcSecond, Text, Labels, Nodes, Relationships, Indices}
 use Rattle.cells.specs.declared.fault.Reason.{Reason}
 use Rattle.cells.specs.declared.fault.Reason.TheVariants.{FieldCount, FieldKind, Range, PathShape}
 use Rattle.cells.specs.declared.cell.Cell.{Cell}
@@ -97,78 +98,74 @@ of_path P all (tree_then t (tree_then u (tree_then w no_trees))) n h =
 of_path P all (tree_then t (tree_then u (tree_then w (tree_then x ts)))) n h = absurd (omega (arith, n))
 of_path P all ts n h = absurd cc
 
--- What a map leaves as it is under which integers stay and the members of a list are mapped.
-pub record Maps (f : Tree → Tree) (all : Trees → Trees) : Type 0 where
-  pub none : all no_trees ≡ no_trees
-  pub more : (t : Tree) (ts : Trees) → all (tree_then t ts) ≡ tree_then (f t) (all ts)
-  pub on_int : (z : ℤ) → f (int z) ≡ int z
-  pub on_list : (ts : Trees) → f (list ts) ≡ list (all ts)
+-- Reading keeps the number of fields, what passes as each kind and its range, and what passes as a path.
+text_typed : (t : Tree) → is_text (typed t) ≡ is_text t
+text_typed (text s) = refl
+text_typed t = refl
 
-module _ (f : Tree → Tree) (all : Trees → Trees) (m : Maps f all) where
-  int_same : (t : Tree) → is_int t ≡ true → f t ≡ t
-  int_same (int z) h = m.on_int z
-  int_same t h = absurd cc
+int_typed : (t : Tree) → is_int (typed t) ≡ is_int t
+int_typed (int z) = refl
+int_typed t = refl
 
-  range_kept : (k : Field) (t : Tree) → is_kind k t ≡ true → in_range k (f t) ≡ in_range k t
-  range_kept Nanosecond t h = ap (in_range Nanosecond) (int_same t h)
-  range_kept DayNanosecond t h = ap (in_range DayNanosecond) (int_same t h)
-  range_kept Offset t h = ap (in_range Offset) (int_same t h)
-  range_kept UtcSecond t h = ap (in_range UtcSecond) (int_same t h)
-  range_kept k t h = refl
+tag_typed : (k : ℕ) (t : Tree) → (0x49 == k) ≡ false → (0x46 == k) ≡ false → has_tag k (typed t) ≡ has_tag k t
+tag_typed k (structure tag ts) m n = go (tag == 0x46) refl
+  where
+    go : (b : Bool) → (tag == 0x46) ≡ b → (cond b 0x49 tag == k) ≡ (tag == k)
+    go true e = m ∙ sym (ap (λ x. x == k) (eqb-true _ _ e) ∙ n)
+    go false e = refl
+tag_typed k t m n = refl
 
-  pub ranges_kept : (ks : List Field) (ts : Trees) → are_kinds ks ts ≡ true → are_in_range ks (all ts) ≡ are_in_range ks ts
-  ranges_kept [] ts h = refl
-  ranges_kept (k ∷ ks) no_trees h = ap (are_in_range (k ∷ ks)) m.none
-  ranges_kept (k ∷ ks) (tree_then t ts) h =
-      ap (are_in_range (k ∷ ks)) (m.more t ts) ∙ ap (λ b. b && are_in_range ks (all ts)) (range_kept k t (and_left _ _ h)) ∙ ap (λ b. in_range k t && b) (ranges_kept ks ts (and_right (is_kind k t) _ h))
+each_typed : (p : Tree → Bool) → ((t : Tree) → p (typed t) ≡ p t) → (ts : Trees) → each p (typed_all ts) ≡ each p ts
+each_typed p f no_trees = refl
+each_typed p f (tree_then t ts) = ap (λ b. b && each p (typed_all ts)) (f t) ∙ ap (λ b. p t && b) (each_typed p f ts)
 
-  pub count_kept : (ts : Trees) → count (all ts) ≡ count ts
-  count_kept no_trees = ap count m.none
-  count_kept (tree_then t ts) = ap count (m.more t ts) ∙ ap suc (count_kept ts)
+list_typed : (p : Tree → Bool) → ((t : Tree) → p (typed t) ≡ p t) → (t : Tree) → is_list_of p (typed t) ≡ is_list_of p t
+list_typed p f (list ts) = each_typed p f ts
+list_typed p f t = refl
 
-  ints_same : (ts : Trees) → each is_int ts ≡ true → all ts ≡ ts
-  ints_same no_trees h = m.none
-  ints_same (tree_then t ts) h = m.more t ts ∙ ap (λ x. tree_then x (all ts)) (int_same t (and_left _ _ h)) ∙ ap (λ x. tree_then t x) (ints_same ts (and_right (is_int t) _ h))
+kind_typed : (k : Field) (t : Tree) → is_kind k (typed t) ≡ is_kind k t
+kind_typed Text t = text_typed t
+kind_typed Labels t = list_typed is_text text_typed t
+kind_typed Nodes t = list_typed (has_tag 0x4E) (λ u. tag_typed 0x4E u refl refl) t
+kind_typed Relationships t = list_typed (has_tag 0x72) (λ u. tag_typed 0x72 u refl refl) t
+kind_typed Indices t = list_typed is_int int_typed t
+kind_typed k (structure tag ts) = refl
+kind_typed k t = refl
 
-  pub path_kept : (ts : Trees) → count ts ≡ 3 → are_kinds (Nodes ∷ Relationships ∷ Indices ∷ []) ts ≡ true → is_path (all ts) ≡ is_path ts
-  path_kept = of_path (λ us. is_path (all us) ≡ is_path us) (λ a b d h.
-      rw (m.more (list a) (tree_then (list b) (tree_then (list d) no_trees)), m.more (list b) (tree_then (list d) no_trees), m.more (list d) no_trees, m.none, m.on_list a, m.on_list b, m.on_list d, count_kept a, count_kept b, ints_same d h) refl)
+kinds_typed : (ks : List Field) (ts : Trees) → are_kinds ks (typed_all ts) ≡ are_kinds ks ts
+kinds_typed [] ts = refl
+kinds_typed (k ∷ ks) no_trees = refl
+kinds_typed (k ∷ ks) (tree_then t ts) = ap (λ b. b && are_kinds ks (typed_all ts)) (kind_typed k t) ∙ ap (λ b. is_kind k t && b) (kinds_typed ks ts)
 
-form_maps : (v : Version) → Maps (form v) (form_all v)
-form_maps v = record { none = refl; more = λ t ts. refl; on_int = λ z. refl; on_list = λ ts. refl }
+range_typed : (t : Tree) (k : Field) → in_range k (typed t) ≡ in_range k t
+range_typed (int z) k = refl
+range_typed t Nanosecond = refl
+range_typed t k = refl
 
-text_kept : (v : Version) (t : Tree) → is_text t ≡ true → is_text (form v t) ≡ true
-text_kept v (text s) h = refl
-text_kept v t h = absurd cc
+pub ranges_typed : (ks : List Field) (ts : Trees) → are_in_range ks (typed_all ts) ≡ are_in_range ks ts
+ranges_typed [] ts = refl
+ranges_typed (k ∷ ks) no_trees = refl
+ranges_typed (k ∷ ks) (tree_then t ts) = ap (λ b. b && are_in_range ks (typed_all ts)) (range_typed t k) ∙ ap (λ b. in_range k t && b) (ranges_typed ks ts)
 
-tag_kept : (v : Version) (k : ℕ) (t : Tree) → (k == 0x49) ≡ false → has_tag k t ≡ true → has_tag k (form v t) ≡ true
-tag_kept v k (structure tag ts) n h = subst (λ m. has_tag k (form v (structure m ts)) ≡ true) (sym (eqb-true _ _ h)) (rw n (eq-eqb k k refl))
-tag_kept v k t n h = absurd cc
+pub count_typed : (ts : Trees) → count (typed_all ts) ≡ count ts
+count_typed no_trees = refl
+count_typed (tree_then t ts) = ap suc (count_typed ts)
 
-each_kept : (v : Version) (p : Tree → Bool) (kept : (t : Tree) → p t ≡ true → p (form v t) ≡ true) (ts : Trees) → each p ts ≡ true → each p (form_all v ts) ≡ true
-each_kept v p kept no_trees h = refl
-each_kept v p kept (tree_then t ts) h = both_true _ _ (kept t (and_left _ _ h)) (each_kept v p kept ts (and_right (p t) _ h))
+step_typed : (n m : ℕ) (even : Bool) (t : Tree)
+    → cond even (is_relationship m (typed t)) (is_place n (typed t)) ≡ cond even (is_relationship m t) (is_place n t)
+step_typed n m even (int z) = refl
+step_typed n m even t = refl
 
-list_kept : (v : Version) (p : Tree → Bool) (kept : (t : Tree) → p t ≡ true → p (form v t) ≡ true) (t : Tree) → is_list_of p t ≡ true → is_list_of p (form v t) ≡ true
-list_kept v p kept (list ts) h = each_kept v p kept ts h
-list_kept v p kept t h = absurd cc
+walk_typed : (n m : ℕ) (even : Bool) (ts : Trees) → is_walk n m even (typed_all ts) ≡ is_walk n m even ts
+walk_typed n m even no_trees = refl
+walk_typed n m even (tree_then t ts) =
+    ap (λ b. b && is_walk n m (not even) (typed_all ts)) (step_typed n m even t)
+    ∙ ap (λ b. cond even (is_relationship m t) (is_place n t) && b) (walk_typed n m (not even) ts)
 
-int_kept : (v : Version) (t : Tree) → is_int t ≡ true → is_int (form v t) ≡ true
-int_kept v t h = ap is_int (int_same (form v) (form_all v) (form_maps v) t h) ∙ h
-
-kind_kept : (v : Version) (k : Field) (t : Tree) → is_kind k t ≡ true → is_kind k (form v t) ≡ true
-kind_kept v Text t h = text_kept v t h
-kind_kept v Labels t h = list_kept v is_text (text_kept v) t h
-kind_kept v Nodes t h = list_kept v (has_tag 0x4E) (λ u. tag_kept v 0x4E u refl) t h
-kind_kept v Relationships t h = list_kept v (has_tag 0x72) (λ u. tag_kept v 0x72 u refl) t h
-kind_kept v Indices t h = list_kept v is_int (int_kept v) t h
-kind_kept v k (structure tag ts) h = absurd cc
-kind_kept v k t h = h
-
-kinds_kept : (v : Version) (ks : List Field) (ts : Trees) → are_kinds ks ts ≡ true → are_kinds ks (form_all v ts) ≡ true
-kinds_kept v [] ts h = refl
-kinds_kept v (k ∷ ks) no_trees h = refl
-kinds_kept v (k ∷ ks) (tree_then t ts) h = both_true _ _ (kind_kept v k t (and_left _ _ h)) (kinds_kept v ks ts (and_right (is_kind k t) _ h))
+pub path_typed : (ts : Trees) → is_path (typed_all ts) ≡ is_path ts
+path_typed (tree_then (list a) (tree_then (list b) (tree_then (list d) no_trees))) =
+    rw (count_typed a, count_typed b, walk_typed (count a) (count b) true d) refl
+path_typed ts = refl
 
 prefix : (fs more : List Field) (ts : Trees) → are_kinds (fs ++ more) ts ≡ true → are_kinds fs ts ≡ true
 prefix [] more ts h = refl
@@ -179,9 +176,11 @@ fields_kinds : (b : Bool) (fs more : List Field) (ts : Trees) → are_kinds (fs 
 fields_kinds true fs more ts h = h
 fields_kinds false fs more ts h = prefix fs more ts h
 
-table_kinds : (v : Version) (o : Option Row) (ks : List Field) (ts : Trees) → fields_of v o ≡ Ok ks → has_kinds o ts ≡ true → are_kinds ks ts ≡ true
+table_kinds : (v : Version) (o : Option Row) (ks : List Field) (ts : Trees) → fields_of v o ≡ Ok ks → is_row o ts ≡ true → are_kinds ks ts ≡ true
 table_kinds v None ks ts e h = absurd cc
-table_kinds v (Some r) ks ts e h = subst (λ x. are_kinds x ts ≡ true) (sym (stood v r.stands r.fields r.added ks e).1) (fields_kinds (has_element_ids v) r.fields r.added ts h)
+table_kinds v (Some r) ks ts e h =
+    let k = fields_kinds (has_element_ids v) r.fields r.added ts (and_right (has_count r ts) _ h) in
+    subst (λ x. are_kinds x ts ≡ true) (sym (stood v r.stands r.fields r.added ks e).1) k
 
 pub record Written (ks : List Field) (tag : ℕ) (ts : Trees) : Type 0 where
   pub counted : (count ts == length ks) ≡ true
@@ -195,14 +194,6 @@ passes ks tag ts h =
     let d = first_none (cond (tag == 0x50) (is_path ts) true) _ _ b.1 in
     record { counted = a.0; ranged = b.0; shaped = d.0 }
 
-shape_kept : (v : Version) (tag : ℕ) (ks : List Field) (ts : Trees) (b : Bool) → (tag == 0x50) ≡ b → kinds v tag ≡ Ok ks → count ts ≡ length ks → are_kinds ks ts ≡ true → cond b (is_path ts) true ≡ true → cond b (is_path (form_all v ts)) true ≡ true
-shape_kept v tag ks ts false e k n r h = refl
-shape_kept v tag ks ts true e k n r h =
-    let f : kinds v 0x50 ≡ Ok (Nodes ∷ Relationships ∷ Indices ∷ []) = at_both v 0x50 _ refl in
-    let d : kinds v 0x50 ≡ Ok ks = subst (λ m. kinds v m ≡ Ok ks) (eqb-true _ _ e) k in
-    let same : ks ≡ (Nodes ∷ Relationships ∷ Indices ∷ []) = cc in
-    path_kept (form v) (form_all v) (form_maps v) ts (n ∙ ap length same) (subst (λ x. are_kinds x ts ≡ true) same r) ∙ h
-
 moment_three : (v : Version) (a b d : ℤ) → are_in_range moment_fields (three a b d) ≡ true → all_fine (fault v) (structures (moment v (three a b d))) ≡ true
 moment_three V44 a b d h =
     let e = ap (λ z. are_in_range moment_fields (three z b d)) (there_and_back a d) ∙ h in
@@ -213,33 +204,36 @@ moment_unwritten : (v : Version) (ts : Trees) → fault_of_structure v 0x49 ts �
 moment_unwritten V44 ts h = h
 moment_unwritten v ts h = h
 
-moment_fine : (v : Version) (ts : Trees) → are_kinds moment_fields ts ≡ true → fault_of_structure v 0x49 ts ≡ None → all_fine (fault v) (structures (moment v (form_all v ts))) ≡ true
-moment_fine v ts k u =
-    let p = passes moment_fields 0x49 ts (moment_unwritten v ts u) in
-    of_three (λ us. are_in_range moment_fields us ≡ true → all_fine (fault v) (structures (moment v (form_all v us))) ≡ true) (moment_three v) ts (eqb-true _ _ p.counted) k p.ranged
+-- what is read as fields that can be written has no fault
+moment_fine : (v : Version) (us : Trees) → are_kinds moment_fields (typed_all us) ≡ true
+    → fault_of_structure v 0x49 (typed_all us) ≡ None → all_fine (fault v) (structures (moment v us)) ≡ true
+moment_fine v us k u =
+    let p = passes moment_fields 0x49 (typed_all us) (moment_unwritten v (typed_all us) u) in
+    of_three (λ xs. are_in_range moment_fields xs ≡ true → all_fine (fault v) (structures (moment v xs)) ≡ true) (moment_three v) us
+    (sym (count_typed us) ∙ eqb-true _ _ p.counted) (sym (kinds_typed moment_fields us) ∙ k) (sym (ranges_typed moment_fields us) ∙ p.ranged)
 
-plain_fine : (v : Version) (tag : ℕ) (ts : Trees) (r : Result (List Field) Reason) → kinds v tag ≡ r → fault_of_structure_by r tag ts ≡ None → (tag == 0x46) ≡ false → has_kinds (row_in tag table) ts ≡ true → is_none (fault v tag (form_all v ts)) ≡ true
-plain_fine v tag ts (Err x) e u n r = absurd cc
-plain_fine v tag ts (Ok ks) e u n r =
-    let us = form_all v ts in
-    let p = passes ks tag ts u in
-    let k = table_kinds v (row_in tag table) ks ts e r in
-    let a = ap (λ m. m == length ks) (count_kept (form v) (form_all v) (form_maps v) ts) ∙ p.counted in
-    let b = kinds_kept v ks ts k in
-    let d = ap (λ c. are_in_range ks (cond c (to_utc us) us)) n ∙ ranges_kept (form v) (form_all v) (form_maps v) ks ts k ∙ p.ranged in
-    let s = shape_kept v tag ks ts (tag == 0x50) refl e (eqb-true _ _ p.counted) k p.shaped in
+plain_fine : (v : Version) (tag : ℕ) (us : Trees) (r : Result (List Field) Reason) → kinds v tag ≡ r
+    → fault_of_structure_by r tag (typed_all us) ≡ None → (tag == 0x46) ≡ false
+    → is_row (row_in tag table) (typed_all us) ≡ true → is_none (fault v tag us) ≡ true
+plain_fine v tag us (Err x) e u n r = absurd cc
+plain_fine v tag us (Ok ks) e u n r =
+    let p = passes ks tag (typed_all us) u in
+    let a = ap (λ m. m == length ks) (sym (count_typed us)) ∙ p.counted in
+    let b = sym (kinds_typed ks us) ∙ table_kinds v (row_in tag table) ks (typed_all us) e r in
+    let d = ap (λ c. are_in_range ks (cond c (to_utc us) us)) n ∙ sym (ranges_typed ks us) ∙ p.ranged in
+    let s = ap (λ x. cond (tag == 0x50) x true) (sym (path_typed us)) ∙ p.shaped in
     ap is_none (fault_is v tag us ks e ∙ wrong_is ks tag us true true true true a b d s)
 
-structure_fine : (v : Version) (tag : ℕ) (ts : Trees) (b : Bool) → (tag == 0x49) ≡ b → not (tag == 0x46) ≡ true → has_kinds (row_in tag table) ts ≡ true → fault_of_structure v tag ts ≡ None → all_fine (fault v) (structures_in (form_all v ts)) ≡ true
-    → all_fine (fault v) (structures (cond b (moment v (form_all v ts)) (structure tag (form_all v ts)))) ≡ true
-structure_fine v tag ts true e n r u i =
-    moment_fine v ts (subst (λ m. has_kinds (row_in m table) ts ≡ true) (eqb-true _ _ e) r) (subst (λ m. fault_of_structure v m ts ≡ None) (eqb-true _ _ e) u)
-structure_fine v tag ts false e n r u i =
-    both_true _ _ (plain_fine v tag ts (kinds v tag) refl (subst (λ c. fault_of_structure_by (kinds v (cond c (moment_tag v) tag)) tag ts ≡ None) e u) (not-true _ n) r) i
-
-kinds_of : (o : Option Row) (ts : Trees) → is_row o ts ≡ true → has_kinds o ts ≡ true
-kinds_of None ts h = absurd cc
-kinds_of (Some r) ts h = and_right (has_count r ts) _ h
+structure_fine : (v : Version) (tag : ℕ) (us : Trees) (b : Bool) → (tag == 0x49) ≡ b → not (tag == 0x46) ≡ true
+    → is_row (row_in tag table) (typed_all us) ≡ true → fault_of_structure v tag (typed_all us) ≡ None → all_fine (fault v) (structures_in us) ≡ true
+    → all_fine (fault v) (structures (cond b (moment v us) (structure tag us))) ≡ true
+structure_fine v tag us true e n r u i =
+    let k = subst (λ m. is_row (row_in m table) (typed_all us) ≡ true) (eqb-true _ _ e) r in
+    moment_fine v us (and_right ((count (typed_all us) == 3) || (count (typed_all us) == 3)) _ k)
+    (subst (λ m. fault_of_structure v m (typed_all us) ≡ None) (eqb-true _ _ e) u)
+structure_fine v tag us false e n r u i =
+    let w = subst (λ c. fault_of_structure_by (kinds v (cond c (moment_tag v) tag)) tag (typed_all us) ≡ None) e u in
+    both_true _ _ (plain_fine v tag us (kinds v tag) refl w (not-true _ n) r) i
 
 mutual
   pub formed : (v : Version) (t : Tree) → is_typed t ≡ true → all_fine (fault_of_structure v) (structures t) ≡ true → all_fine (fault v) (structures (form v t)) ≡ true
@@ -247,7 +241,12 @@ mutual
   formed v (dict es) k h = formed_under v es k h
   formed v (structure tag ts) k h =
       let m = and_right (not (tag == 0x46)) _ k in
-      structure_fine v tag ts (tag == 0x49) refl (and_left (not (tag == 0x46)) _ k) (kinds_of (row_in tag table) ts (and_left (is_row (row_in tag table) ts) _ m)) (fine_itself (fault_of_structure v) tag ts h) (formed_all v ts (and_right (is_row (row_in tag table) ts) _ m) (fine_within (fault_of_structure v) tag ts h))
+      let r = and_right (is_row (row_in tag table) ts) _ m in
+      let same = sym (back_all v ts r) in
+      let row = subst (λ x. is_row (row_in tag table) x ≡ true) same (and_left (is_row (row_in tag table) ts) _ m) in
+      structure_fine v tag (form_all v ts) (tag == 0x49) refl (and_left (not (tag == 0x46)) _ k) row
+      (subst (λ x. fault_of_structure v tag x ≡ None) same (fine_itself (fault_of_structure v) tag ts h))
+      (formed_all v ts r (fine_within (fault_of_structure v) tag ts h))
   formed v t k h = refl
 
   pub formed_all : (v : Version) (ts : Trees) → are_typed ts ≡ true → all_fine (fault_of_structure v) (structures_in ts) ≡ true → all_fine (fault v) (structures_in (form_all v ts)) ≡ true

@@ -1,9 +1,8 @@
 -- What the code sees of values and cells, a part at a time. Private functions and proofs alone need it.
-use Rattle.std.specs.Prelude.{◌≡◌, ℕ, suc, zero, List, ◌++◌, Bool, true, false, Option, Some, None}
+use Rattle.std.specs.Prelude.{◌≡◌, ℕ, suc, zero, List, true}
 use Rattle.packstream.specs.Tree.{Tree, null, Trees, no_trees, tree_then}
 use Rattle.wire.specs.declared.Version.{Version}
-use Rattle.cells.specs.Table.{Row}
-use Rattle.cells.specs.Faults.{are_kinds, is_text}
+use Rattle.cells.specs.Faults.{is_text}
 use Rattle.structures.specs.Form.{typed, form}
 
 -- an entry, with what its value is read as
@@ -26,8 +25,3 @@ ReadElements ts es =
 -- an entry, with its value in the form of a version
 abbrev pub form_entry : Version → List ℕ × Tree → List ℕ × Tree
 form_entry v e = (e.0, form v e.1)
-
--- The fields of a structure are of the kinds of its row, as far as both go.
-abbrev pub has_kinds : Option Row → Trees → Bool
-has_kinds None ts = false
-has_kinds (Some r) ts = are_kinds (r.fields ++ r.added) ts
