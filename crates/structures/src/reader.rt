@@ -2,7 +2,7 @@
 ghost use Rattle.std.specs.Prelude.{◌≡◌, IfOk, None, true, map};
 ghost use Rattle.packstream.specs.Tree.{structure, dict, list};
 ghost use Rattle.packstream.specs.View.{tree, trees, trees_of, entries_of, entries as seen_entries};
-ghost use Rattle.cells.specs.Faults.{fault, structures, structures_in, structures_under, is_kind, each, has_tag};
+ghost use Rattle.cells.specs.Faults.{fault, structures, structures_in, structures_under, is_kind};
 ghost use Rattle.cells.specs.Steps.{all_fine};
 ghost use Rattle.cells.specs.Shape.{shape, shapes, node_shape, unbound_shape, relationship_shape, path_shape, entries};
 ghost use Rattle.cells.specs.Table.{node_tag, relationship_tag, unbound_tag, path_tag};

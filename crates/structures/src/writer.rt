@@ -6,7 +6,7 @@ ghost use Rattle.cells.specs.Faults.{structures, structures_in, structures_under
 ghost use Rattle.cells.specs.Steps.{all_fine};
 ghost use Rattle.cells.specs.Writing.{fault_of_structure};
 ghost use Rattle.cells.specs.Shape.{shape, shapes, entries, node_shape, unbound_shape, relationship_shape, path_shape, text_of, texts_of, element_of, elements_of};
-ghost use Rattle.cells.specs.Table.{relationship_tag, path_tag, date_time_tag};
+ghost use Rattle.cells.specs.Table.{relationship_tag, date_time_tag};
 ghost use Rattle.structures.specs.Form.{form};
 ghost use Rattle.structures.specs.Steps.{form_entry};
 
@@ -137,44 +137,37 @@ pub(crate) fn value_of(alloc: Global, version: Version, cell: &Cell) -> Result<V
         Cell::Text(text) => Ok(Value::Text(text.clone()?)),
         Cell::List(members) => Ok(Value::List(values_of(alloc, version, members)?)),
         Cell::Dict(pairs) => Ok(Value::Dict(pair_values(alloc, version, pairs)?)),
-        Cell::Node(node) => Ok(node_value(alloc, version, node)?),
-        Cell::UnboundRelationship(unbound) => Ok(unbound_value(alloc, version, unbound)?),
-        Cell::Relationship(relationship) => Ok(relationship_value(alloc, version, relationship)?),
-        Cell::Path(path) => Ok(path_value(alloc, version, path)?),
-        Cell::Date { days } => Ok(of_ints(alloc, tags::DATE, &[*days])?),
-        Cell::Time { nanos, offset } => Ok(of_ints(alloc, tags::TIME, &[*nanos, *offset])?),
-        Cell::LocalTime { nanos } => Ok(of_ints(alloc, tags::LOCAL_TIME, &[*nanos])?),
-        Cell::LocalDateTime { seconds, nanos } => Ok(of_ints(
+        Cell::Node(node) => node_value(alloc, version, node),
+        Cell::UnboundRelationship(unbound) => unbound_value(alloc, version, unbound),
+        Cell::Relationship(relationship) => relationship_value(alloc, version, relationship),
+        Cell::Path(path) => path_value(alloc, version, path),
+        Cell::Date { days } => of_ints(alloc, tags::DATE, &[*days]),
+        Cell::Time { nanos, offset } => of_ints(alloc, tags::TIME, &[*nanos, *offset]),
+        Cell::LocalTime { nanos } => of_ints(alloc, tags::LOCAL_TIME, &[*nanos]),
+        Cell::LocalDateTime { seconds, nanos } => of_ints(
             alloc,
             tags::LOCAL_DATE_TIME,
             &[*seconds, *nanos],
-        )?),
-        Cell::DateTime { utc, nanos, offset } => Ok(of_moment(
-            alloc, version, *utc, *nanos, *offset,
-        )?),
+        ),
+        Cell::DateTime { utc, nanos, offset } => of_moment(alloc, version, *utc, *nanos, *offset),
         Cell::ZonedLocal {
             seconds,
             nanos,
             zone,
-        } => Ok(of_zoned(alloc, tags::LEGACY_ZONED, *seconds, *nanos, zone)?),
+        } => of_zoned(alloc, tags::LEGACY_ZONED, *seconds, *nanos, zone),
         Cell::ZonedUtc {
             seconds,
             nanos,
             zone,
-        } => Ok(of_zoned(alloc, tags::ZONED, *seconds, *nanos, zone)?),
+        } => of_zoned(alloc, tags::ZONED, *seconds, *nanos, zone),
         Cell::Duration {
             months,
             days,
             seconds,
             nanos,
-        } => Ok(of_ints(alloc, tags::DURATION, &[*months, *days, *seconds, *nanos])?),
-        Cell::Point2D { srid, x, y } => Ok(of_point(alloc, tags::POINT_2D, *srid, &[*x, *y])?),
-        Cell::Point3D { srid, x, y, z } => Ok(of_point(
-            alloc,
-            tags::POINT_3D,
-            *srid,
-            &[*x, *y, *z],
-        )?),
+        } => of_ints(alloc, tags::DURATION, &[*months, *days, *seconds, *nanos]),
+        Cell::Point2D { srid, x, y } => of_point(alloc, tags::POINT_2D, *srid, &[*x, *y]),
+        Cell::Point3D { srid, x, y, z } => of_point(alloc, tags::POINT_3D, *srid, &[*x, *y, *z]),
     }
 }
 
@@ -219,14 +212,12 @@ fn node_value(alloc: Global, version: Version, node: &Node) -> Result<Value, All
     requires { all_fine (fault_of_structure version) (structures (node_shape node.now)) ≡ true }
     ensures { IfOk result (λ w. tree w ≡ form version (node_shape node.now)) }
 {
-    let labels = list_of_texts(alloc, &node.labels)?;
-    let properties = pair_values(alloc, version, &node.properties)?;
     Ok(of_named(
         alloc,
         tags::NODE,
         Value::Int(node.id),
-        labels,
-        Value::Dict(properties),
+        list_of_texts(alloc, &node.labels)?,
+        Value::Dict(pair_values(alloc, version, &node.properties)?),
         &node.element_id,
     )?)
 }
@@ -241,14 +232,12 @@ fn unbound_value(
         ≡ true }
     ensures { IfOk result (λ w. tree w ≡ form version (unbound_shape unbound.now)) }
 {
-    let kind = Value::Text(unbound.kind.clone()?);
-    let properties = pair_values(alloc, version, &unbound.properties)?;
     Ok(of_named(
         alloc,
         tags::UNBOUND_RELATIONSHIP,
         Value::Int(unbound.id),
-        kind,
-        Value::Dict(properties),
+        Value::Text(unbound.kind.clone()?),
+        Value::Dict(pair_values(alloc, version, &unbound.properties)?),
         &unbound.element_id,
     )?)
 }
@@ -280,24 +269,19 @@ fn of_bound(
                 properties,
             ]?,
         )),
-        Some(ids) => {
-            let own = Value::Text(ids.own.clone()?);
-            let first = Value::Text(ids.start.clone()?);
-            let last = Value::Text(ids.end.clone()?);
-            Ok(Value::Struct(
-                tags::RELATIONSHIP,
-                vec![in alloc;
-                    Value::Int(id),
-                    Value::Int(start),
-                    Value::Int(end),
-                    kind,
-                    properties,
-                    own,
-                    first,
-                    last,
-                ]?,
-            ))
-        }
+        Some(ids) => Ok(Value::Struct(
+            tags::RELATIONSHIP,
+            vec![in alloc;
+                Value::Int(id),
+                Value::Int(start),
+                Value::Int(end),
+                kind,
+                properties,
+                Value::Text(ids.own.clone()?),
+                Value::Text(ids.start.clone()?),
+                Value::Text(ids.end.clone()?),
+            ]?,
+        )),
     }
 }
 
@@ -311,30 +295,15 @@ fn relationship_value(
         (structures (relationship_shape relationship.now)) ≡ true }
     ensures { IfOk result (λ w. tree w ≡ form version (relationship_shape relationship.now)) }
 {
-    let kind = Value::Text(relationship.kind.clone()?);
-    let properties = pair_values(alloc, version, &relationship.properties)?;
     Ok(of_bound(
         alloc,
         relationship.id,
         relationship.start,
         relationship.end,
-        kind,
-        Value::Dict(properties),
+        Value::Text(relationship.kind.clone()?),
+        Value::Dict(pair_values(alloc, version, &relationship.properties)?),
         &relationship.element_ids,
     )?)
-}
-
-fn of_path(
-    alloc: Global,
-    nodes: Value,
-    relationships: Value,
-    steps: Value,
-) -> Result<Value, AllocError>
-    ensures { IfOk result (λ w. tree w
-        ≡ structure path_tag (tree_then (tree nodes)
-        (tree_then (tree relationships) (tree_then (tree steps) no_trees)))) }
-{
-    Ok(Value::Struct(tags::PATH, vec![in alloc; nodes, relationships, steps]?))
 }
 
 #[cycle(write)]
@@ -345,7 +314,7 @@ fn path_value(alloc: Global, version: Version, path: &Path) -> Result<Value, All
     let places = Value::List(node_values(alloc, version, &path.nodes)?);
     let ways = Value::List(unbound_values(alloc, version, &path.relationships)?);
     let steps = Value::List(int_values(alloc, &path.indices)?);
-    Ok(of_path(alloc, places, ways, steps)?)
+    Ok(of_named(alloc, tags::PATH, places, ways, steps, &None)?)
 }
 
 #[cycle(write)]

@@ -28,13 +28,13 @@ pub node_value-returns : goal.node_value-returns
 node_value-returns t c =
     let n = c.args.node.now in
     let z : to_z w64 (of_z w64 n.id) ≡ n.id = search rules in
-    c.in_ok-of_named.ensures ∙ node_written c.args.version n.id n.labels.items n.properties.items n.element_id _ _ _ (tree-Int _ ∙ ap int z) c.in_ok-labels.ensures (tree-Dict c.in_ok-properties.properties ∙ ap (λ es. dict (entries_of es)) c.in_ok-properties.ensures) ∙ ap (form c.args.version) (sym (node-out n))
+    c.in_ok-of_named.ensures ∙ node_written c.args.version n.id n.labels.items n.properties.items n.element_id _ _ _ (tree-Int _ ∙ ap int z) c.in_ok-list_of_texts.ensures (tree-Dict c.in_ok-pair_values.field-0 ∙ ap (λ es. dict (entries_of es)) c.in_ok-pair_values.ensures) ∙ ap (form c.args.version) (sym (node-out n))
 
 pub unbound_value-returns : goal.unbound_value-returns
 unbound_value-returns t c =
     let n = c.args.unbound.now in
     let z : to_z w64 (of_z w64 n.id) ≡ n.id = search rules in
-    c.in_ok-of_named.ensures ∙ unbound_written c.args.version n.id n.kind n.properties.items n.element_id _ _ _ (tree-Int _ ∙ ap int z) (search (rules, value_lemmas)) (tree-Dict c.in_ok-properties.properties ∙ ap (λ es. dict (entries_of es)) c.in_ok-properties.ensures) ∙ ap (form c.args.version) (sym (unbound-out n))
+    c.in_ok-of_named.ensures ∙ unbound_written c.args.version n.id n.kind n.properties.items n.element_id _ _ _ (tree-Int _ ∙ ap int z) (search (rules, value_lemmas)) (tree-Dict c.in_ok-pair_values.field-0 ∙ ap (λ es. dict (entries_of es)) c.in_ok-pair_values.ensures) ∙ ap (form c.args.version) (sym (unbound-out n))
 
 pub relationship_value-returns : goal.relationship_value-returns
 relationship_value-returns t c =
@@ -42,12 +42,12 @@ relationship_value-returns t c =
     let z0 : to_z w64 (of_z w64 n.id) ≡ n.id = search rules in
     let z1 : to_z w64 (of_z w64 n.start) ≡ n.start = search rules in
     let z2 : to_z w64 (of_z w64 n.end) ≡ n.end = search rules in
-    rw (z0, z1, z2) at c.in_ok-of_bound.ensures ∙ relationship_written c.args.version n.id n.start n.end n.kind n.properties.items n.element_ids _ _ (search (rules, value_lemmas)) (tree-Dict c.in_ok-properties.properties ∙ ap (λ es. dict (entries_of es)) c.in_ok-properties.ensures) ∙ ap (form c.args.version) (sym (relationship-out n))
+    rw (z0, z1, z2) at c.in_ok-of_bound.ensures ∙ relationship_written c.args.version n.id n.start n.end n.kind n.properties.items n.element_ids _ _ (search (rules, value_lemmas)) (tree-Dict c.in_ok-pair_values.field-0 ∙ ap (λ es. dict (entries_of es)) c.in_ok-pair_values.ensures) ∙ ap (form c.args.version) (sym (relationship-out n))
 
 pub path_value-returns : goal.path_value-returns
 path_value-returns t c =
     let w = out-Path c.args.path.now in
-    c.in_ok-of_path.ensures ∙ path_written c.args.version (map node_shape w.nodes.items) (map unbound_shape w.relationships.items) w.indices.items _ _ _ (tree-List _ ∙ ap (λ (ts : List Tree). list (trees_of ts)) c.in_ok-node_values.ensures) (tree-List _ ∙ ap (λ (ts : List Tree). list (trees_of ts)) c.in_ok-unbound_values.ensures) (tree-List _ ∙ ap (λ (ts : List Tree). list (trees_of ts)) c.in_ok-int_values.ensures ∙ ap (λ (zs : List ℤ). list (trees_of (map int zs))) c.deref.ensures.value) ∙ ap (form c.args.version) (sym (path-out c.args.path.now))
+    c.in_ok-of_named.ensures ∙ path_written c.args.version (map node_shape w.nodes.items) (map unbound_shape w.relationships.items) w.indices.items _ _ _ (tree-List _ ∙ ap (λ (ts : List Tree). list (trees_of ts)) c.in_ok-node_values.ensures) (tree-List _ ∙ ap (λ (ts : List Tree). list (trees_of ts)) c.in_ok-unbound_values.ensures) (tree-List _ ∙ ap (λ (ts : List Tree). list (trees_of ts)) c.in_ok-int_values.ensures ∙ ap (λ (zs : List ℤ). list (trees_of (map int zs))) c.deref.ensures.value) ∙ ap (form c.args.version) (sym (path-out c.args.path.now))
 
 pub value_of-pair_values-requires : goal.value_of-pair_values-requires
 value_of-pair_values-requires t c = (search (rules, the_lemmas), sym (ap (λ (u : Tree). all_fine (fault_of_structure c.args.version) (structures u)) (ap shape c.in-Dict.is ∙ shape-Dict c.in-Dict.pairs)) ∙ c.requires)
