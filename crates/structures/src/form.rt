@@ -61,60 +61,20 @@ fn fit_elements(
 }
 
 #[cycle(fitting)]
-#[tactic(auto, using(crate::proofs::Fitted::fit_list_is, crate::proofs::Fitted::fit_dict_is, crate::proofs::Fitted::fit_node_case, crate::proofs::Fitted::fit_relationship_case, crate::proofs::Fitted::fit_unbound_case, crate::proofs::Fitted::fit_path_case))]
+#[tactic(auto, using(crate::proofs::Fitted::fit_list_is, crate::proofs::Fitted::fit_dict_is))]
 fn fit_cell(alloc: Global, version: Version, cell: &mut Cell) -> Result<(), AllocError>
     ensures { IfOk result (λ _. shape cell.new ≡ fitted version (shape cell.old)) }
 {
     match cell {
         Cell::List(members) => fit_members(alloc, version, members)?,
         Cell::Dict(pairs) => fit_pairs(alloc, version, pairs)?,
-        Cell::Node(node) => fit_boxed_node(alloc, version, node)?,
-        Cell::Relationship(relationship) => fit_boxed_relationship(alloc, version, relationship)?,
-        Cell::UnboundRelationship(unbound) => fit_boxed_unbound(alloc, version, unbound)?,
-        Cell::Path(path) => fit_boxed_path(alloc, version, path)?,
+        Cell::Node(node) => fit_node(alloc, version, node)?,
+        Cell::Relationship(relationship) => fit_relationship(alloc, version, relationship)?,
+        Cell::UnboundRelationship(unbound) => fit_unbound(alloc, version, unbound)?,
+        Cell::Path(path) => fit_path(alloc, version, path)?,
         _ => {}
     }
     Ok(())
-}
-
-#[cycle(fitting)]
-fn fit_boxed_node(alloc: Global, version: Version, node: &mut Box<Node>) -> Result<(), AllocError>
-    ensures { IfOk result (λ _. node_shape node.new.value
-        ≡ fitted version (node_shape node.old.value)) }
-{
-    fit_node(alloc, version, node)
-}
-
-#[cycle(fitting)]
-fn fit_boxed_relationship(
-    alloc: Global,
-    version: Version,
-    relationship: &mut Box<Relationship>,
-) -> Result<(), AllocError>
-    ensures { IfOk result (λ _. relationship_shape relationship.new.value
-        ≡ fitted version (relationship_shape relationship.old.value)) }
-{
-    fit_relationship(alloc, version, relationship)
-}
-
-#[cycle(fitting)]
-fn fit_boxed_unbound(
-    alloc: Global,
-    version: Version,
-    unbound: &mut Box<UnboundRelationship>,
-) -> Result<(), AllocError>
-    ensures { IfOk result (λ _. unbound_shape unbound.new.value
-        ≡ fitted version (unbound_shape unbound.old.value)) }
-{
-    fit_unbound(alloc, version, unbound)
-}
-
-#[cycle(fitting)]
-fn fit_boxed_path(alloc: Global, version: Version, path: &mut Box<Path>) -> Result<(), AllocError>
-    ensures { IfOk result (λ _. path_shape path.new.value
-        ≡ fitted version (path_shape path.old.value)) }
-{
-    fit_path(alloc, version, path)
 }
 
 #[cycle(fitting)]
