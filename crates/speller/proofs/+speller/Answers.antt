@@ -10,52 +10,46 @@ use Rattle.cells.specs.Prelude.{shape, entries, node_shape, unbound_shape, texts
 use Rattle.cells.proofs.Views.{node-out, unbound-out, relationship-out, path-out}
 use Rattle.structures.specs.Prelude.{form, form_all}
 use Rattle.speller.specs.Ready.{IsReady, AreReady}
-use Rattle.speller.proofs.Flat.{Pair, flat, flats, pair_bytes, flat_more, flats_more, ready_more, readys_more, fine_more, fines_more, new_forms, len_forms}
+use Rattle.speller.proofs.Flat.{Pair, flat, taken, put_more, flat_last, flats_last, ready_last, readys_last, fine_last, fines_last, new_forms, len_forms}
 use Rattle.speller.proofs.Pieces.{node_put, unbound_put, relationship_put, path_put, node_ready, unbound_ready, relationship_ready, path_ready}
 use Rattle.speller.proofs.+speller.Goals as goal
 
 pub spelling::put_members-loop-member-preserved : goal.spelling::put_members-loop-member-preserved
 spelling::put_members-loop-member-preserved t c =
-    let v = c.args.version in
-    let its : List ℕ = canon (form v (shape c.member-item.result)) in
-    let done : List ℕ = flat v shape (take c.loop-member.member-index c.args.members.now) in (
+    let xs = take c.loop-member.member-index c.args.members.now in
+    rw (taken _ _ _ c.loop-member-test.true c.member-item.is) (
       c.put_member.ensures.before ∙ c.loop-member.invariant.0,
-      c.in_ok-put_member.ensures.spelled ∙ ap (λ (x : List ℕ). x ++ its) c.loop-member.invariant.1 ∙ append_assoc c.args.out.now.more done its ∙ ap (λ (x : List ℕ). c.args.out.now.more ++ x) (sym (flat_more v shape c.args.members.now c.loop-member.member-index c.member-item.result c.loop-member-test.true c.member-item.is)),
-      ready_more v c.args.room shape c.args.members.now c.loop-member.member-index c.member-item.result c.loop-member-test.true c.member-item.is c.loop-member.invariant.2 c.in_ok-put_member.ensures.ready,
-      λ u. fine_more v shape c.args.members.now c.loop-member.member-index c.member-item.result c.loop-member-test.true c.member-item.is (c.loop-member.invariant.3 u) (c.in_ok-put_member.ensures.fine u),
+      put_more _ _ _ _ _ _ c.loop-member.invariant.1 c.in_ok-put_member.ensures.spelled (flat_last c.args.version shape xs c.member-item.result),
+      ready_last c.args.version c.args.room shape xs c.member-item.result c.loop-member.invariant.2 c.in_ok-put_member.ensures.ready,
+      λ u. fine_last c.args.version shape xs c.member-item.result (c.loop-member.invariant.3 u) (c.in_ok-put_member.ensures.fine u),
     )
 
 pub spelling::put_pairs-loop-pair-preserved : goal.spelling::put_pairs-loop-pair-preserved
 spelling::put_pairs-loop-pair-preserved t c =
-    let v = c.args.version in
-    let its : List ℕ = pair_bytes v c.pair-item.result in
-    let done : List ℕ = flats v (take c.loop-pair.pair-index c.args.pairs.now) in (
+    let xs = take c.loop-pair.pair-index c.args.pairs.now in
+    rw (taken _ _ _ c.loop-pair-test.true c.pair-item.is) (
       c.put_pair.ensures.before ∙ c.loop-pair.invariant.0,
-      c.in_ok-put_pair.ensures.spelled ∙ ap (λ (x : List ℕ). x ++ its) c.loop-pair.invariant.1 ∙ append_assoc c.args.out.now.more done its ∙ ap (λ (x : List ℕ). c.args.out.now.more ++ x) (sym (flats_more v c.args.pairs.now c.loop-pair.pair-index c.pair-item.result c.loop-pair-test.true c.pair-item.is)),
-      readys_more v c.args.room c.args.pairs.now c.loop-pair.pair-index c.pair-item.result c.loop-pair-test.true c.pair-item.is c.loop-pair.invariant.2 c.put_pair.ensures.utf8 c.in_ok-put_pair.ensures.ready,
-      λ u. fines_more v c.args.pairs.now c.loop-pair.pair-index c.pair-item.result c.loop-pair-test.true c.pair-item.is (c.loop-pair.invariant.3 u) (c.in_ok-put_pair.ensures.fine u),
+      put_more _ _ _ _ _ _ c.loop-pair.invariant.1 c.in_ok-put_pair.ensures.spelled (flats_last c.args.version xs c.pair-item.result),
+      readys_last c.args.version c.args.room xs c.pair-item.result c.loop-pair.invariant.2 c.put_pair.ensures.utf8 c.in_ok-put_pair.ensures.ready,
+      λ u. fines_last c.args.version xs c.pair-item.result (c.loop-pair.invariant.3 u) (c.in_ok-put_pair.ensures.fine u),
     )
 
 pub graphs::put_nodes-loop-node-preserved : goal.graphs::put_nodes-loop-node-preserved
 graphs::put_nodes-loop-node-preserved t c =
-    let v = c.args.version in
-    let its : List ℕ = canon (form v (node_shape c.node-item.result)) in
-    let start : List ℕ = c.args.out.now.more ++ head 0x90 0xD4 (length c.args.nodes.now) in
-    let done : List ℕ = flat v node_shape (take c.loop-node.node-index c.args.nodes.now) in (
+    let xs = take c.loop-node.node-index c.args.nodes.now in
+    rw (taken _ _ _ c.loop-node-test.true c.node-item.is) (
       c.put_node.ensures.before ∙ c.loop-node.invariant.0,
-      c.in_ok-put_node.ensures.spelled ∙ ap (λ (x : List ℕ). x ++ its) c.loop-node.invariant.1 ∙ append_assoc start done its ∙ ap (λ (x : List ℕ). start ++ x) (sym (flat_more v node_shape c.args.nodes.now c.loop-node.node-index c.node-item.result c.loop-node-test.true c.node-item.is)),
-      ready_more v c.args.room node_shape c.args.nodes.now c.loop-node.node-index c.node-item.result c.loop-node-test.true c.node-item.is c.loop-node.invariant.2 c.in_ok-put_node.ensures.ready,
+      put_more _ _ _ _ _ _ c.loop-node.invariant.1 c.in_ok-put_node.ensures.spelled (flat_last c.args.version node_shape xs c.node-item.result),
+      ready_last c.args.version c.args.room node_shape xs c.node-item.result c.loop-node.invariant.2 c.in_ok-put_node.ensures.ready,
     )
 
 pub graphs::put_unbounds-loop-unbound-preserved : goal.graphs::put_unbounds-loop-unbound-preserved
 graphs::put_unbounds-loop-unbound-preserved t c =
-    let v = c.args.version in
-    let its : List ℕ = canon (form v (unbound_shape c.unbound-item.result)) in
-    let start : List ℕ = c.args.out.now.more ++ head 0x90 0xD4 (length c.args.unbounds.now) in
-    let done : List ℕ = flat v unbound_shape (take c.loop-unbound.unbound-index c.args.unbounds.now) in (
+    let xs = take c.loop-unbound.unbound-index c.args.unbounds.now in
+    rw (taken _ _ _ c.loop-unbound-test.true c.unbound-item.is) (
       c.put_unbound.ensures.before ∙ c.loop-unbound.invariant.0,
-      c.in_ok-put_unbound.ensures.spelled ∙ ap (λ (x : List ℕ). x ++ its) c.loop-unbound.invariant.1 ∙ append_assoc start done its ∙ ap (λ (x : List ℕ). start ++ x) (sym (flat_more v unbound_shape c.args.unbounds.now c.loop-unbound.unbound-index c.unbound-item.result c.loop-unbound-test.true c.unbound-item.is)),
-      ready_more v c.args.room unbound_shape c.args.unbounds.now c.loop-unbound.unbound-index c.unbound-item.result c.loop-unbound-test.true c.unbound-item.is c.loop-unbound.invariant.2 c.in_ok-put_unbound.ensures.ready,
+      put_more _ _ _ _ _ _ c.loop-unbound.invariant.1 c.in_ok-put_unbound.ensures.spelled (flat_last c.args.version unbound_shape xs c.unbound-item.result),
+      ready_last c.args.version c.args.room unbound_shape xs c.unbound-item.result c.loop-unbound.invariant.2 c.in_ok-put_unbound.ensures.ready,
     )
 
 pub graphs::put_node-returns-clause-spelled : goal.graphs::put_node-returns-clause-spelled
