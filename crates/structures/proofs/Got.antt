@@ -132,8 +132,8 @@ abbrev pub IsUtc : ℤ → ℤ → Type 0
 IsUtc s o = (neg_ℤ (pos 100000000000000000) ≤ℤ (s -ℤ o)) × ((s -ℤ o) ≤ℤ pos 100000000000000000)
 
 -- a structure without local seconds, by its fields
-pub plain_is : (v : Version) (tag k : ℕ) (ts us : Trees) (ks : List Field) (stands : Version → Bool) → tag ≡ k → row_in k table ≡ Some (row k stands ks []) → (k == 0x46) ≡ false → fault v tag ts ≡ None → count us ≡ length ks → Got 0 ks us ts → structure k us ≡ typed (structure tag ts)
-plain_is v tag k ts us ks stands is e other h n g =
+pub plain_is : (v : Version) (tag k : ℕ) (ks : List Field) (stands : Version → Bool) (ts us : Trees) → tag ≡ k → row_in k table ≡ Some (row k stands ks []) → (k == 0x46) ≡ false → fault v tag ts ≡ None → count us ≡ length ks → Got 0 ks us ts → structure k us ≡ typed (structure tag ts)
+plain_is v tag k ks stands ts us is e other h n g =
     let f = fine_at v tag k ts is h in
     let same : structure k (typed_all ts) ≡ typed (structure k ts) = rw other refl in
     ap (λ (x : Trees). structure k x) (read_by v k ts us ks (at_fine v k stands ks ts e f) f n g) ∙ same ∙ ap (λ (m : ℕ). typed (structure m ts)) (sym is)

@@ -1,10 +1,11 @@
 use Rattle.std.proofs.Common.{◌≡◌, ℕ, ◌-ℤ◌, ◌∷◌, [], Option, Some, None, refl, sym, ap, ◌∙◌, rules, arith, ne_eqb, to_z, of_z, w64}
 use Rattle.std.proofs.lemmas.Int.{ints}
-use Rattle.packstream.specs.Prelude.{int, float, Trees, no_trees, tree_then, trees, trees_of}
+use Rattle.packstream.specs.Prelude.{Trees, trees, trees_of}
 use Rattle.wire.specs.declared.Version.{Version}
+use Rattle.wire.specs.Versions.{every_version, has_utc_times, lacks}
 use Rattle.cells.specs.declared.table.Field.TheVariants.{Integer, Nanosecond, Float, Text}
 use Rattle.cells.specs.declared.fault.Reason.TheVariants.{UnknownTag}
-use Rattle.cells.specs.Prelude.{Row, row_in, table, fields_of, fault, fault_by, text_of}
+use Rattle.cells.specs.Prelude.{Row, row_in, table, fields_of, fault, fault_by}
 use Rattle.cells.proofs.Views.{shape-DateTime, shape-ZonedLocal, shape-ZonedUtc, shape-Duration, shape-Point2D, shape-Point3D}
 use Rattle.structures.proofs.Got.{plain_is, local_is}
 use Rattle.structures.proofs.plain.plain_of.Goals as goal
@@ -25,45 +26,28 @@ returns-in-70 c =
 
 pub returns-in_ok-text_at-in-102 : goal.returns-in_ok-text_at-in-102
 returns-in_ok-text_at-in-102 c =
-    let p = plain_is c.args.version c.args.tag 0x66 (trees_of (trees c.args.fields.now))
-    (tree_then (int c.int_at-in-102.result) (tree_then (int c.int_at-in-102-2.result)
-    (tree_then (text_of c.in_ok-text_at-in-102.field-0) no_trees))) (Integer ∷ Nanosecond ∷ Text ∷ []) _
-    c.in-102.is refl refl c.requires.fine refl (c.int_at-in-102.ensures, (c.int_at-in-102-2.ensures, (c.in_ok-text_at-in-102.ensures, tt))) in
-    search (rules, shape-ZonedLocal, p)
+    let p = plain_is c.args.version c.args.tag 0x66 (Integer ∷ Nanosecond ∷ Text ∷ []) (lacks has_utc_times) in
+    search (rules, shape-ZonedLocal, p, c.int_at-in-102.ensures, c.int_at-in-102-2.ensures, c.in_ok-text_at-in-102.ensures)
 
 pub returns-in_ok-text_at-in-105 : goal.returns-in_ok-text_at-in-105
 returns-in_ok-text_at-in-105 c =
-    let p = plain_is c.args.version c.args.tag 0x69 (trees_of (trees c.args.fields.now))
-    (tree_then (int c.int_at-in-105.result) (tree_then (int c.int_at-in-105-2.result)
-    (tree_then (text_of c.in_ok-text_at-in-105.field-0) no_trees))) (Integer ∷ Nanosecond ∷ Text ∷ []) _
-    c.in-105.is refl refl c.requires.fine refl (c.int_at-in-105.ensures, (c.int_at-in-105-2.ensures, (c.in_ok-text_at-in-105.ensures, tt))) in
-    search (rules, shape-ZonedUtc, p)
+    let p = plain_is c.args.version c.args.tag 0x69 (Integer ∷ Nanosecond ∷ Text ∷ []) has_utc_times in
+    search (rules, shape-ZonedUtc, p, c.int_at-in-105.ensures, c.int_at-in-105-2.ensures, c.in_ok-text_at-in-105.ensures)
 
 pub returns-in-69 : goal.returns-in-69
 returns-in-69 c =
-    let p = plain_is c.args.version c.args.tag 0x45 (trees_of (trees c.args.fields.now))
-    (tree_then (int c.int_at-in-69.result) (tree_then (int c.int_at-in-69-2.result)
-    (tree_then (int c.int_at-in-69-3.result) (tree_then (int c.int_at-in-69-4.result) no_trees)))) (Integer ∷ Integer ∷ Integer ∷ Nanosecond ∷ []) _
-    c.in-69.is refl refl c.requires.fine refl
-    (c.int_at-in-69.ensures, (c.int_at-in-69-2.ensures, (c.int_at-in-69-3.ensures, (c.int_at-in-69-4.ensures, tt)))) in
-    search (rules, shape-Duration, p)
+    let p = plain_is c.args.version c.args.tag 0x45 (Integer ∷ Integer ∷ Integer ∷ Nanosecond ∷ []) every_version in
+    search (rules, shape-Duration, p, c.int_at-in-69.ensures, c.int_at-in-69-2.ensures, c.int_at-in-69-3.ensures, c.int_at-in-69-4.ensures) depth 7
 
 pub returns-in-88 : goal.returns-in-88
 returns-in-88 c =
-    let p = plain_is c.args.version c.args.tag 0x58 (trees_of (trees c.args.fields.now))
-    (tree_then (int c.int_at-in-88.result) (tree_then (float c.float_at.result)
-    (tree_then (float c.float_at-in-88.result) no_trees))) (Integer ∷ Float ∷ Float ∷ []) _
-    c.in-88.is refl refl c.requires.fine refl (c.int_at-in-88.ensures, (c.float_at.ensures, (c.float_at-in-88.ensures, tt))) in
-    search (rules, shape-Point2D, p)
+    let p = plain_is c.args.version c.args.tag 0x58 (Integer ∷ Float ∷ Float ∷ []) every_version in
+    search (rules, shape-Point2D, p, c.int_at-in-88.ensures, c.float_at.ensures, c.float_at-in-88.ensures)
 
 pub returns-in-89 : goal.returns-in-89
 returns-in-89 c =
-    let p = plain_is c.args.version c.args.tag 0x59 (trees_of (trees c.args.fields.now))
-    (tree_then (int c.int_at-in-89.result) (tree_then (float c.float_at-in-89.result)
-    (tree_then (float c.float_at-in-89-2.result) (tree_then (float c.float_at-in-89-3.result) no_trees)))) (Integer ∷ Float ∷ Float ∷ Float ∷ []) _
-    c.in-89.is refl refl c.requires.fine refl
-    (c.int_at-in-89.ensures, (c.float_at-in-89.ensures, (c.float_at-in-89-2.ensures, (c.float_at-in-89-3.ensures, tt)))) in
-    search (rules, shape-Point3D, p)
+    let p = plain_is c.args.version c.args.tag 0x59 (Integer ∷ Float ∷ Float ∷ Float ∷ []) every_version in
+    search (rules, shape-Point3D, p, c.int_at-in-89.ensures, c.float_at-in-89.ensures, c.float_at-in-89-2.ensures, c.float_at-in-89-3.ensures) depth 7
 
 -- the table has no further row
 no_row : (v : Version) (tag : ℕ) (ts : Trees) → row_in tag table ≡ None → fault v tag ts ≡ None → ⊥
