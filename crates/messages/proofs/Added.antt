@@ -1,5 +1,5 @@
 -- A message that is written without a value: bytes that were added one after the other are its spelling.
-use Rattle.std.proofs.Common.{◌≡◌, ◌≤◌, ◌<◌, ◌+◌, ℕ, ℤ, pos, int_le, false, true, Bool, List, [], ◌∷◌, ◌++◌, length, Option, Result, Ok, Err, codes, refl, ap, sym, subst, ◌∙◌, append_assoc, arith, FitsSigned, w64, IsUtf8}
+use Rattle.std.proofs.Common.{◌≡◌, ◌≤◌, ◌<◌, ◌+◌, ℕ, ℤ, pos, int_le, false, true, Bool, List, [], ◌∷◌, ◌++◌, length, Result, Ok, Err, codes, refl, ap, sym, subst, ◌∙◌, append_assoc, arith, FitsSigned, w64, IsUtf8}
 use Rattle.std.proofs.lemmas.List.{append-nil, length-append}
 use Rattle.packstream.specs.declared.fault.Reason.{Reason as PackReason}
 use Rattle.packstream.specs.Prelude.{Tree, int, text, list, dict, structure, Trees, no_trees, tree_then, Entries, no_entries, entry_then, head, text_bytes, canon, IsGood, depth, first_fault, faults_in, entries_of}
@@ -13,7 +13,7 @@ use Rattle.messages.specs.declared.request.Mode.TheVariants.{Read, Write}
 use Rattle.messages.specs.declared.request.Count.{Count}
 use Rattle.messages.specs.declared.request.Count.TheVariants.{All, Of}
 use Rattle.messages.specs.declared.fault.MsgFault.{MsgFault}
-use Rattle.messages.specs.Prelude.{Row, Run, ◌>>=◌, request_contents, count_tree, contents_of_message, Contents, cell_put, Means, with_dict, transaction_put, rows_put, mode_pairs, count_number, packed_by, spelling_within, spelling_of_tree, form_put, Adds, AddsEntries, AddsCells}
+use Rattle.messages.specs.Prelude.{Row, ◌>>=◌, count_tree, contents_of_message, Contents, cell_put, Means, with_dict, rows_put, mode_pairs, count_number, packed_by, spelling_within, spelling_of_tree, form_put, Adds, AddsEntries, AddsCells}
 use Rattle.messages.proofs.Fields.{put_value, put_formed}
 use Rattle.messages.proofs.Sent.{sized_fits, means_of}
 
@@ -48,14 +48,6 @@ put_itself v t g h = put_value v t t (good_form v t g h)
 -- Pieces.
 pub three : (old h x y : List ℕ) → old ++ h ++ x ++ y ≡ old ++ (h ++ (x ++ y))
 three old h x y = append_assoc (old ++ h) x y ∙ append_assoc old h (x ++ y)
-
--- the head of a structure, then its three fields
-pub three_fields : (tag : ℕ) (t u w : Tree) (old a b c new : List ℕ) → a ≡ old ++ 0xB3 ∷ tag ∷ [] → b ≡ a ++ canon t → c ≡ b ++ canon u → new ≡ c ++ canon w
-    → new ≡ old ++ canon (structure tag (tree_then t (tree_then u (tree_then w no_trees))))
-three_fields tag t u w old a b c new p q r s = s ∙ ap (λ x. x ++ canon w) (r ∙ ap (λ x. x ++ canon u) (q ∙ ap (λ x. x ++ canon t) p))
-    ∙ append_assoc (old ++ 0xB3 ∷ tag ∷ [] ++ canon t) (canon u) (canon w)
-    ∙ three old (0xB3 ∷ tag ∷ []) (canon t) (canon u ++ canon w)
-    ∙ ap (λ x. old ++ (0xB3 ∷ tag ∷ (canon t ++ (canon u ++ x)))) (sym (append-nil (canon w)))
 
 -- the head of a dictionary, then its only entry
 pub one_entry : (k : List ℕ) (t : Tree) (old a b new : List ℕ) → a ≡ old ++ 0xA1 ∷ [] → b ≡ a ++ text_bytes k → new ≡ b ++ canon t → new ≡ old ++ canon (dict (entry_then k t no_entries))
@@ -100,16 +92,6 @@ cells_added v s tag t u old mid new h is e a b g d n = subst (λ x. Adds (form_p
 -- cells that can be written are added in their form
 pub formed_cells : (v : Version) (t u : Tree) (old new : List ℕ) → t ≡ u → new ≡ old ++ canon (form v t) → IsGood (form v t) → depth (form v t) ≤ 31 → IsWritable v t → AddsCells v u old new
 formed_cells v t u old new e a g d w = subst (λ x. AddsCells v x old new) e (record { value = form v t; is = put_formed v t w g; good = g; deep = d; added = a })
-
--- A RUN.
-pub run_added : (v : Version) (s : List ℕ) (ps : List (List ℕ × Tree)) (m : Mode) (token : Option (List ℕ)) (old a b c new : List ℕ) → a ≡ old ++ 0xB3 ∷ 0x10 ∷ [] → b ≡ a ++ text_bytes s → IsUtf8 s
-    → AddsCells v (dict (entries_of ps)) b c → AddsEntries (transaction_put m token) c new → Adds (form_put v (request_contents (Run s ps m token))) old new
-run_added v s ps m token old a b c new p q u r t = record {
-  value = structure 0x10 (tree_then (text s) (tree_then r.value (tree_then (dict t.entries) no_trees)));
-  is = rw (t.is, r.is) refl;
-  good = run_good s r.value (dict t.entries) u r.good r.deep t.good t.deep;
-  added = three_fields 0x10 (text s) r.value (dict t.entries) old a b c new p q r.added t.added;
-}
 
 -- Entries.
 by_test : (z : ℤ) (b : Bool) → int_le (pos 1) z ≡ b → rows_put (Of z) ≡ (count_number (int z) >>= λ t. Ok (entry_then (codes "n") t no_entries))

@@ -3,7 +3,7 @@ ghost use Rattle.std.specs.Prelude.{◌≡◌, codes, Some, ◌∷◌, []};
 ghost use Rattle.packstream.specs.Tree.{Tree};
 ghost use Rattle.packstream.specs.View.{tree};
 ghost use Rattle.cells.specs.Shape.{shape, text_of};
-ghost use Rattle.messages.specs.Reading.{Answers, lookup, contents_of_text, contents_of_mode, contents_of_count, contents_of_query, contents_of_token, contents_of_metadata, contents_of_named, is_token, token_tree, mode_tree, count_tree, login_trees, all_named, contents_of_extra, request_contents, response_contents};
+ghost use Rattle.messages.specs.Reading.{Answers, lookup, contents_of_text, contents_of_mode, contents_of_count, contents_of_token, contents_of_named, is_token, token_tree, mode_tree, count_tree, login_trees, all_named, contents_of_extra, request_contents, response_contents};
 ghost use Rattle.messages.specs.Parts.{contents_of_login, contents_of_dict, entries_seen, IsKind};
 ghost use Rattle.messages.specs.Table.{refused, how_many, hello, of_transaction, of_error, HELLO, FAILURE};
 ghost use Rattle.messages.specs.View.{auth_view as login, token_view, request_view, response_view};
@@ -125,18 +125,6 @@ fn token_among<T: Item>(words: &[(String, T)]) -> Result<Option<String>, MsgFaul
     }
 }
 
-/// The token of a transaction, none if it is absent.
-fn token_in<T: Item>(pairs: &[(String, T)]) -> Result<Option<String>, MsgFault>
-    ensures { Answers (λ t. token_tree (token_view t) ∷ []) result
-        (contents_of_metadata (lookup (codes "tx_metadata") (entries_seen T.seen pairs.now))) }
-{
-    match entry(pairs, "tx_metadata") {
-        Kind::Absent => Ok(None),
-        Kind::Dict(words) => token_among(words),
-        _ => Err(MsgFault::Extra),
-    }
-}
-
 /// The mode of a transaction, and its token if it has one.
 pub(crate) fn transaction_of<T: Item>(
     pairs: &[(String, T)],
@@ -145,18 +133,9 @@ pub(crate) fn transaction_of<T: Item>(
         (contents_of_named V51 of_transaction (entries_seen T.seen pairs.now)) }
 {
     let mode = mode_in(pairs)?;
-    let token = token_in(pairs)?;
-    Ok((mode, token))
-}
-
-/// That the last query is meant, if one is named.
-fn query_in<T: Item>(pairs: &[(String, T)]) -> Result<(), MsgFault>
-    ensures { Answers (λ _. []) result
-        (contents_of_query (lookup (codes "qid") (entries_seen T.seen pairs.now))) }
-{
-    match entry(pairs, "qid") {
-        Kind::Absent => Ok(()),
-        Kind::Int(-1) => Ok(()),
+    match entry(pairs, "tx_metadata") {
+        Kind::Absent => Ok((mode, None)),
+        Kind::Dict(words) => Ok((mode, token_among(words)?)),
         _ => Err(MsgFault::Extra),
     }
 }
@@ -184,7 +163,7 @@ fn say_how_many_alone<T: Item>(pairs: &[(String, T)]) -> bool
     true
 }
 
-/// How many rows; no other entry is allowed.
+/// How many rows, of the last query, if one is named; no other entry is allowed.
 pub(crate) fn count_in<T: Item>(pairs: &[(String, T)]) -> Result<Count, MsgFault>
     ensures { Answers (λ c. count_tree c ∷ []) result
         (contents_of_extra V51 refused how_many (entries_seen T.seen pairs.now)) }
@@ -193,8 +172,10 @@ pub(crate) fn count_in<T: Item>(pairs: &[(String, T)]) -> Result<Count, MsgFault
         return Err(MsgFault::Extra);
     }
     let count = number_in(pairs)?;
-    query_in(pairs)?;
-    Ok(count)
+    match entry(pairs, "qid") {
+        Kind::Absent | Kind::Int(-1) => Ok(count),
+        _ => Err(MsgFault::Extra),
+    }
 }
 
 /// Who a client is.

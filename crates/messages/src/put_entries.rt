@@ -1,8 +1,6 @@
 //! The named entries of a dictionary, written straight into an output.
 ghost use Rattle.std.specs.Prelude.{◌≡◌, ◌≤◌, ◌++◌, ◌∷◌, [], Some, true, OnOk, codes, length, map, string_bytes};
 ghost use Rattle.packstream.specs.Canon.{canon, canon_entries};
-ghost use Rattle.packstream.specs.Tree.{dict, int, entry_then, no_entries};
-ghost use Rattle.packstream.specs.Good.{IsGood};
 ghost use Rattle.packstream.specs.View.{entries_of};
 ghost use Rattle.messages.specs.Added.{AddsEntries};
 ghost use Rattle.messages.specs.Reading.{is_token as token_fits};
@@ -16,20 +14,6 @@ use crate::write_requests::number_of;
 use packstream::writing::put_head;
 use speller::{Output, Unspelled, put_int, put_text};
 
-/// The entry of a number of rows.
-fn put_rows(out: &mut Output, number: i64) -> Result<(), Unspelled>
-    ensures before { out.new.before ≡ out.old.before }
-    ensures added { OnOk result (out.new.more
-        ≡ out.old.more ++ canon (dict (entry_then (codes "n") (int number) no_entries))) }
-    ensures good { OnOk result
-        (IsGood (dict (entry_then (codes "n") (int number) no_entries))) }
-{
-    out.push(0xA1)?;
-    put_text(out, "n")?;
-    put_int(out, number)?;
-    Ok(())
-}
-
 /// The entry of a count.
 pub(crate) fn put_number(out: &mut Output, count: Count) -> Result<(), Unspelled>
     ensures before { out.new.before ≡ out.old.before }
@@ -38,7 +22,9 @@ pub(crate) fn put_number(out: &mut Output, count: Count) -> Result<(), Unspelled
     let Ok(number) = number_of(count) else {
         return Err(Unspelled);
     };
-    put_rows(out, number)?;
+    out.push(0xA1)?;
+    put_text(out, "n")?;
+    put_int(out, number)?;
     Ok(())
 }
 

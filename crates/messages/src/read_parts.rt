@@ -1,5 +1,5 @@
 //! Parts of a message that are read of requests and of responses.
-ghost use Rattle.std.specs.Prelude.{◌≡◌, [], ◌∷◌, IfOk, OnOk};
+ghost use Rattle.std.specs.Prelude.{◌≡◌, [], ◌++◌, IfOk, OnOk};
 ghost use Rattle.messages.specs.Scanned.{SpellsDict};
 ghost use Rattle.packstream.specs.Tree.{list, dict};
 ghost use Rattle.packstream.specs.View.{tree, trees, trees_of, entries as value_entries, entries_of};
@@ -105,6 +105,7 @@ pub(crate) fn end(rest: &[u8]) -> Result<(), Unscanned>
 }
 
 /// A dictionary of cells straight from the bytes, and what follows it. Many have no entries.
+#[tactic(auto, using(crate::proofs::Scanned::dict_scanned, crate::proofs::Scanned::empty_scanned))]
 pub(crate) fn scan_cells(
     alloc: Global,
     version: Version,
@@ -113,19 +114,20 @@ pub(crate) fn scan_cells(
     ensures { IfOk result (λ x. SpellsDict version
         (dict (entries_of (entries x.0.items))) x.1.now bytes.now) }
 {
-    if let Ok(rest) = behind_empty(bytes) {
+    if let Ok(rest) = behind(bytes, b"\xA0") {
         return Ok((Vec::new(alloc), rest));
     }
     let (pairs, rest) = scan_dict(alloc, version, bytes, FIELD_DEPTH)?;
     Ok((pairs, rest))
 }
 
-/// What follows a dictionary of no entries.
-fn behind_empty(bytes: &[u8]) -> Result<&[u8], Unscanned>
-    ensures { IfOk result (λ x. bytes.now ≡ 0xA0 ∷ x.now) }
+/// What follows these bytes.
+#[inline(always)]
+pub(crate) fn behind<'a>(bytes: &'a [u8], front: &[u8]) -> Result<&'a [u8], Unscanned>
+    ensures { IfOk result (λ x. bytes.now ≡ front.now ++ x.now) }
 {
-    match bytes {
-        [0xA0, rest @ ..] => Ok(rest),
-        _ => Err(Unscanned),
+    match bytes.strip_prefix(front) {
+        Some(rest) => Ok(rest),
+        None => Err(Unscanned),
     }
 }

@@ -3,17 +3,14 @@
 ghost use Rattle.std.specs.Prelude.{◌∷◌, [], IfOk};
 ghost use Rattle.packstream.specs.View.{tree, trees, trees_of};
 ghost use Rattle.wire.specs.declared.Version.{Version as AnyVersion};
-ghost use Rattle.messages.specs.Table.{cells, cell_list, SUCCESS, RECORD, IGNORED, FAILURE, responses, success_tag, record_tag};
+ghost use Rattle.messages.specs.Table.{cells, cell_list, SUCCESS, RECORD, IGNORED, FAILURE, responses};
 ghost use Rattle.messages.specs.View.{response_view};
 ghost use Rattle.messages.specs.Reading.{Answers, contents_of_row, contents_of_message, response_contents};
-ghost use Rattle.messages.specs.Parts.{members_of_list};
 ghost use Rattle.messages.specs.Messages.{Resp};
 
 use crate::entries::failure_of;
 use crate::fault::MsgFault;
-use crate::read_parts::{
-    FIELD_DEPTH, cells_in, end, entries_in, extra_in, none, one, row_in, scan_cells,
-};
+use crate::read_parts::{FIELD_DEPTH, cells_in, end, extra_in, none, one, row_in, scan_cells};
 use crate::response::Response;
 use crate::scan_entries::cells_of_extra;
 use crate::tags;
@@ -22,24 +19,15 @@ use scanner::{Unscanned, scan_list};
 use std::alloc::Global;
 use wire::Version;
 
-/// A list.
-fn members_in(field: &Value) -> Result<&[Value], MsgFault>
-    ensures { Answers (λ x. trees_of (trees x.now)) result (members_of_list (tree field.now)) }
-{
-    match field {
-        Value::List(members) => Ok(members),
-        _ => Err(MsgFault::Fields),
-    }
-}
-
 #[tactic(auto, using(crate::proofs::Fields::cells_row))]
 fn success_of(alloc: Global, version: Version, fields: &[Value]) -> Result<Response, MsgFault>
     ensures { Answers (λ r. response_contents (response_view r)) result
         (contents_of_row version SUCCESS (cells ∷ []) (trees_of (trees fields.now))) }
 {
-    let field = one(fields)?;
-    let _ = entries_in(field)?;
-    Ok(Response::Success(cells_in(alloc, version, field)?))
+    match one(fields)? {
+        field @ Value::Dict(_) => Ok(Response::Success(cells_in(alloc, version, field)?)),
+        _ => Err(MsgFault::Fields),
+    }
 }
 
 #[tactic(auto, using(crate::proofs::Fields::list_row))]
@@ -47,9 +35,10 @@ fn record_of(alloc: Global, version: Version, fields: &[Value]) -> Result<Respon
     ensures { Answers (λ r. response_contents (response_view r)) result
         (contents_of_row version RECORD (cell_list ∷ []) (trees_of (trees fields.now))) }
 {
-    let field = one(fields)?;
-    let _ = members_in(field)?;
-    Ok(Response::Record(row_in(alloc, version, field)?))
+    match one(fields)? {
+        field @ Value::List(_) => Ok(Response::Record(row_in(alloc, version, field)?)),
+        _ => Err(MsgFault::Fields),
+    }
 }
 
 /// The response of a value, by the table of responses.
@@ -77,31 +66,22 @@ pub(crate) fn response_of_value(
     }
 }
 
-/// A SUCCESS behind its head.
-fn scan_success(alloc: Global, version: Version, bytes: &[u8]) -> Result<Response, Unscanned>
-    ensures { IfOk result (λ r. Resp version (response_view r) (0xB1 ∷ success_tag ∷ bytes.now)) }
-{
-    let (metadata, rest) = scan_cells(alloc, version, bytes)?;
-    end(rest)?;
-    Ok(Response::Success(metadata))
-}
-
-/// A RECORD behind its head.
-fn scan_record(alloc: Global, version: Version, bytes: &[u8]) -> Result<Response, Unscanned>
-    ensures { IfOk result (λ r. Resp version (response_view r) (0xB1 ∷ record_tag ∷ bytes.now)) }
-{
-    let (row, rest) = scan_list(alloc, version, bytes, FIELD_DEPTH)?;
-    end(rest)?;
-    Ok(Response::Record(row))
-}
-
 /// A response of one field, behind its head.
+#[tactic(auto, using(crate::proofs::Scanned::record_means, crate::proofs::Scanned::list_scanned, crate::proofs::Scanned::success_means))]
 fn scan_one(alloc: Global, version: Version, tag: u8, bytes: &[u8]) -> Result<Response, Unscanned>
     ensures { IfOk result (λ r. Resp version (response_view r) (0xB1 ∷ tag ∷ bytes.now)) }
 {
     match tag {
-        tags::RECORD => scan_record(alloc, version, bytes),
-        tags::SUCCESS => scan_success(alloc, version, bytes),
+        tags::RECORD => {
+            let (row, rest) = scan_list(alloc, version, bytes, FIELD_DEPTH)?;
+            end(rest)?;
+            Ok(Response::Record(row))
+        }
+        tags::SUCCESS => {
+            let (metadata, rest) = scan_cells(alloc, version, bytes)?;
+            end(rest)?;
+            Ok(Response::Success(metadata))
+        }
         tags::FAILURE => {
             let pairs = cells_of_extra(alloc, version, bytes)?;
             Ok(failure_of(&pairs)?)

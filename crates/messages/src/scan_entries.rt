@@ -1,6 +1,6 @@
 //! The named entries of a dictionary, the last field of a message, straight from its bytes. As a client of ours writes them they are
 //! read where they stand; other dictionaries are read as cells.
-ghost use Rattle.std.specs.Prelude.{◌≡◌, ◌∷◌, [], ◌++◌, true, Ok, IfOk, codes};
+ghost use Rattle.std.specs.Prelude.{◌≡◌, ◌∷◌, [], true, Ok, IfOk, codes};
 ghost use Rattle.std.specs.Str.{IsUtf8};
 ghost use Rattle.packstream.specs.Canon.{canon};
 ghost use Rattle.packstream.specs.Spelling.{SpellsEntries};
@@ -16,23 +16,12 @@ ghost use Rattle.messages.specs.View.{token_view};
 ghost use Rattle.wire.specs.declared.Version.{Version as AnyVersion};
 
 use crate::entries::{count_in, is_token, transaction_of};
-use crate::read_parts::{FIELD_DEPTH, end};
+use crate::read_parts::{FIELD_DEPTH, behind, end};
 use crate::request::{Count, Mode};
 use scanner::{Unscanned, scan_dict, scan_int, scan_text};
 use std::alloc::Global;
 use structures::Cell;
 use wire::Version;
-
-/// What follows these bytes.
-#[inline(always)]
-fn behind<'a>(bytes: &'a [u8], front: &[u8]) -> Result<&'a [u8], Unscanned>
-    ensures { IfOk result (λ x. bytes.now ≡ front.now ++ x.now) }
-{
-    match bytes.strip_prefix(front) {
-        Some(rest) => Ok(rest),
-        None => Err(Unscanned),
-    }
-}
 
 /// The count that a number of rows is.
 fn count_of(number: i64) -> Result<Count, Unscanned>
@@ -107,6 +96,7 @@ fn token_of_reading(bytes: &[u8]) -> Result<&str, Unscanned>
 }
 
 /// The entries of a dictionary, read as cells.
+#[tactic(auto, using(crate::proofs::Scanned::extra_scanned))]
 pub(crate) fn cells_of_extra(
     alloc: Global,
     version: Version,

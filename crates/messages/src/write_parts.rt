@@ -99,6 +99,7 @@ pub(crate) fn keep_short(out: &mut BytesMut, adding: Output) -> bool
 }
 
 /// A dictionary of cells, in the form of the version.
+#[tactic(auto, using(crate::proofs::Added::formed_cells))]
 pub(crate) fn put_cells(
     out: &mut Output,
     version: Version,

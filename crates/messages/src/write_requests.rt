@@ -1,11 +1,9 @@
 //! Requests, written in two ways: as a value, which also tells what is wrong, and straight into an output. What the second doesn't
 //! write goes the first, or is told as want of memory where nothing else can be wrong.
-ghost use Rattle.std.specs.Prelude.{◌≡◌, true, false, IfOk, OnOk, string_bytes, ◌≤◌, ◌+◌, length};
-ghost use Rattle.packstream.specs.Tree.{int, structure, no_trees, tree_then};
+ghost use Rattle.std.specs.Prelude.{◌≡◌, true, false, IfOk, OnOk, ◌≤◌, ◌+◌, length};
+ghost use Rattle.packstream.specs.Tree.{int};
 ghost use Rattle.packstream.specs.View.{tree, entries as value_entries, entries_of};
-ghost use Rattle.cells.specs.Shape.{entries};
-ghost use Rattle.messages.specs.View.{request_view, auth_in, auth_view, token_view, Hello, Logon, Logoff, Run};
-ghost use Rattle.messages.specs.Table.{run_tag, begin_tag};
+ghost use Rattle.messages.specs.View.{request_view, token_view};
 ghost use Rattle.messages.specs.Reading.{Answers, request_contents, count_tree};
 ghost use Rattle.messages.specs.Writing.{form_put};
 ghost use Rattle.messages.specs.Parts.{with_dict, transaction_put, rows_put, mode_pairs, count_number};
@@ -15,7 +13,7 @@ ghost use Rattle.messages.specs.Added.{Adds};
 use crate::entries::is_token;
 use crate::fault::MsgFault;
 use crate::put_entries::{auth_texts, hello_texts, put_number, put_texts, put_transaction};
-use crate::request::{Auth, Count, Mode, Request};
+use crate::request::{Count, Mode, Request};
 use crate::tags;
 use crate::write_parts::{
     cells_value, keep_short, push, put_cells, put_plain, put_structure, texts_value,
@@ -24,26 +22,7 @@ use bytes::BytesMut;
 use packstream::Value;
 use speller::{Output, Unspelled, put_text};
 use std::alloc::{AllocError, Global};
-use structures::Cell;
 use wire::Version;
-
-/// HELLO, with who the client is if the version tells it there.
-fn hello_value(
-    alloc: Global,
-    version: Version,
-    agent: &String,
-    auth: &Option<Auth>,
-) -> Result<Value, MsgFault>
-    ensures { Answers tree result
-        (form_put version (request_contents
-        (Hello (string_bytes agent.now) (auth_in auth.now)))) }
-{
-    match (version.hello_has_login(), auth) {
-        (true, Some(auth)) => texts_value(alloc, tags::HELLO, &hello_texts(agent, auth)),
-        (false, None) => texts_value(alloc, tags::HELLO, &[("user_agent", agent.as_str())]),
-        _ => Err(MsgFault::Extra),
-    }
-}
 
 /// The entry of a mode; that of writing isn't written.
 fn mode_entries(alloc: Global, mode: Mode) -> Result<Vec<(String, Value)>, AllocError>
@@ -90,32 +69,6 @@ pub(crate) fn number_of(count: Count) -> Result<i64, MsgFault>
     }
 }
 
-/// A RUN of these fields.
-fn run_of(alloc: Global, text: Value, params: Value, extra: Value) -> Result<Value, AllocError>
-    ensures { IfOk result (λ w. tree w ≡ structure run_tag
-        (tree_then (tree text) (tree_then (tree params) (tree_then (tree extra) no_trees)))) }
-{
-    Ok(Value::Struct(tags::RUN, vec![in alloc; text, params, extra]?))
-}
-
-fn run_value(
-    alloc: Global,
-    version: Version,
-    text: &String,
-    params: &Vec<(String, Cell)>,
-    mode: Mode,
-    token: &Option<String>,
-) -> Result<Value, MsgFault>
-    ensures { Answers tree result
-        (form_put version (request_contents
-        (Run (string_bytes text.now) (entries params.now.items) mode (token_view token.now)))) }
-{
-    let pairs = transaction_entries(alloc, mode, token)?;
-    let field = cells_value(alloc, version, params)?;
-    let text = text.clone()?;
-    Ok(run_of(alloc, Value::Text(text), field, Value::Dict(pairs))?)
-}
-
 /// The value of a request that can be too deep or too long, or its first fault. Of the others no value is made: what spells one
 /// that has no fault lacks nothing but memory.
 pub(crate) fn request_value(
@@ -126,7 +79,11 @@ pub(crate) fn request_value(
     ensures { Answers tree result (form_put version (request_contents (request_view request.now))) }
 {
     match request {
-        Request::Hello { agent, auth } => hello_value(alloc, version, agent, auth),
+        Request::Hello { agent, auth } => match (version.hello_has_login(), auth) {
+            (true, Some(auth)) => texts_value(alloc, tags::HELLO, &hello_texts(agent, auth)),
+            (false, None) => texts_value(alloc, tags::HELLO, &[("user_agent", agent.as_str())]),
+            _ => Err(MsgFault::Extra),
+        },
         Request::Logon(_) if !version.has_logon() => Err(MsgFault::UnknownTag),
         Request::Logon(auth) => texts_value(alloc, tags::LOGON, &auth_texts(auth)),
         Request::Logoff if !version.has_logon() => Err(MsgFault::UnknownTag),
@@ -135,7 +92,13 @@ pub(crate) fn request_value(
             params,
             mode,
             token,
-        } => run_value(alloc, version, text, params, *mode, token),
+        } => {
+            let pairs = transaction_entries(alloc, *mode, token)?;
+            let field = cells_value(alloc, version, params)?;
+            let text = text.clone()?;
+            let fields = vec![in alloc; Value::Text(text), field, Value::Dict(pairs)]?;
+            Ok(Value::Struct(tags::RUN, fields))
+        }
         Request::Begin { mode, token } => {
             transaction_entries(alloc, *mode, token)?;
             Err(MsgFault::Memory)
@@ -160,87 +123,8 @@ fn put_count(out: &mut Output, tag: u8, count: Count) -> Result<(), Unspelled>
     Ok(())
 }
 
-#[tactic(auto, using(crate::proofs::Added::in_dict))]
-fn put_begin(out: &mut Output, mode: Mode, token: &Option<String>) -> Result<(), Unspelled>
-    ensures before { out.new.before ≡ out.old.before }
-    ensures adds { OnOk result
-        (Adds (with_dict begin_tag (transaction_put mode (token_view token.now)))
-        out.old.more out.new.more) }
-{
-    put_structure(out, 1, tags::BEGIN)?;
-    put_transaction(out, mode, token)?;
-    Ok(())
-}
-
-/// HELLO, with who the client is if the version tells it there.
-#[tactic(auto, using(crate::proofs::Named::hello_added, crate::proofs::Named::hello_and_login_added))]
-fn put_hello(
-    out: &mut Output,
-    version: Version,
-    agent: &String,
-    auth: &Option<Auth>,
-) -> Result<(), Unspelled>
-    ensures before { out.new.before ≡ out.old.before }
-    ensures adds { OnOk result (Adds
-        (form_put version (request_contents (Hello (string_bytes agent.now) (auth_in auth.now))))
-        out.old.more out.new.more) }
-{
-    match (version.hello_has_login(), auth) {
-        (true, Some(auth)) => put_texts(out, tags::HELLO, &hello_texts(agent, auth)),
-        (false, None) => put_texts(out, tags::HELLO, &[("user_agent", agent.as_str())]),
-        _ => Err(Unspelled),
-    }
-}
-
-/// LOGON, if the version has it.
-#[tactic(auto, using(crate::proofs::Named::logon_added))]
-fn put_logon(out: &mut Output, version: Version, auth: &Auth) -> Result<(), Unspelled>
-    ensures before { out.new.before ≡ out.old.before }
-    ensures adds { OnOk result (Adds
-        (form_put version (request_contents (Logon (auth_view auth.now))))
-        out.old.more out.new.more) }
-{
-    if !version.has_logon() {
-        return Err(Unspelled);
-    }
-    put_texts(out, tags::LOGON, &auth_texts(auth))
-}
-
-/// LOGOFF, if the version has it.
-#[tactic(auto, using(crate::proofs::Named::logoff_added))]
-fn put_logoff(out: &mut Output, version: Version) -> Result<(), Unspelled>
-    ensures before { out.new.before ≡ out.old.before }
-    ensures adds { OnOk result (Adds
-        (form_put version (request_contents Logoff)) out.old.more out.new.more) }
-{
-    if !version.has_logon() {
-        return Err(Unspelled);
-    }
-    put_plain(out, tags::LOGOFF)
-}
-
-fn put_run(
-    out: &mut Output,
-    version: Version,
-    text: &String,
-    params: &Vec<(String, Cell)>,
-    mode: Mode,
-    token: &Option<String>,
-) -> Result<(), Unspelled>
-    ensures before { out.new.before ≡ out.old.before }
-    ensures adds { OnOk result (Adds
-        (form_put version (request_contents
-        (Run (string_bytes text.now) (entries params.now.items) mode (token_view token.now))))
-        out.old.more out.new.more) }
-{
-    put_structure(out, 3, tags::RUN)?;
-    put_text(out, text.as_str())?;
-    put_cells(out, version, params)?;
-    put_transaction(out, mode, token)?;
-    Ok(())
-}
-
 /// Adds the one spelling that is written of a request at the version.
+#[tactic(auto, using(crate::proofs::Added::in_dict, crate::proofs::Named::hello_added, crate::proofs::Named::hello_and_login_added, crate::proofs::Named::logon_added, crate::proofs::Named::logoff_added))]
 pub(crate) fn put_request(
     out: &mut Output,
     version: Version,
@@ -252,22 +136,39 @@ pub(crate) fn put_request(
         out.old.more out.new.more) }
 {
     match request {
-        Request::Hello { agent, auth } => put_hello(out, version, agent, auth),
-        Request::Logon(auth) => put_logon(out, version, auth),
-        Request::Logoff => put_logoff(out, version),
+        Request::Hello { agent, auth } => match (version.hello_has_login(), auth) {
+            (true, Some(auth)) => put_texts(out, tags::HELLO, &hello_texts(agent, auth)),
+            (false, None) => put_texts(out, tags::HELLO, &[("user_agent", agent.as_str())]),
+            _ => Err(Unspelled),
+        },
         Request::Run {
             text,
             params,
             mode,
             token,
-        } => put_run(out, version, text, params, *mode, token),
+        } => {
+            put_structure(out, 3, tags::RUN)?;
+            put_text(out, text.as_str())?;
+            put_cells(out, version, params)?;
+            put_transaction(out, *mode, token)?;
+            Ok(())
+        }
         Request::Pull(count) => put_count(out, tags::PULL, *count),
         Request::Discard(count) => put_count(out, tags::DISCARD, *count),
-        Request::Begin { mode, token } => put_begin(out, *mode, token),
+        Request::Begin { mode, token } => {
+            put_structure(out, 1, tags::BEGIN)?;
+            put_transaction(out, *mode, token)?;
+            Ok(())
+        }
         Request::Commit => put_plain(out, tags::COMMIT),
         Request::Rollback => put_plain(out, tags::ROLLBACK),
         Request::Reset => put_plain(out, tags::RESET),
         Request::Goodbye => put_plain(out, tags::GOODBYE),
+        Request::Logon(auth) if version.has_logon() => {
+            put_texts(out, tags::LOGON, &auth_texts(auth))
+        }
+        Request::Logoff if version.has_logon() => put_plain(out, tags::LOGOFF),
+        Request::Logon(_) | Request::Logoff => Err(Unspelled),
     }
 }
 

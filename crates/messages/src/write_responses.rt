@@ -3,8 +3,8 @@
 ghost use Rattle.std.specs.Prelude.{◌≡◌, true, false, Ok, OnOk, ◌≤◌, ◌+◌, length};
 ghost use Rattle.packstream.specs.Tree.{list};
 ghost use Rattle.packstream.specs.View.{tree, trees_of};
-ghost use Rattle.cells.specs.Shape.{entries, shapes};
-ghost use Rattle.messages.specs.View.{response_view, Success, Record};
+ghost use Rattle.cells.specs.Shape.{shapes};
+ghost use Rattle.messages.specs.View.{response_view};
 ghost use Rattle.messages.specs.Reading.{Answers, response_contents};
 ghost use Rattle.messages.specs.Writing.{form_put};
 ghost use Rattle.messages.specs.Cells.{cell_put};
@@ -59,32 +59,6 @@ pub(crate) fn response_value(
     }
 }
 
-fn put_success(
-    out: &mut Output,
-    version: Version,
-    metadata: &Vec<(String, Cell)>,
-) -> Result<(), Unspelled>
-    ensures before { out.new.before ≡ out.old.before }
-    ensures adds { OnOk result (Adds
-        (form_put version (response_contents (Success (entries metadata.now.items))))
-        out.old.more out.new.more) }
-{
-    put_structure(out, 1, tags::SUCCESS)?;
-    put_cells(out, version, metadata)?;
-    Ok(())
-}
-
-fn put_record(out: &mut Output, version: Version, row: &Vec<Cell>) -> Result<(), Unspelled>
-    ensures before { out.new.before ≡ out.old.before }
-    ensures adds { OnOk result
-        (Adds (form_put version (response_contents (Record (shapes row.now.items))))
-        out.old.more out.new.more) }
-{
-    put_structure(out, 1, tags::RECORD)?;
-    put_list(out, version, row.as_slice(), FIELD_DEPTH)?;
-    Ok(())
-}
-
 #[tactic(auto, using(crate::proofs::Named::failure_added))]
 fn put_response(out: &mut Output, version: Version, response: &Response) -> Result<(), Unspelled>
     ensures before { out.new.before ≡ out.old.before }
@@ -93,8 +67,16 @@ fn put_response(out: &mut Output, version: Version, response: &Response) -> Resu
         out.old.more out.new.more) }
 {
     match response {
-        Response::Success(metadata) => put_success(out, version, metadata),
-        Response::Record(row) => put_record(out, version, row),
+        Response::Success(metadata) => {
+            put_structure(out, 1, tags::SUCCESS)?;
+            put_cells(out, version, metadata)?;
+            Ok(())
+        }
+        Response::Record(row) => {
+            put_structure(out, 1, tags::RECORD)?;
+            put_list(out, version, row.as_slice(), FIELD_DEPTH)?;
+            Ok(())
+        }
         Response::Ignored => put_plain(out, tags::IGNORED),
         Response::Failure { code, message } => {
             put_texts(out, tags::FAILURE, &error_texts(code, message))
