@@ -36,7 +36,7 @@ fn try_once<C: Connects>(alloc: Global, asked: &Asked, connects: &mut C) -> Tell
 
 /// Sends a transaction under its token, each time over a connection of its own, until it is known what became of it, and `tries` times at most.
 ///
-/// Stands: it is committed. Clash: other writes stand under the token. Refused: the server refuses it, and nothing of it stands. Where the tries
+/// Stands: it is committed. Clash: other writes stand under the token. Refused: the server refuses it, and none of the tries stands. Where these
 /// are used up, Open if an attempt may have committed, else Absent. Each connection that is opened has one attempt over its streams, and none is opened
 /// once it is known. What these mean for the ledger of a server of this product is the law `sent_until_known` of `known`.
 pub fn until_known<C: Connects>(alloc: Global, asked: &Asked, connects: &mut C, tries: u32) -> Fate
