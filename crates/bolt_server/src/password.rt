@@ -2,8 +2,9 @@
 
 use std::{fs, io};
 
-/// The first line of a text, without its end.
+/// The first line of a text, without its end, and without the byte order mark that some editors put in front of it.
 fn first_line(text: &str) -> &str {
+    let text = text.strip_prefix('\u{FEFF}').unwrap_or(text);
     match text.lines().next() {
         Some(line) => line,
         None => "",
