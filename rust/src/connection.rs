@@ -338,18 +338,16 @@ impl<S: Read + Write> Connection<S> {
     pub fn run(&mut self, query: &Query) -> Result<Answer, Error> {
         self.alone()?;
         let run = self.ask_run(query, true, None)?;
-        self.settle()?;
-        Ok(self.answer(run))
+        let requests = self.settle()?;
+        Ok(answer_of(&requests[run], &requests[run + 1]))
     }
 
-    /// The rows of a query that was asked, by the place of its RUN.
-    pub fn answer(&self, run: usize) -> Answer {
-        let fields = match self.requests[run].metadata.get("fields") {
-            Some(Value::List(names)) => names.iter().filter_map(|it| it.as_text().map(str::to_owned)).collect(),
-            _ => Vec::new(),
-        };
-        let pull = &self.requests[run + 1];
-        Answer { fields, rows: pull.rows.clone(), bookmark: pull.metadata.get("bookmark").and_then(Value::as_text).map(str::to_owned) }
+    /// The rows of a query that was asked, by the place of its RUN among the requests; None where no RUN stands there, or it wasn't answered whole.
+    pub fn answer(&self, run: usize) -> Option<Answer> {
+        match self.requests.get(run..)? {
+            [run, pull, ..] if run.text.starts_with("RUN ") && matches!(pull.outcome, Some(Outcome::Done | Outcome::Committed)) => Some(answer_of(run, pull)),
+            _ => None,
+        }
     }
 
     /// Runs queries in one transaction, as one pipeline, under a token if there is one. Answers the rows of each. Refused where something was asked before and
@@ -360,9 +358,18 @@ impl<S: Read + Write> Connection<S> {
         let asked = queries.iter().map(|query| self.ask_run(query, true, None)).collect::<Result<Vec<_>, _>>();
         // (of a part of it nothing may go out)
         let runs = asked.and_then(|runs| self.ask_commit().map(|_| runs)).inspect_err(|_| self.end("not all of a transaction was asked"))?;
-        self.settle()?;
-        Ok(runs.into_iter().map(|run| self.answer(run)).collect())
+        let requests = self.settle()?;
+        Ok(runs.into_iter().map(|run| answer_of(&requests[run], &requests[run + 1])).collect())
     }
+}
+
+/// What a RUN and the PULL behind it were answered.
+fn answer_of(run: &Request, pull: &Request) -> Answer {
+    let fields = match run.metadata.get("fields") {
+        Some(Value::List(names)) => names.iter().filter_map(|it| it.as_text().map(str::to_owned)).collect(),
+        _ => Vec::new(),
+    };
+    Answer { fields, rows: pull.rows.clone(), bookmark: pull.metadata.get("bookmark").and_then(Value::as_text).map(str::to_owned) }
 }
 
 /// The first field of a message.

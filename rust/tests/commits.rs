@@ -1,7 +1,7 @@
 //! A transaction and one that is sent until it is known, through cuts at each byte, against the server at the port of BOLT_PORT, which `bench/languages` starts. It
 //! has one client at a time: run with `--test-threads=1`.
 
-use bolt::{until_known, Connection, Error, Fate, Login, Outcome, Query, Value};
+use bolt::{until_known, Answer, Connection, Error, Fate, Login, Outcome, Query, Value};
 use std::cell::Cell;
 use std::collections::VecDeque;
 use std::io::{self, Read, Write};
@@ -213,6 +213,25 @@ fn an_answer_counts_though_the_stream_ends_behind_it() {
     }
     let refusal = Connection::open(answering(&[SUCCESS, SUCCESS, SUCCESS, &clash]).unwrap(), &login()).unwrap().transact(None, &[put("a")]);
     assert!(matches!(refusal, Err(Error::Refused { ref code, .. }) if code.ends_with(".TokenClash")), "{refusal:?}");
+}
+
+#[test]
+fn an_answer_is_had_by_the_place_of_its_run() {
+    let (fields, row): (&[u8], &[u8]) = (b"\xB1\x70\xA1\x86fields\x91\x81x", &[0xB1, 0x71, 0x91, 7]);
+    for messages in [[SUCCESS, fields, row, SUCCESS, SUCCESS].as_slice(), &[SUCCESS, fields, row]] {
+        let mut connection = Connection::open(answering(messages).unwrap(), &login()).unwrap();
+        // (those of the login are no query)
+        assert!([0, 1, 2, usize::MAX].iter().all(|at| connection.answer(*at).is_none()));
+        connection.ask_begin(true, None).unwrap();
+        let run = connection.ask_run(&put("a"), true, None).unwrap();
+        connection.ask_commit().unwrap();
+        assert_eq!(connection.answer(run), None);
+        let is_whole = connection.settle().is_ok();
+        assert_eq!((connection.requests()[run + 1].rows.len(), is_whole), (1, messages.len() == 5));
+        let answer = Answer { fields: vec!["x".to_owned()], rows: vec![vec![7.into()]], bookmark: None };
+        assert_eq!(connection.answer(run), is_whole.then_some(answer));
+        assert!([run - 1, run + 1, run + 2, run + 3, usize::MAX].iter().all(|at| connection.answer(*at).is_none()));
+    }
 }
 
 #[test]
