@@ -307,15 +307,14 @@ impl<S: Read + Write> Connection<S> {
         if state.has_ended == 1 {
             self.end("a summary ended the session");
         }
-        let requests = self.requests.clone();
-        let refused = requests.iter().find(|it| it.outcome == Some(Outcome::Refused));
-        let Some(refused) = refused else {
+        let Some(refused) = self.requests.iter().position(|it| it.outcome == Some(Outcome::Refused)) else {
             self.is_settled = true;
-            if requests.iter().any(|it| matches!(it.outcome, Some(Outcome::Lost | Outcome::Unknown))) {
-                return Err(Error::Broken { why: self.why.unwrap_or_default(), error: None, requests });
+            if self.requests.iter().any(|it| matches!(it.outcome, Some(Outcome::Lost | Outcome::Unknown))) {
+                return Err(Error::Broken { why: self.why.unwrap_or_default(), error: None, requests: self.requests.clone() });
             }
             return Ok(&self.requests);
         };
+        let requests = self.requests.clone();
         if state.has_ended == 0 && state.phase == HALTED {
             // (where the session doesn't live on, all that was asked is answered nonetheless)
             if self.ask_reset().and_then(|_| self.await_all()).is_err() {
@@ -324,8 +323,8 @@ impl<S: Read + Write> Connection<S> {
             self.requests.clone_from(&requests);
         }
         self.is_settled = true;
-        let told = |key| refused.metadata.get(key).and_then(Value::as_text).unwrap_or_default().to_owned();
-        Err(Error::Refused { code: told("code"), message: told("message"), requests: requests.clone() })
+        let told = |key| requests[refused].metadata.get(key).and_then(Value::as_text).unwrap_or_default().to_owned();
+        Err(Error::Refused { code: told("code"), message: told("message"), requests })
     }
 
     /// Refused where something was asked before and isn't settled, which would go out too.
