@@ -2,7 +2,7 @@
 //! broke, why.
 
 use bolt::{Connection, Error, Login, Query, Request};
-use std::io;
+use std::io::{self, Write};
 use std::net::TcpStream;
 use std::process::ExitCode;
 
@@ -13,6 +13,24 @@ fn commit(stream: TcpStream, key: &str) -> Result<Vec<Request>, Error> {
     connection.ask_run(&Query::new("PUT", [("key", key.into()), ("value", 1.into())]), true, None)?;
     connection.ask_commit()?;
     Ok(connection.settle()?.to_vec())
+}
+
+fn show(told: &Result<Vec<Request>, Error>) -> io::Result<()> {
+    let mut out = io::stdout().lock();
+    let requests = match told {
+        Ok(requests) => requests.as_slice(),
+        Err(error) => {
+            writeln!(out, "{error}")?;
+            error.requests()
+        }
+    };
+    for request in requests {
+        // (each has one, once they are settled or the stream is gone)
+        if let Some(outcome) = request.outcome {
+            writeln!(out, "{}: {outcome:?}", request.text)?;
+        }
+    }
+    out.flush()
 }
 
 fn connect(address: &str, port: &str) -> io::Result<TcpStream> {
@@ -34,18 +52,9 @@ fn main() -> ExitCode {
         }
     };
     let told = commit(stream, key);
-    let requests = match &told {
-        Ok(requests) => requests.as_slice(),
-        Err(error) => {
-            println!("{error}");
-            error.requests()
-        }
-    };
-    for request in requests {
-        // (each has one, once they are settled or the stream is gone)
-        if let Some(outcome) = request.outcome {
-            println!("{}: {outcome:?}", request.text);
-        }
+    if let Err(error) = show(&told) {
+        eprintln!("standard output failed: {error}");
+        return ExitCode::FAILURE;
     }
     if told.is_ok() { ExitCode::SUCCESS } else { ExitCode::from(3) }
 }
