@@ -3,6 +3,7 @@
  * cc -I include examples/commit.c LIBRARY -o commit, where LIBRARY is the libbolt.a that bench/build_c makes. */
 #include "bolt.h"
 #include <arpa/inet.h>
+#include <fcntl.h>
 #include <stdio.h>
 #include <stdlib.h>
 #include <string.h>
@@ -62,15 +63,29 @@ static void show(uint64_t ordinal) {
             if (value.kind == BOLT_INT) printf("value: %lld\n", (long long)value.integer);
 }
 
+/* The number of a word, or -1 where it is none from 0 to `most`. */
+static long number(const char *word, long most) {
+    char *end;
+    long it = strtol(word, &end, 10);
+    return *word && !*end && it >= 0 && it <= most ? it : -1;
+}
+
+/* A socket. A standard stream that was closed has a descriptor that is free, and it isn't taken for that one. */
+static int open_socket(void) {
+    int it = socket(AF_INET, SOCK_STREAM, 0), behind = fcntl(it, F_DUPFD, STDERR_FILENO + 1);
+    return close(it), behind;
+}
+
 int main(int argc, char **argv) {
-    if (argc != 5 || strlen(argv[4]) > 15) return fprintf(stderr, "commit ADDRESS PORT VERSION KEY\n"), 2;
-    struct sockaddr_in at = {.sin_family = AF_INET, .sin_port = htons((uint16_t)atoi(argv[2]))};
+    long port = argc == 5 ? number(argv[2], 65535) : -1, version = argc == 5 ? number(argv[3], BOLT_5_1) : -1;
+    if (port < 0 || version < 0 || strlen(argv[4]) > 15) return fprintf(stderr, "commit ADDRESS PORT VERSION KEY\n"), 2;
+    struct sockaddr_in at = {.sin_family = AF_INET, .sin_port = htons((uint16_t)port)};
     char put[64], get[64], tiny = (char)(0x80 + strlen(argv[4]));
     int put_length = snprintf(put, sizeof put, "\xb3\x10\x83PUT\xa2\x83key%c%s\x85value\x01\xa0", tiny, argv[4]);
     int get_length = snprintf(get, sizeof get, "\xb3\x10\x83GET\xa1\x83key%c%s\xa0", tiny, argv[4]);
-    fd = socket(AF_INET, SOCK_STREAM, 0);
+    fd = open_socket();
     if (inet_pton(AF_INET, argv[1], &at.sin_addr) != 1 || connect(fd, (struct sockaddr *)&at, sizeof at)) return fprintf(stderr, "no server\n"), 2;
-    if (bolt_open(&client, (uint32_t)atoi(argv[3]), 1000)) stop("no client");
+    if (bolt_open(&client, (uint32_t)version, 1000)) stop("no client");
     int up = settle();
     if (up && now.version == BOLT_5_1) {
         ASK("\xb1\x01\xa1\x8auser_agent\x88" "commit/1");
