@@ -39,8 +39,8 @@ fn connect(address: &str, port: &str) -> io::Result<TcpStream> {
 }
 
 fn main() -> ExitCode {
-    let words: Vec<String> = std::env::args().skip(1).collect();
-    let [address, port, key] = words.as_slice() else {
+    let words: Result<Vec<String>, _> = std::env::args_os().skip(1).map(|it| it.into_string()).collect();
+    let Ok([address, port, key]) = words.as_deref() else {
         eprintln!("commit ADDRESS PORT KEY");
         return ExitCode::from(2);
     };
