@@ -29,7 +29,7 @@ fn refusal(error: &Error) -> Option<&str> {
 
 /// Sends queries, 15 at most, as one transaction under a token, each time over a stream of its own, until it is known what became of it, and `tries` times at
 /// most. `connect` opens the streams, waits between two tries as it likes, and answers None where it has none. The one error is `NotSent` before anything is
-/// in doubt: nothing of the transaction stands.
+/// in doubt: none of the tries stands.
 pub fn until_known<S: Read + Write>(mut connect: impl FnMut() -> Option<S>, login: &Login, token: &str, queries: &[Query], tries: u32) -> Result<Fate, Error> {
     let mut is_doubtful = false;
     for _ in 0..tries {
