@@ -44,10 +44,11 @@ pub struct Answer {
 }
 
 /// A session of a server over a stream, on the thread that opened it. A stream's own times bound its reads and writes: one without them may wait without an
-/// end, also where what is asked at once and what answers it are both more than the sockets hold.
+/// end.
 ///
-/// Requests are asked, and go out as one pipeline when they are settled. [`requests`](Connection::requests) are those asked since all was settled, each
-/// with what became of it, after each call, also one that failed. Where a call of the stream panics, so does the connection's, and it has ended.
+/// Requests are asked, and go out as one pipeline when they are settled, of which 65,536 bytes or one request at most are ahead of the answers.
+/// [`requests`](Connection::requests) are those asked since all was settled, each with what became of it, after each call, also one that failed. Where a call
+/// of the stream panics, so does the connection's, and it has ended.
 pub struct Connection<S> {
     stream: S,
     client: Client,
@@ -58,7 +59,9 @@ pub struct Connection<S> {
     /// Of how many of them all is taken that was told.
     told: usize,
     is_settled: bool,
-    went_out: bool,
+    /// How many bytes went out of what was asked since all was settled, and behind how many each of the requests ends.
+    gone: usize,
+    ends: Vec<usize>,
     /// Why nothing more is sent.
     cut: Option<io::Error>,
     /// Why the client has ended.
@@ -95,7 +98,8 @@ impl<S: Read + Write> Connection<S> {
             first: 0,
             told: 0,
             is_settled: true,
-            went_out: false,
+            gone: 0,
+            ends: Vec::new(),
             cut: None,
             why: None,
         };
@@ -150,8 +154,10 @@ impl<S: Read + Write> Connection<S> {
             self.first = ordinal;
             self.told = 0;
             self.is_settled = false;
-            self.went_out = false;
+            self.gone = 0;
+            self.ends.clear();
         }
+        self.ends.push(self.gone + self.client.waiting());
         self.requests.push(Request { text: text.to_owned(), outcome: None, metadata: Value::Null, rows: Vec::new() });
         Ok(self.requests.len() - 1)
     }
@@ -186,10 +192,19 @@ impl<S: Read + Write> Connection<S> {
         self.ask("RESET", 0x0F, &[])
     }
 
-    /// Sends all that waits. Where the stream takes no more, nothing more is sent, and what the server has said may still be heard.
+    /// How many bytes may go out: those of the first request that isn't answered, or as many behind what is answered as sockets hold. A server that waits until
+    /// its answers are taken takes no more, and they aren't taken while a write waits.
+    fn room(&self) -> usize {
+        let Some(end) = self.ends.get(self.told) else { return MESSAGE };
+        let begin = if self.told == 0 { 0 } else { self.ends[self.told - 1] };
+        (*end).max(begin + MESSAGE).saturating_sub(self.gone).min(MESSAGE)
+    }
+
+    /// Sends what waits and may go out. Where the stream takes no more, nothing more is sent, and what the server has said may still be heard.
     fn send(&mut self) {
         while self.cut.is_none() {
-            let count = self.client.unsent(&mut self.buffer);
+            let room = self.room();
+            let count = self.client.unsent(&mut self.buffer[..room]);
             if count == 0 {
                 self.cut = loop {
                     match self.stream.flush() {
@@ -199,7 +214,7 @@ impl<S: Read + Write> Connection<S> {
                 };
                 break;
             }
-            self.went_out = true;
+            self.gone += count;
             self.cut = self.stream.write_all(&self.buffer[..count]).err();
             self.client.sent(count);
         }
@@ -276,10 +291,11 @@ impl<S: Read + Write> Connection<S> {
     fn end(&mut self, why: &'static str) {
         self.why.get_or_insert(why);
         self.client.lose();
-        for (request, ordinal) in self.requests.iter_mut().zip(self.first..).filter(|(it, _)| it.outcome.is_none()) {
+        let begins = std::iter::once(0).chain(self.ends.iter().copied());
+        for ((request, ordinal), begin) in self.requests.iter_mut().zip(self.first..).zip(begins).filter(|((it, _), _)| it.outcome.is_none()) {
             let told = self.client.outcome(ordinal);
             // (nothing was committed by what no byte of has gone out)
-            request.outcome = if told == Some(Outcome::Unknown) && !self.went_out { Some(Outcome::Lost) } else { told };
+            request.outcome = if told == Some(Outcome::Unknown) && self.gone <= begin { Some(Outcome::Lost) } else { told };
         }
         self.is_settled = true;
     }

@@ -85,6 +85,13 @@ impl Client {
         length.min(into.len())
     }
 
+    /// How many bytes are to be sent.
+    pub fn waiting(&mut self) -> usize {
+        let mut length = 0;
+        let _code = unsafe { bolt_unsent(&mut self.handle, [].as_mut_ptr(), 0, &mut length) };
+        length
+    }
+
     pub fn sent(&mut self, count: usize) {
         let _code = unsafe { bolt_sent(&mut self.handle, count) };
     }

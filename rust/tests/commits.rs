@@ -402,3 +402,87 @@ fn behind_a_panic_of_the_stream_nothing_is_sent_or_heard() {
         assert_eq!(connection.stream().written.windows(commit.len()).filter(|it| *it == commit).count(), times, "{due:?}");
     }
 }
+
+/// A server at the other end of sockets that hold so many bytes each way: it takes what it is asked, and answers each PULL with a long row, until as many answers wait.
+struct Narrow {
+    asked: Vec<u8>,
+    told: VecDeque<u8>,
+    has_version: bool,
+}
+
+const HELD: usize = 65_536;
+const LONG: usize = 60_000;
+
+impl Narrow {
+    /// The next message that has come whole, without its chunks.
+    fn message(&mut self) -> Option<Vec<u8>> {
+        let (mut message, mut at) = (Vec::new(), 0);
+        loop {
+            let length = usize::from(u16::from_be_bytes([*self.asked.get(at)?, *self.asked.get(at + 1)?]));
+            let chunk = self.asked.get(at + 2..at + 2 + length)?;
+            message.extend(chunk);
+            at += 2 + length;
+            if length == 0 {
+                self.asked.drain(..at);
+                return Some(message);
+            }
+        }
+    }
+
+    fn tell(&mut self, message: &[u8]) {
+        self.told.extend((message.len() as u16).to_be_bytes().iter().chain(message).chain(&[0, 0]));
+    }
+
+    fn serve(&mut self) {
+        if !self.has_version && self.asked.len() >= 20 {
+            self.asked.drain(..20);
+            self.told.extend([0, 0, 1, 5]);
+            self.has_version = true;
+        }
+        while self.has_version && self.told.len() < HELD {
+            let Some(message) = self.message() else { return };
+            if message[1] == 0x3F {
+                self.tell(&[[0xB1, 0x71, 0x91, 0xCD].as_slice(), &(LONG as u16).to_be_bytes(), &[0; LONG]].concat());
+            }
+            self.tell(SUCCESS);
+        }
+    }
+}
+
+impl Read for Narrow {
+    fn read(&mut self, into: &mut [u8]) -> io::Result<usize> {
+        self.serve();
+        let count = into.len().min(self.told.len());
+        into.iter_mut().zip(self.told.drain(..count)).for_each(|(place, byte)| *place = byte);
+        Ok(count)
+    }
+}
+
+impl Write for Narrow {
+    fn write(&mut self, bytes: &[u8]) -> io::Result<usize> {
+        self.serve();
+        let room = if self.told.len() < HELD { bytes.len() } else { HELD.saturating_sub(self.asked.len()).min(bytes.len()) };
+        self.asked.extend(&bytes[..room]);
+        // (it would wait for who reads)
+        if room == 0 { Err(io::ErrorKind::WouldBlock.into()) } else { Ok(room) }
+    }
+
+    fn flush(&mut self) -> io::Result<()> {
+        Ok(())
+    }
+}
+
+#[test]
+fn what_is_asked_waits_for_no_answer_that_isnt_taken() {
+    let stream = Narrow { asked: Vec::new(), told: VecDeque::new(), has_version: false };
+    let mut connection = Connection::open(stream, &login()).unwrap();
+    let long = Query::new("PUT", [("key", "a".into()), ("value", Value::Bytes(vec![1; LONG]))]);
+    for query in [&long, &put("a")] {
+        let answers = connection.transact(None, &vec![query.clone(); 15]).unwrap();
+        assert!(answers.len() == 15 && answers.iter().all(|it| it.rows == [[Value::Bytes(vec![0; LONG])]]));
+    }
+    // (where nothing is answered no byte of its COMMIT goes out)
+    let mut broken = Connection::open(answering(&[]).unwrap(), &login()).unwrap();
+    assert!(broken.transact(None, &vec![long; 15]).is_err());
+    assert_eq!(outcomes(&broken).last(), Some(&Some(Outcome::Lost)));
+}
