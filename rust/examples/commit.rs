@@ -15,12 +15,17 @@ fn commit(stream: TcpStream, key: &str) -> Result<Vec<Request>, Error> {
     Ok(connection.settle()?.to_vec())
 }
 
+/// A text on one line, whatever a server says in it.
+fn escaped(text: &str) -> String {
+    text.chars().map(|it| if it.is_control() { it.escape_default().to_string() } else { it.into() }).collect()
+}
+
 fn show(told: &Result<Vec<Request>, Error>) -> io::Result<()> {
     let mut out = io::stdout().lock();
     let requests = match told {
         Ok(requests) => requests.as_slice(),
         Err(error) => {
-            writeln!(out, "{error}")?;
+            writeln!(out, "{}", escaped(&error.to_string()))?;
             error.requests()
         }
     };
