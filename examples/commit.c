@@ -3,11 +3,13 @@
  * cc -I include examples/commit.c LIBRARY -o commit, where LIBRARY is the libbolt.a that bench/build_c makes. */
 #include "bolt.h"
 #include <arpa/inet.h>
+#include <errno.h>
 #include <fcntl.h>
 #include <stdio.h>
 #include <stdlib.h>
 #include <string.h>
 #include <sys/socket.h>
+#include <sys/time.h>
 #include <unistd.h>
 
 static const char *const outcomes[] = {"Done", "Committed", "Refused", "Ignored", "Lost", "Unknown", "Waits"};
@@ -28,11 +30,15 @@ static void ask(const char *message, size_t length) {
 }
 #define ASK(text) ask(text, sizeof text - 1)
 
+/* What a signal interrupts is done again, as a wait of a socket that has a time, where the process is stopped and goes on. */
+#define AGAIN(count, call) do count = call; while (count < 0 && errno == EINTR)
+
 static int send_all(void) {
     uint8_t bytes[4096];
     size_t count = 0;
+    ssize_t sent;
     while (!bolt_unsent(&client, bytes, sizeof bytes, &count) && count) {
-        ssize_t sent = send(fd, bytes, count < sizeof bytes ? count : sizeof bytes, MSG_NOSIGNAL);
+        AGAIN(sent, send(fd, bytes, count < sizeof bytes ? count : sizeof bytes, MSG_NOSIGNAL));
         if (sent <= 0) return 0;
         bolt_sent(&client, (size_t)sent);
     }
@@ -43,8 +49,9 @@ static int send_all(void) {
 static int settle(void) {
     uint8_t bytes[4096];
     while (!bolt_state(&client, &now) && now.awaits) {
-        ssize_t count = send_all() ? recv(fd, bytes, sizeof bytes, 0) : 0;
+        ssize_t count = 0;
         size_t used = 0;
+        if (send_all()) AGAIN(count, recv(fd, bytes, sizeof bytes, 0));
         if (count <= 0) return 0;
         uint32_t code = bolt_feed(&client, bytes, (size_t)count, &used);
         if (code == BOLT_MEMORY) fprintf(stderr, "out of memory\n");
@@ -70,9 +77,12 @@ static long number(const char *word, long most) {
     return *word && !*end && it >= 0 && it <= most ? it : -1;
 }
 
-/* A socket. A standard stream that was closed has a descriptor that is free, and it isn't taken for that one. */
+/* A socket that waits for ten seconds at most. A standard stream that was closed has a descriptor that is free, and it isn't taken for that one. */
 static int open_socket(void) {
+    struct timeval longest = {.tv_sec = 10};
     int it = socket(AF_INET, SOCK_STREAM, 0), behind = fcntl(it, F_DUPFD, STDERR_FILENO + 1);
+    setsockopt(it, SOL_SOCKET, SO_RCVTIMEO, &longest, sizeof longest);
+    setsockopt(it, SOL_SOCKET, SO_SNDTIMEO, &longest, sizeof longest);
     return close(it), behind;
 }
 

@@ -5,6 +5,10 @@ use bolt::{Connection, Error, Login, Query, Request};
 use std::io::{self, Write};
 use std::net::TcpStream;
 use std::process::ExitCode;
+use std::time::Duration;
+
+/// How long a read and a write may wait for the server.
+const LONGEST: Duration = Duration::from_secs(10);
 
 fn commit(stream: TcpStream, key: &str) -> Result<Vec<Request>, Error> {
     let login = Login { agent: "commit/1".into(), principal: "user".into(), credentials: "pass".into() };
@@ -40,7 +44,10 @@ fn show(told: &Result<Vec<Request>, Error>) -> io::Result<()> {
 
 fn connect(address: &str, port: &str) -> io::Result<TcpStream> {
     let port: u16 = port.parse().map_err(io::Error::other)?;
-    TcpStream::connect((address, port))
+    let stream = TcpStream::connect((address, port))?;
+    stream.set_read_timeout(Some(LONGEST))?;
+    stream.set_write_timeout(Some(LONGEST))?;
+    Ok(stream)
 }
 
 fn main() -> ExitCode {
