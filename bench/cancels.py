@@ -232,6 +232,10 @@ async def transacts(port):
             asked.begin()
             got = asked.run("GET", key="stays")
             asked.commit()
+        async with connection.transaction() as tx:
+            async with connection.pipeline() as ends:
+                ends.commit()
+        is_kept = is_kept and tx.outcome == bolt.COMMITTED
         return is_kept and await (await connection.read("GET", key="goes")).values() == [] and [it["value"] for it in got] == [1]
 
 

@@ -219,6 +219,42 @@ def transacts(port):
     return is_kept and is_over and is_refused and is_free and (value_of(port, "stays"), value_of(port, "goes")) == ([1], [])
 
 
+def ends_below(port):
+    """Whether a transaction that a pipeline in its block ends has its outcome, and its block asks nothing more; and until_known tells that it stands, whatever its work
+    does behind that."""
+    told, made = [], []
+    with connected(port) as connection:
+        for end in ("commit", "rollback"):
+            with connection.transaction() as tx:
+                tx.run("PUT", key=f"{end} below", value=1)
+                with connection.pipeline() as asked:
+                    getattr(asked, end)()
+                told.append(breaks.code_of(lambda: tx.run("PUT", key="goes", value=1)))
+            told += [tx.outcome, (tx.bookmark or "none")[:3], tx.is_open]
+        with contextlib.suppress(bolt.NotSent), connection.transaction() as tx:
+            with contextlib.suppress(bolt.Refused), connection.pipeline() as asked:
+                asked.run("NOPE")
+                asked.commit()
+            # (the block ends by NotSent)
+            told.append(tx.outcome)
+        is_free = goes_on(connection)
+
+    def connect():
+        made.append(connected(port))
+        return made[-1]
+
+    def pipes_and_fails(_):
+        with made[-1].pipeline() as asked:
+            asked.run("PUT", key="known below", value=1)
+            asked.commit()
+        made[-1].run("NOPE")
+
+    known = bolt.until_known(connect, pipes_and_fails, tries=1)
+    over = bolt.library.NOT_ALLOWED
+    return (told == [over, bolt.COMMITTED, "bk:", False, over, bolt.DONE, "non", False, bolt.IGNORED] and is_free and known.stands and known.bookmark[:3] == "bk:"
+            and [value_of(port, it) for it in ("commit below", "rollback below", "goes", "known below")] == [[1], [], [], [1]])
+
+
 class Reset(breaks.Closed):
     """Resets a connection, where that is allowed, in the place of an interrupt."""
 
@@ -791,5 +827,5 @@ def installs(port):
     return bool(wanted) and said == "".join(f"{line.strip()}\n" for line in wanted.split("\n"))
 
 
-WORKS = (reads_rows, hears_another, bounds_the_handshake, loses_no_record, tells_lost_records, leaves_nothing_open, sends_nothing_twice, keeps_results_apart, transacts, commits_nothing_by_itself, tells_what_it_heard, breaks_off_connecting, pipes,
+WORKS = (reads_rows, hears_another, bounds_the_handshake, loses_no_record, tells_lost_records, leaves_nothing_open, sends_nothing_twice, keeps_results_apart, transacts, ends_below, commits_nothing_by_itself, tells_what_it_heard, breaks_off_connecting, pipes,
          keeps_moments, tells_errors, keeps_tokens, tells_fates, encrypts, installs)

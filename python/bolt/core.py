@@ -18,7 +18,7 @@ from .values import pack_structure
 from .versions import V5_1, VERSIONS
 
 PHASES = ("FRESH", "UNAUTH", "READY", "STREAMING", "TX_READY", "TX_STREAMING", "HALTED", "DEFUNCT")
-BEGIN = 0x11
+BEGIN, COMMIT, ROLLBACK = 0x11, 0x12, 0x13
 Answer = TypeVar("Answer")
 # What a call does, step by step: behind each, what waits is to be sent, and a piece of the server's bytes to be heard.
 Steps = Generator[None, None, Answer]
@@ -57,6 +57,12 @@ class Stepped(Generic[Answer]):
 
     def __iter__(self) -> Iterator[None]:
         self.answer = yield from self._steps
+
+
+class Begun:
+    """A transaction that was asked for, and the COMMIT or ROLLBACK of it, if one was asked."""
+
+    end: Optional[Request] = None
 
 
 def extra(write: bool, token: Optional[str]) -> dict[str, Any]:
@@ -120,7 +126,7 @@ class Core:
         self.requests: list[Request] = []
         self._told = 0  # how many of them have what their summary holds
         self._settled = True  # whether all of them are, and were told
-        self._begun = 0  # how many transactions were asked for
+        self._begun = Begun()  # the transaction that was asked for last
         self._cut: Optional[OSError] = None  # why nothing more is sent
         self._why: Optional[str] = None  # why the client has ended
         self._until = self._by()
@@ -216,7 +222,10 @@ class Core:
             if self.requests is not before:
                 self.requests, self._told, self._settled = before, len(before), True
             raise fault_of(code, asked) if code != CLOSED else NotSent(code, hint=self._why or "")
-        self._begun += message[1] == BEGIN
+        if message[1] == BEGIN:
+            self._begun = Begun()
+        elif message[1] in (COMMIT, ROLLBACK):
+            self._begun.end = request
         return request
 
     def ask_begin(self, write: bool = True, token: Optional[str] = None) -> Request:
@@ -253,10 +262,10 @@ class Core:
         return self._packed(f"PULL of {text}", 0x3F, {"n": count})
 
     def ask_commit(self) -> Request:
-        return self.ask("COMMIT", 0x12)
+        return self.ask("COMMIT", COMMIT)
 
     def ask_rollback(self) -> Request:
-        return self.ask("ROLLBACK", 0x13)
+        return self.ask("ROLLBACK", ROLLBACK)
 
     def ask_reset(self) -> Request:
         return self.ask("RESET", 0x0F)

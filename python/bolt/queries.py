@@ -3,8 +3,8 @@ from __future__ import annotations
 
 from typing import Any, Callable, Generic, Iterator, Optional, Type, TypeVar
 
-from .core import BEGIN, PHASES, Core, Steps, extra
-from .errors import REFUSED, NotSent, Request
+from .core import BEGIN, COMMIT, PHASES, ROLLBACK, Begun, Core, Steps, extra
+from .errors import COMMITTED, DONE, REFUSED, NotSent, Request
 from .library import NOT_ALLOWED
 from .results import Pulled, Record
 from .times import stored
@@ -99,7 +99,7 @@ class Queries(Generic[Kind, Found]):
     def _starting(self, found: Transacting, text: str, message: bytes) -> Steps[None]:
         yield from self._settling_open()
         yield from self.session._at_once(self.session._submit, text, message)
-        found.number, found.is_open = self.session._begun, True
+        found._begun, found.is_open = self.session._begun, True
 
 
 class Pipeline(Generic[Found]):
@@ -147,8 +147,21 @@ class Transacting:
 
     def __init__(self, connection: Queries[Any, Any], token: Optional[str]) -> None:
         self._connection, self.token = connection, token
-        self.is_open, self.number = False, 0
-        self._last: Optional[Request] = None  # the COMMIT or ROLLBACK that was asked
+        self._is_open, self._begun = False, Begun()
+
+    @property
+    def _last(self) -> Optional[Request]:
+        """The COMMIT or ROLLBACK that was asked, by it or below it."""
+        return self._begun.end
+
+    @property
+    def is_open(self) -> bool:
+        """Whether its block has to end it. A pipeline in the block may have."""
+        return self._is_open and self.outcome not in (COMMITTED, DONE)
+
+    @is_open.setter
+    def is_open(self, is_it: bool) -> None:
+        self._is_open = is_it
 
     @property
     def outcome(self) -> Optional[str]:
@@ -167,7 +180,7 @@ class Transacting:
     def _is_current(self) -> bool:
         """Whether what is asked is part of it, or is refused since the connection has ended. A FAILURE ends it, and so does a RESET."""
         session = self._connection.session
-        return self.number == session._begun and (is_in_transaction(session) or bool(session._state().has_ended))
+        return self._begun is session._begun and (is_in_transaction(session) or bool(session._state().has_ended))
 
     def _running(self, text: str, parameters: dict[str, Any]) -> Steps[Any]:
         if not self.is_open:
@@ -184,10 +197,10 @@ class Transacting:
         return NotSent(NOT_ALLOWED, hint="the transaction has ended")
 
     def _committing(self) -> Steps[None]:
-        return self._ending("COMMIT", 0x12)
+        return self._ending("COMMIT", COMMIT)
 
     def _rolling_back(self) -> Steps[None]:
-        return self._ending("ROLLBACK", 0x13)
+        return self._ending("ROLLBACK", ROLLBACK)
 
     def _ending(self, text: str, tag: int) -> Steps[None]:
         return self._ends(*self._connection.session._packed(text, tag))
@@ -201,7 +214,7 @@ class Transacting:
         try:
             yield from self._connection._settling_open()
             session._alone()
-            self._last = session._submit(text, message)
+            session._submit(text, message)
         except NotSent:
             # (nothing has changed, and it may be open)
             self.is_open = True

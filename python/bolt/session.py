@@ -6,7 +6,7 @@ import socket
 import ssl
 from typing import Any, Optional, Union
 
-from .core import BEGIN, Answer, Core, Stepped, Steps, calls, ends, extra, is_from_elsewhere, login_of, own, port_of
+from .core import BEGIN, COMMIT, ROLLBACK, Answer, Core, Stepped, Steps, calls, ends, extra, is_from_elsewhere, login_of, own, port_of
 from .errors import TIMED_OUT, UNREACHED, Broken, NotSent, Request
 from .library import MESSAGE
 from .versions import NEWEST
@@ -178,10 +178,10 @@ class Session(Core):
 
     def commit(self) -> Optional[str]:
         """COMMITTED, once it is; any other end is raised."""
-        return self._call(self._at_once(self._submit, *self._packed("COMMIT", 0x12))).outcome
+        return self._call(self._at_once(self._submit, *self._packed("COMMIT", COMMIT))).outcome
 
     def rollback(self) -> None:
-        self._call(self._at_once(self._submit, *self._packed("ROLLBACK", 0x13)))
+        self._call(self._at_once(self._submit, *self._packed("ROLLBACK", ROLLBACK)))
 
     def reset(self) -> None:
         """Ends whatever is open in the session: a result, and a transaction, which is dropped."""
