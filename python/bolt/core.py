@@ -3,6 +3,7 @@ keeps the protocol and the account; `session` and `aio` have the sockets."""
 from __future__ import annotations
 
 import functools
+import operator
 import os
 import socket
 import ssl
@@ -103,10 +104,11 @@ def login_of(auth: tuple[str, ...]) -> dict[str, str]:
 
 
 def port_of(port: int) -> int:
-    """A port, which the system would take modulo 65,536."""
-    if isinstance(port, int) and not 0 <= port < 1 << 16:
+    """A port, as a number or its text, either of which the system would take modulo 65,536."""
+    number = int(port) if isinstance(port, (str, bytes)) else operator.index(port)
+    if not 0 <= number < 1 << 16:
         raise ValueError("a port is 0 to 65535")
-    return port
+    return number
 
 
 class Core:
