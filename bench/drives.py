@@ -392,17 +392,30 @@ class Context(ssl.SSLContext):
 """
 
 
-def hears_another(_):
-    """Whether what the loop and the context of another package raise of a server that isn't there, or doesn't go on, is told as Broken."""
-    another = {"__name__": "another", "asyncio": asyncio, "ssl": ssl}
+# What the handler of a signal raises, which stands in the package of that.
+HANDLER = """
+def handler(*_):
+    raise TimeoutError
+"""
+
+
+def hears_another(port):
+    """Whether what the loop and the context of another package raise of a server that isn't there, or doesn't go on, is told as Broken, and what a handler of that package
+    raises in the midst of a call is raised as it is."""
+    another, handling = {"__name__": "another.below", "asyncio": asyncio, "ssl": ssl}, {"__name__": "another.handlers"}
     exec(ANOTHER, another)
+    exec(HANDLER, handling)
     loop, context = another["Loop"](), another["Context"](ssl.PROTOCOL_TLS_CLIENT)
     with socket.create_server(("127.0.0.1", 0)) as mute:
         there = mute.getsockname()[1]
         told = [breaks.raised(lambda: bolt.connect("localhost", there, tls=context, timeout=0.2))]
     told.append(breaks.raised(lambda: loop.run_until_complete(bolt.aio.connect("127.0.0.1", there))))
     loop.close()
-    return [(str(it), type(it.__cause__)) for it in told] == [(f"before any request ({bolt.UNREACHED})", it) for it in (TimeoutError, ConnectionRefusedError)]
+    with connected(port) as connection:
+        connection.session._client.sent = handling["handler"]
+        is_raised = type(breaks.raised(lambda: connection.run("ONE"))) is TimeoutError
+    is_told = [(str(it), type(it.__cause__)) for it in told] == [(f"before any request ({bolt.UNREACHED})", it) for it in (TimeoutError, ConnectionRefusedError)]
+    return is_told and is_raised
 
 
 def bounds_the_handshake(_):

@@ -23,20 +23,26 @@ BEGIN, COMMIT, ROLLBACK = 0x11, 0x12, 0x13
 Answer = TypeVar("Answer")
 # What a call does, step by step: behind each, what waits is to be sent, and a piece of the server's bytes to be heard.
 Steps = Generator[None, None, Answer]
-# Whose frames an error has that a call of this package meets, beside its own: those of what it calls.
-CALLED = {"asyncio", "concurrent", "contextlib", "socket", "ssl"}
+# Whose frames an error has that a call of this package meets: its own, and those of what it calls, by modules and what is below them.
+CALLED = {__name__.rpartition(".")[0], "asyncio", "concurrent", "contextlib", "socket", "ssl"}
 
 
 def calls(*called: object) -> None:
-    """Counts the packages of a socket, a loop or a context of TLS among what is called: they may be others, as uvloop and gevent."""
-    CALLED.update({getattr(it, "__module__", "socket").partition(".")[0] for it in called} - {"__main__"})
+    """Counts the package of sockets among what is called, which may be another, as gevent, and the modules of the classes of a loop, as that of uvloop, and of a context
+    of TLS: not their packages, which may be that of who calls, and of a signal's handler."""
+    CALLED.update({socket.socket.__module__.partition(".")[0], *(kind.__module__ for it in called for kind in type(it).__mro__)} - {"__main__"})
+
+
+def is_called(module: str) -> bool:
+    """Whether a module, or one that it is below, is among what is called."""
+    parts = module.split(".")
+    return any(".".join(parts[:it]) in CALLED for it in range(1, len(parts) + 1))
 
 
 def is_from_elsewhere(why: BaseException) -> bool:
     """Whether what is raised in the midst of a call comes from elsewhere, as from the handler of a signal, which has frames of its own."""
     # (by modules: what a file was called where it was compiled needn't be what it is called here)
-    names = [frame.f_globals.get("__name__", "") for frame, _ in traceback.walk_tb(why.__traceback__)]
-    return any(it.rpartition(".")[0] != __package__ and it.partition(".")[0] not in CALLED for it in names)
+    return not all(is_called(str(frame.f_globals.get("__name__"))) for frame, _ in traceback.walk_tb(why.__traceback__))
 
 
 def own(failed: OSError) -> OSError:

@@ -40,7 +40,7 @@ class Session(Core):
 
     def _connect(self, host: str, port: int) -> None:
         """Connects to the first address of the host that takes it."""
-        calls(socket.socket, self._tls)
+        calls(self._tls)
         try:
             addresses = socket.getaddrinfo(host, port, type=socket.SOCK_STREAM)
         except OSError as why:
