@@ -640,7 +640,8 @@ MISTAKEN = (
     *((51, lambda c, kind=kind: bolt.Session("127.0.0.1", kind(c.port + 65536), USER), "a port is 0 to 65535") for kind in (int, str, lambda it: b"%d" % it)),
     (51, lambda c: bolt.Session("127.0.0.1", c.port + 0.5, USER), "'float' object cannot be interpreted as an integer"),
     *((51, lambda c, it=it: bolt.unpack(it), "not one value of PackStream") for it in (b"\x85text"[:-1], b"\x01\x02")),
-    *((51, lambda c, it=it: bolt.unpack(it), "no value of PackStream") for it in (b"", b"\xC9\x01", b"\xC4", b"\xB1\x7F\x01", b"\xB2\x44\x01\x02", b"\xA1\x90\x01")),
+    *((51, lambda c, it=it: bolt.unpack(it), "no value of PackStream")
+      for it in (b"", b"\xC9\x01", b"\xC4", b"\xEC\x00", b"\xB1\x7F\x01", b"\xB2\x44\x01\x02", b"\xA1\x90\x01", b"\xA1\x01\x02", b"\xA2\x81a\x01\x81a\x02")),
     *((51, call, "a session can't be copied or pickled") for call in (copy.copy, copy.deepcopy, pickle.dumps)),
 )
 

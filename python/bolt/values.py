@@ -232,7 +232,10 @@ class Unpacked:
             return self.bytes(length).decode()
         if kind == 0x9:
             return [self.value() for _ in range(length)]
-        return {self.value(): self.value() for _ in range(length)}
+        found = {self.value(): self.value() for _ in range(length)}
+        if len(found) < length or not {str}.issuperset(map(type, found)):
+            raise ValueError("no value of PackStream")
+        return found
 
     def fields(self, count: int) -> tuple[int, list[Any]]:
         """The tag and the fields of a structure."""
@@ -254,7 +257,7 @@ class Unpacked:
         for one, form in ((0xC1, ">d"), *INTS):
             if marker == one:
                 return self.number(form)
-        kind = {0x3: 0xC, 0x4: 0x8, 0x5: 0x9, 0x6: 0xA}[marker >> 2 & 7]
+        kind = {0x33: 0xC, 0x34: 0x8, 0x35: 0x9, 0x36: 0xA}[marker >> 2]
         return self.of_length(kind, self.number((">B", ">H", ">I")[marker & 3]))
 
 
