@@ -109,7 +109,7 @@ class Tries:
         """What is known behind a try of which nothing was raised: the work may have ended the transaction by itself."""
         found = self.found
         if found and found.outcome == COMMITTED:
-            return Known(STANDS, self.token, self.value, found.bookmark)
+            return Known(STANDS, self.token, self.value, found.bookmark, self._error)
         self._doubt(found._connection.session.requests if found else [])
         return self.over()
 
