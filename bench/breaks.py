@@ -463,7 +463,7 @@ def waits_for_long(_):
                 pass
 
     # (of the first 0.1 seconds are left)
-    for seconds, wait in ((4_294_967.4, 0.3), (1e10, 0), (float("inf"), 0)):
+    for seconds, wait in ((4_294_967.4, 0.3), (1e10, 0), (float("inf"), 0), (10 ** 400, 0)):
         with socket.create_server(("127.0.0.1", 0)) as listener:
             threading.Thread(target=answer, args=(wait,), daemon=True).start()
             with bolt.Session("127.0.0.1", listener.getsockname()[1], USER, timeout=seconds) as connection:
@@ -639,6 +639,8 @@ MISTAKEN = (
     (51, lambda c: bolt.Session("127.0.0.1", c.port, USER[:2]), "auth is the scheme, the principal and the credentials"),
     *((51, lambda c, kind=kind: bolt.Session("127.0.0.1", kind(c.port + 65536), USER), "a port is 0 to 65535") for kind in (int, str, lambda it: b"%d" % it)),
     (51, lambda c: bolt.Session("127.0.0.1", c.port + 0.5, USER), "'float' object cannot be interpreted as an integer"),
+    (51, lambda c: bolt.Session("127.0.0.1", c.port, USER, timeout=float("nan")), "a time-out is a number of seconds, or None"),
+    (51, lambda c: setattr(c, "timeout", float("nan")), "a time-out is a number of seconds, or None"),
     *((51, lambda c, it=it: bolt.unpack(it), "not one value of PackStream") for it in (b"\x85text"[:-1], b"\x01\x02")),
     *((51, lambda c, it=it: bolt.unpack(it), "no value of PackStream")
       for it in (b"", b"\xC9\x01", b"\xC4", b"\xEC\x00", b"\xB1\x7F\x01", b"\xB2\x44\x01\x02", b"\xA1\x90\x01", b"\xA1\x01\x02", b"\xA2\x81a\x01\x81a\x02")),

@@ -18,6 +18,8 @@ from .library import CLOSED, FULL, LIBRARY, MEMORY, NO_CLIENT, NOT_ALLOWED, OK, 
 from .values import pack_structure
 from .versions import V5_1, VERSIONS
 
+# The most seconds of a time-out: what is longer has no end that anybody sees.
+LONGEST = 1e9
 PHASES = ("FRESH", "UNAUTH", "READY", "STREAMING", "TX_READY", "TX_STREAMING", "HALTED", "DEFUNCT")
 BEGIN, COMMIT, ROLLBACK = 0x11, 0x12, 0x13
 Answer = TypeVar("Answer")
@@ -140,9 +142,20 @@ class Core:
         self._until = self._by()
         self._client = Client(versions, self)
 
+    @property
+    def timeout(self) -> Optional[float]:
+        return self._timeout
+
+    @timeout.setter
+    def timeout(self, seconds: Optional[float]) -> None:
+        # (of what is no number neither holds)
+        if seconds is not None and not (seconds >= 0 or seconds < 0):
+            raise ValueError("a time-out is a number of seconds, or None")
+        self._timeout = seconds
+
     def _by(self) -> Optional[float]:
         """By when a call has to be done that begins now."""
-        return None if self.timeout is None else time.monotonic() + self.timeout
+        return None if self.timeout is None else time.monotonic() + float(max(0, min(self.timeout, LONGEST)))
 
     def _left(self) -> Optional[float]:
         """The seconds that are left for the call, None where it has no end."""
