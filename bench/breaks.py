@@ -640,6 +640,7 @@ MISTAKEN = (
     *((51, lambda c, kind=kind: bolt.Session("127.0.0.1", kind(c.port + 65536), USER), "a port is 0 to 65535") for kind in (int, str, lambda it: b"%d" % it)),
     (51, lambda c: bolt.Session("127.0.0.1", c.port + 0.5, USER), "'float' object cannot be interpreted as an integer"),
     (51, lambda c: bolt.Session("127.0.0.1", c.port, USER, timeout=float("nan")), "a time-out is a number of seconds, or None"),
+    (51, lambda c: bolt.Session("127.0.0.1", c.port, USER, tls="yes"), "tls is True or False, or a context of ssl"),
     (51, lambda c: setattr(c, "timeout", float("nan")), "a time-out is a number of seconds, or None"),
     *((51, lambda c, it=it: bolt.unpack(it), "not one value of PackStream") for it in (b"\x85text"[:-1], b"\x01\x02")),
     *((51, lambda c, it=it: bolt.unpack(it), "no value of PackStream")

@@ -13,7 +13,7 @@ import contextlib
 import ssl
 from typing import Any, AsyncIterator, Awaitable, Callable, Iterator, Optional, Union
 
-from .core import Answer, Core, Stepped, Steps, calls, is_from_elsewhere, login_of, own, port_of
+from .core import Answer, Core, Stepped, Steps, calls, context_of, is_from_elsewhere, login_of, own, port_of
 from .errors import CLOSED_HERE, INTERRUPTED, TIMED_OUT, UNREACHED, BoltError, Broken, NotSent, Request
 from .library import MESSAGE
 from .queries import Pipeline, Queries, Transacting
@@ -297,8 +297,7 @@ async def connect(host: str, port: int = 7687, *, auth: Optional[tuple[str, str]
                   timeout: Optional[float] = 10, agent: str = "bolt.py/1", versions: int = NEWEST, fetch: int = 1000) -> AsyncConnection:
     """Connects and logs in, as `bolt.connect` does."""
     login, port = login_of(("none", "", "") if auth is None else ("basic", *auth)), port_of(port)
-    context = ssl.create_default_context() if tls is True else tls or None
-    session = AsyncSession(versions, timeout)
+    context, session = context_of(tls), AsyncSession(versions, timeout)
     try:
         await session._open_at(host, port, context, agent, login)
     except OSError as why:

@@ -10,7 +10,7 @@ import ssl
 import time
 import traceback
 import warnings
-from typing import Any, Callable, Generator, Generic, Iterator, NoReturn, Optional, TypeVar
+from typing import Any, Callable, Generator, Generic, Iterator, NoReturn, Optional, TypeVar, Union
 
 from .errors import (BAD_ANSWER, CLOSED_HERE, ENDED, FAILED, GONE, INTERRUPTED, NO_MEMORY, NO_VERSION, NOT_BOLT, REFUSED, TIMED_OUT,
                      BoltError, Broken, NotSent, Refused, Request)
@@ -117,6 +117,16 @@ def port_of(port: int) -> int:
     if not 0 <= number < 1 << 16:
         raise ValueError("a port is 0 to 65535")
     return number
+
+
+def context_of(tls: Union[None, bool, ssl.SSLContext]) -> Optional[ssl.SSLContext]:
+    """What a connection is encrypted by, None where it isn't."""
+    if tls is True:
+        return ssl.create_default_context()
+    # (a context of another package needn't be of the class)
+    if not (tls is None or tls is False or hasattr(tls, "wrap_socket")):
+        raise TypeError("tls is True or False, or a context of ssl")
+    return tls or None
 
 
 class Core:
