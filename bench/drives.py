@@ -551,12 +551,13 @@ def tells_fates(port):
     elsewhere = bolt.until_known(connect, fails_elsewhere, tries=1)
     behind = bolt.until_known(connect, goes_wrong, tries=1)
     with proxy.Door(port, [{"told": 0}]) as door:
-        second = bolt.until_known(lambda: connected(door.listener.getsockname()[1]), put("second", 1), pause=lambda _: 0)
+        second = bolt.until_known(lambda: connected(door.listener.getsockname()[1]), put("second", 1), pause=lambda _: None)
+    mistaken = [type(breaks.raised(lambda: bolt.until_known(connect, put("mistaken", 1), **it))) for it in ({"within": "1"}, {"pause": 1}, {"tries": "1"})]
     by_itself = bolt.until_known(connect, lambda tx: (tx.run("PUT", key="alone", value=1), tx.commit()))
     return ((made.fate, clash.fate, again.fate, refused.fate, absent.fate, late.fate) == (bolt.STANDS, bolt.CLASH, bolt.STANDS, bolt.REFUSED, bolt.ABSENT, bolt.ABSENT)
             and type(frozen) is Frozen and len(frozen.token) == 32 and 2 < bolt.retry.pause(5000) <= 5
             and made.bookmark == again.bookmark and len(made.token) == 32 and isinstance(own, TypeError) and isinstance(refused.error, bolt.Refused)
-            and second.stands and isinstance(second.error, bolt.Broken) and made.error is None
+            and mistaken == [TypeError] * 3 and value_of(port, "mistaken") == [] and second.stands and isinstance(second.error, bolt.Broken) and made.error is None
             and keeps_the_token(connect) and len(own.token) == 32 and behind.stands and isinstance(behind.error, bolt.Refused)
             and value_of(port, "fates") == [1] and dropped.fate == bolt.ABSENT and by_itself.stands and by_itself.bookmark.startswith("bk:")
             and not elsewhere.stands and value_of(port, "elsewhere") == [] and bolt.COMMITTED in [it.outcome for it in elsewhere.error.requests])

@@ -52,7 +52,10 @@ class Tries:
 
     def __init__(self, token: Optional[str], tries: int, within: Optional[float], pause: Callable[[int], float]) -> None:
         self.token = secrets.token_hex(16) if token is None else token
-        self._tries, self._pause, self._within, self._begun = tries, pause, within, time.monotonic()
+        # (what is no number or no function is told before anything is sent)
+        if not callable(pause):
+            raise TypeError("pause is called with how many tries were made")
+        self._tries, self._pause, self._until = tries, pause, None if within is None else time.monotonic() + within
         self._tried, self._is_doubtful, self._error = 0, False, None  # type: int, bool, Optional[Exception]
 
     def ends_by(self, why: BaseException) -> None:
@@ -68,11 +71,12 @@ class Tries:
         if self._tried >= self._tries:
             return None
         self._tried += 1
-        return self._pause(self._tried - 1) if self._tried > 1 else 0
+        # (one that waits by itself answers None)
+        return (self._pause(self._tried - 1) or 0) if self._tried > 1 else 0
 
     @property
     def is_late(self) -> bool:
-        return self._within is not None and self._tried > 1 and time.monotonic() - self._begun > self._within
+        return self._until is not None and self._tried > 1 and time.monotonic() > self._until
 
     @contextlib.contextmanager
     def attempt(self) -> Iterator[None]:
