@@ -449,6 +449,32 @@ def hears_while_it_sends(_):
     return why is None and (len(first.rows), last.outcome) == (2_000, bolt.DONE)
 
 
+def tells_what_went(_):
+    """Whether of a pipeline that a server takes no more of, what no byte of has gone out is told as lost, and what stands before it as unknown."""
+    def takes_some():
+        peer, _ = listener.accept()
+        with peer:
+            peer.recv(20, socket.MSG_WAITALL)
+            for said in (TOOK, SUCCESS * 2):
+                peer.sendall(said)
+                peer.recv(100)
+            is_over.wait(60)
+
+    is_over = threading.Event()
+    with socket.create_server(("127.0.0.1", 0)) as listener:
+        listener.setsockopt(socket.SOL_SOCKET, socket.SO_RCVBUF, 32_768)
+        threading.Thread(target=takes_some, daemon=True).start()
+        with bolt.Session("127.0.0.1", listener.getsockname()[1], USER, timeout=LONG) as connection:
+            connection._socket.setsockopt(socket.SOL_SOCKET, socket.SO_SNDBUF, 32_768)
+            asked = [connection.ask_run("PUT", {"key": "went", "value": bytes(60_000)}) for _ in range(15)]
+            connection.timeout = SHORT
+            why = raised(connection.settle)
+            is_over.set()
+    told = [it.outcome for it in asked]
+    return (type(why), why.why) == (bolt.Broken, bolt.TIMED_OUT) and told == [bolt.UNKNOWN] * told.count(bolt.UNKNOWN) + [bolt.LOST] * told.count(bolt.LOST) and (
+        told[0], told[-1]) == (bolt.UNKNOWN, bolt.LOST)
+
+
 def waits_for_long(_):
     """Whether a call is given the time that is set, however long: 31 bits of milliseconds, and those of which 32 bits leave few, and no end."""
     def answer(wait):

@@ -84,7 +84,7 @@ class AsyncSession(Core):
                 if self._is_late or self._left() == 0:
                     raise TimeoutError(TIMED_OUT)
                 assert self._writer
-                self._open.went = True
+                self._open.goes(len(piece))
                 self._writer.write(piece)
                 self._open.sent(len(piece))
             except OSError as why:

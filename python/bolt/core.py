@@ -239,14 +239,15 @@ class Core:
         """The account begins anew: what it had of the requests before, they have."""
         self._all()
         check(LIBRARY.bolt_settle(self._open.handle))
-        self.requests, self._told, self._open.went, self._settled = [], 0, False, False
+        self.requests, self._told, self._settled = [], 0, False
 
     def _submit(self, text: str, message: bytes) -> Request:
-        state, asked, client, before = self._state(), Asked(), self._open, self.requests
+        client, asked, before = self._open, Asked(), self.requests
+        state, begins = client.state(), client.end()
         if self._settled and not state.has_ended:
             self._forget()
         # (noted before the library has it: an exception may come between any two steps)
-        self.requests.append(request := Request(text, account=client, ordinal=state.first + state.pending))
+        self.requests.append(request := Request(text, account=client, ordinal=state.first + state.pending, begins=begins))
         code = LIBRARY.bolt_ask(client.handle, message, len(message), asked)
         if code:
             self.requests.pop()

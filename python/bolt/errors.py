@@ -26,15 +26,15 @@ FAULTS = {1: "the request isn't allowed here", 2: "no room among the 32 requests
 class Account(Protocol):
     """What knows what became of requests: the client of the library."""
 
-    def outcome(self, ordinal: int) -> Optional[str]: ...
+    def outcome(self, ordinal: int, begins: int) -> Optional[str]: ...
 
 
 class Request:
     """What was asked, and what became of it: an outcome once it is known, which the library's account tells, and what its summary and rows hold."""
 
     def __init__(self, text: str, outcome: Optional[str] = None, metadata: Optional[dict[str, Any]] = None, rows: Optional[list[list[Any]]] = None, *,
-                 account: Optional[Account] = None, ordinal: int = 0) -> None:
-        self.text, self.ordinal = text, ordinal
+                 account: Optional[Account] = None, ordinal: int = 0, begins: int = 0) -> None:
+        self.text, self.ordinal, self._begins = text, ordinal, begins
         self.metadata: dict[str, Any] = {} if metadata is None else metadata
         self.rows: list[list[Any]] = [] if rows is None else rows
         self._outcome, self._account = outcome, account
@@ -43,7 +43,7 @@ class Request:
     def outcome(self) -> Optional[str]:
         """One of OUTCOMES, None as long as it isn't known."""
         account = self._account
-        if account is not None and (told := account.outcome(self.ordinal)):
+        if account is not None and (told := account.outcome(self.ordinal, self._begins)):
             # (the last word, for which the client isn't needed any more)
             self._outcome, self._account = told, None
         return self._outcome

@@ -57,7 +57,7 @@ class Client:
 
     def __init__(self, versions: int, owner: object) -> None:
         self.handle, self._owner = Handle(), weakref.ref(owner)
-        self.went = False  # whether bytes of the requests of the account may have gone out
+        self._taken = self._gone = 0  # how many bytes were taken off, and how many may have gone out
         self._buffer, self._length = ctypes.create_string_buffer(MESSAGE), ctypes.c_size_t()
         self._bytes = memoryview(self._buffer).cast("B")
         check(LIBRARY.bolt_open(self.handle, versions, ALL))
@@ -78,15 +78,27 @@ class Client:
         check(LIBRARY.bolt_unsent(self.handle, self._buffer, MESSAGE, self._length))
         return self._bytes[:self._length.value].tobytes()
 
+    def end(self) -> int:
+        """How many bytes there are of all that was asked, those that were sent with them."""
+        check(LIBRARY.bolt_unsent(self.handle, self._buffer, 0, self._length))
+        return self._taken + self._length.value
+
+    def goes(self, count: int) -> None:
+        """So many bytes of those that aren't sent may be gone when this call is broken off."""
+        self._gone = self._taken + count
+
     def sent(self, count: int) -> None:
+        """So many bytes have gone out, and none behind them."""
         check(LIBRARY.bolt_sent(self.handle, count))
+        self._taken += count
+        self._gone = self._taken
 
     def feed(self, piece: bytes) -> int:
         """Feeds bytes of the server, and answers a code. What they say is in the account, whatever the code."""
         return int(LIBRARY.bolt_feed(self.handle, piece, len(piece), self._length))
 
-    def outcome(self, ordinal: int) -> Optional[str]:
-        """What became of a request, None as long as it waits, and of a client that was closed meanwhile: whoever closed it has asked before."""
+    def outcome(self, ordinal: int, begins: int) -> Optional[str]:
+        """What became of a request whose bytes begin there, None as long as it waits, and of a client that was closed meanwhile: whoever closed it has asked before."""
         told, state = ctypes.c_uint32(), Standing()
         if self._owner() is None:
             LIBRARY.bolt_lose(self.handle)
@@ -96,7 +108,7 @@ class Client:
             # (behind the end none waits: the library never took it)
             return LOST if state.has_ended and not state.pending else None
         # (nothing was committed by what no byte of has gone out)
-        return LOST if OUTCOMES[told.value] == UNKNOWN and not self.went else OUTCOMES[told.value]
+        return LOST if OUTCOMES[told.value] == UNKNOWN and begins >= self._gone else OUTCOMES[told.value]
 
     def response(self, ordinal: int) -> list[Any]:
         """The fields of a request's summary."""

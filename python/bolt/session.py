@@ -101,14 +101,21 @@ class Session(Core):
                 left = self._rest()
                 assert self._socket
                 self._give(0)
-                self._open.went = True
+                self._open.goes(len(piece))
                 self._open.sent(self._socket.send(piece))
             except BLOCKED as why:
-                own(why)
+                self._unsent(why)
                 said = self._overhear(left)
             except OSError as why:
-                self._cut = own(why)
+                self._cut = self._unsent(why)
         return said
+
+    def _unsent(self, why: OSError) -> OSError:
+        """The error of a send. One of the system's has sent nothing; that of TLS may have sent a part."""
+        failed = own(why)
+        if failed.errno and not self._tls:
+            self._open.goes(0)
+        return failed
 
     def _overhear(self, left: Optional[float]) -> Optional[bytes]:
         """What has come where the socket takes nothing for now, none at the server's end; where nothing has, waits until either may be."""
