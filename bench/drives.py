@@ -589,6 +589,34 @@ def tells_what_it_heard(_, until=lambda port: bolt.until_known(lambda: connected
     return not wrong
 
 
+def passes_over(tx):
+    """A work that passes over what becomes of its COMMIT."""
+    tx.run("PUT", key="heard", value=1)
+    with contextlib.suppress(bolt.Broken, bolt.Refused):
+        tx.commit()
+
+
+def goes_on_behind(tx):
+    passes_over(tx)
+    tx.run("ONE")
+
+
+def tells_what_was_passed_over(_):
+    """Whether a transaction of which the work passes over what became of its COMMIT is sent until it is known."""
+    wrong = []
+    for work in (passes_over, goes_on_behind):
+        for said, fate in ((HEARD[2][0], bolt.STANDS), (HEARD[3][0], bolt.CLASH)):
+            with odd_servers.Server([(*BEFORE, *said), (*BEFORE, *HEARD[0][0])]) as server:
+                known = bolt.until_known(lambda: connected(server.port), work, pause=lambda _: 0)
+            wrong += [] if known.fate == fate else [f"{work.__name__}, {fate}: {known}"]
+        with odd_servers.Server([(*BEFORE, *HEARD[2][0])]) as server:
+            known = bolt.until_known(lambda: connected(server.port), work, tries=3, pause=lambda _: 0)
+        wrong += [] if (known.fate, len(server.asked)) == (bolt.OPEN, 3) else [f"{work.__name__}, {len(server.asked)} tries: {known}"]
+    if wrong:
+        print("what was passed over:", *wrong, sep="\n")
+    return not wrong
+
+
 def breaks_off_connecting(port):
     """Whether what the handler of a signal raises while a connection is made or closed is raised as it is, though it is an OSError. Python drops what is raised in
     a finalizer."""
@@ -844,5 +872,5 @@ def installs(port):
     return bool(wanted) and said == "".join(f"{line.strip()}\n" for line in wanted.split("\n"))
 
 
-WORKS = (reads_rows, hears_another, bounds_the_handshake, loses_no_record, tells_lost_records, leaves_nothing_open, sends_nothing_twice, keeps_results_apart, transacts, ends_below, commits_nothing_by_itself, tells_what_it_heard, breaks_off_connecting, pipes,
+WORKS = (reads_rows, hears_another, bounds_the_handshake, loses_no_record, tells_lost_records, leaves_nothing_open, sends_nothing_twice, keeps_results_apart, transacts, ends_below, commits_nothing_by_itself, tells_what_it_heard, tells_what_was_passed_over, breaks_off_connecting, pipes,
          keeps_moments, tells_errors, keeps_tokens, tells_fates, encrypts, installs)

@@ -10,7 +10,7 @@ import time
 from typing import Any, Callable, Iterator, Optional, Sequence
 
 from .connection import Connection, Transaction
-from .errors import COMMITTED, UNKNOWN, BoltError, NotSent, Refused, Request, Told, committed
+from .errors import COMMITTED, DONE, UNKNOWN, BoltError, NotSent, Refused, Request, Told, committed
 from .queries import Transacting
 
 LOG = logging.getLogger("bolt")
@@ -98,9 +98,9 @@ class Tries:
             return Known(STANDS, self.token, self.value, found.bookmark, why)
         if found and found._code == CLASHES:
             return Known(CLASH, self.token, error=why)
+        # (what the work asked beside its transaction, or of another connection, isn't known to be of this token)
+        self._doubt(why.requests if isinstance(why, Told) else [])
         if isinstance(why, Told):
-            # (what the work asked beside its transaction, or of another connection, isn't known to be of this token)
-            self._doubt(why.requests)
             # (a FAILURE counts, whether or not the connection lives on)
             codes = [why.code] if isinstance(why, Refused) else [it.metadata.get("code", "") for it in why.requests if it.outcome == REFUSED]
             if any(it.startswith(FINAL) for it in codes) and not self._is_doubtful:
@@ -109,13 +109,16 @@ class Tries:
             raise why
         return None
 
-    def _ended(self) -> Known:
-        """What is known behind a try of which nothing was raised: the work may have ended the transaction by itself."""
+    def _ended(self) -> Optional[Known]:
+        """What is known behind a try of which nothing was raised: the work may have ended the transaction by itself, and passed over what became of it."""
         found = self.found
         if found and found.outcome == COMMITTED:
             return Known(STANDS, self.token, self.value, found.bookmark, self._error)
+        if found and found._code == CLASHES:
+            return Known(CLASH, self.token, error=self._error)
         self._doubt(found._connection.session.requests if found else [])
-        return self.over()
+        # (what was rolled back is over)
+        return None if found and found.outcome not in (None, DONE) else self.over()
 
     def _doubt(self, requests: Sequence[Request]) -> None:
         """Whether it may stand behind a try that isn't known to have committed: by its own end, else by what was asked last."""
