@@ -449,6 +449,15 @@ def hears_while_it_sends(_):
     return why is None and (len(first.rows), last.outcome) == (2_000, bolt.DONE)
 
 
+def hears_without_poll(_):
+    """The same where there is no poll, as beside the sockets of some other package. (Others that run meanwhile do without it, too.)"""
+    there, bolt.session.select = bolt.session.select, types.SimpleNamespace()
+    try:
+        return hears_while_it_sends(_)
+    finally:
+        bolt.session.select = there
+
+
 def tells_what_went(_):
     """Whether of a pipeline that a server takes no more of, what no byte of has gone out is told as lost, and what stands before it as unknown."""
     def takes_some():

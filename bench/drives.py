@@ -872,5 +872,6 @@ def installs(port):
     return bool(wanted) and said == "".join(f"{line.strip()}\n" for line in wanted.split("\n"))
 
 
-WORKS = (reads_rows, hears_another, bounds_the_handshake, loses_no_record, tells_lost_records, leaves_nothing_open, sends_nothing_twice, keeps_results_apart, transacts, ends_below, commits_nothing_by_itself, tells_what_it_heard, tells_what_was_passed_over, breaks_off_connecting, pipes,
-         keeps_moments, tells_errors, keeps_tokens, tells_fates, encrypts, installs)
+WORKS = (reads_rows, hears_another, bounds_the_handshake, loses_no_record, tells_lost_records, leaves_nothing_open, sends_nothing_twice,
+         keeps_results_apart, transacts, ends_below, commits_nothing_by_itself, tells_what_it_heard, tells_what_was_passed_over,
+         breaks_off_connecting, pipes, keeps_moments, tells_errors, keeps_tokens, tells_fates, encrypts, installs)

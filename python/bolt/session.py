@@ -4,6 +4,7 @@ from __future__ import annotations
 import select
 import socket
 import ssl
+import time
 from typing import Any, Optional, Union
 
 from .core import BEGIN, COMMIT, ROLLBACK, Answer, Core, Stepped, Steps, calls, context_of, ends, extra, is_from_elsewhere, login_of, own, port_of
@@ -127,11 +128,15 @@ class Session(Core):
         except OSError as why:
             self._cut = own(why)
             return None
-        waiting, number = select.poll(), self._socket.fileno()
         # (not for long: another thread may close it, and what has its number then is another's)
-        if number >= 0:
+        seconds, number = min(1, 1 if left is None else left), self._socket.fileno()
+        if not hasattr(select, "poll"):
+            # (it is taken away where sockets are another package's, as eventlet's)
+            time.sleep(min(seconds, 0.01))
+        elif number >= 0:
+            waiting = select.poll()
             waiting.register(number, select.POLLIN | select.POLLOUT)
-            waiting.poll(1000 * min(1, 1 if left is None else left))
+            waiting.poll(1000 * seconds)
         return None
 
     def _receive(self) -> bytes:
