@@ -266,7 +266,7 @@ def unpack(data: bytes) -> Any:
     whole = Unpacked(data)
     try:
         value = whole.value()
-    except (struct.error, LookupError, TypeError) as why:
+    except (struct.error, LookupError, TypeError, RecursionError) as why:
         raise ValueError("no value of PackStream") from why
     if whole.at != len(data):
         raise ValueError("not one value of PackStream")
