@@ -81,6 +81,36 @@ def loses_no_record(port):
             number += 1
 
 
+READING = ("values", "data", "single", "_rest", "_ahead", "_more", "_unread", "_record", "_next", "__next__", "by_place", "by_name", "only")
+
+
+def loses_no_records(port):
+    """Whether, where an interrupt comes at a line of a call that reads what is left of a result, that is read next, or it is said that it can't be."""
+    held = []
+    for n, read in ((5, lambda records: records.values()), (5, lambda records: records.data()), (2, lambda records: records.single())):
+        number, wrong = 1, []
+        while True:
+            interrupt, is_raised, rest = breaks.Within(number, READING), False, []
+            with connected(port, fetch=2) as connection:
+                records = connection.run("ROWS", n=n)
+                next(records)
+                sys.settrace(interrupt)
+                try:
+                    read(records)
+                except breaks.INTERRUPTS:
+                    is_raised = True
+                finally:
+                    sys.settrace(None)
+                why = breaks.raised(lambda: rest.extend(it[0] for it in records))
+            if not interrupt.raised:
+                # (at the last line they are read)
+                held.append(wrong == [number - 1] and number > 10)
+                break
+            wrong += [number] if is_raised and rest != list(range(2, n + 1)) and not isinstance(why, bolt.BoltError) else []
+            number += 1
+    return all(held)
+
+
 def tells_lost_records(port):
     """Whether, where an interrupt comes at a line of a PULL's end, no record is passed over as if the result had ended there."""
     number = 1
@@ -872,6 +902,6 @@ def installs(port):
     return bool(wanted) and said == "".join(f"{line.strip()}\n" for line in wanted.split("\n"))
 
 
-WORKS = (reads_rows, hears_another, bounds_the_handshake, loses_no_record, tells_lost_records, leaves_nothing_open, sends_nothing_twice,
-         keeps_results_apart, transacts, ends_below, commits_nothing_by_itself, tells_what_it_heard, tells_what_was_passed_over,
+WORKS = (reads_rows, hears_another, bounds_the_handshake, loses_no_record, loses_no_records, tells_lost_records, leaves_nothing_open,
+         sends_nothing_twice, keeps_results_apart, transacts, ends_below, commits_nothing_by_itself, tells_what_it_heard, tells_what_was_passed_over,
          breaks_off_connecting, pipes, keeps_moments, tells_errors, keeps_tokens, tells_fates, encrypts, installs)

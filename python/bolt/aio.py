@@ -17,7 +17,7 @@ from .core import Answer, Core, Stepped, Steps, calls, context_of, is_from_elsew
 from .errors import CLOSED_HERE, INTERRUPTED, TIMED_OUT, UNREACHED, BoltError, Broken, NotSent, Request
 from .library import MESSAGE
 from .queries import Pipeline, Queries, Transacting
-from .results import Pulled, Record, Summary, only
+from .results import Pulled, Record, Summary, by_name, by_place, only
 from .retry import Known, Tries, pause
 from .versions import NEWEST
 
@@ -173,17 +173,23 @@ class AsyncResult(Pulled):
                 raise StopAsyncIteration
         return self._next()
 
+    async def _rest(self, of: Callable[[list[Record]], Answer]) -> Answer:
+        """What is made of the records that weren't read yet."""
+        while await self._session._call(self._ahead()):
+            pass
+        return self._unread(of)
+
     async def data(self) -> list[dict[str, Any]]:
         """The records that weren't read yet, each by name."""
-        return [it.data() async for it in self]
+        return await self._rest(by_name)
 
     async def values(self) -> list[list[Any]]:
         """The records that weren't read yet, each as a list."""
-        return [it.values() async for it in self]
+        return await self._rest(by_place)
 
     async def single(self) -> Record:
         """The only record; ValueError if there are none or several."""
-        return only([it async for it in self])
+        return await self._rest(only)
 
     async def consume(self) -> Summary:
         """Passes over what is left, and tells how the result ended."""

@@ -4,12 +4,12 @@ from __future__ import annotations
 import contextlib
 import logging
 import ssl
-from typing import Any, Iterator, Optional, Union
+from typing import Any, Callable, Iterator, Optional, Union
 
-from .core import is_from_elsewhere
+from .core import Answer, is_from_elsewhere
 from .errors import CLOSED_HERE, INTERRUPTED, BoltError
 from .queries import Deferred, Pipeline, Queries, Transacting
-from .results import Pulled, Record, Summary, only
+from .results import Pulled, Record, Summary, by_name, by_place, only
 from .session import Session
 from .versions import NEWEST
 
@@ -32,17 +32,23 @@ class Result(Pulled):
                 raise StopIteration
         return self._next()
 
+    def _rest(self, of: Callable[[list[Record]], Answer]) -> Answer:
+        """What is made of the records that weren't read yet."""
+        while self._session._call(self._ahead()):
+            pass
+        return self._unread(of)
+
     def data(self) -> list[dict[str, Any]]:
         """The records that weren't read yet, each by name."""
-        return [it.data() for it in self]
+        return self._rest(by_name)
 
     def values(self) -> list[list[Any]]:
         """The records that weren't read yet, each as a list."""
-        return [it.values() for it in self]
+        return self._rest(by_place)
 
     def single(self) -> Record:
         """The only record; ValueError if there are none or several."""
-        return only(list(self))
+        return self._rest(only)
 
     def consume(self) -> Summary:
         """Passes over what is left, and tells how the result ended."""

@@ -2,9 +2,9 @@
 from __future__ import annotations
 
 import dataclasses
-from typing import Any, Iterator, Mapping, Optional, Sequence, Union
+from typing import Any, Callable, Iterator, Mapping, Optional, Sequence, Union
 
-from .core import Core, Steps
+from .core import Answer, Core, Steps
 from .errors import COMMITTED, DONE, GONE, INTERRUPTED, LOST, REFUSED, Broken, NotSent, Refused, Request
 from .library import NOT_ALLOWED
 from .times import heard
@@ -103,8 +103,8 @@ class Pulled:
         while self._has_more:
             yield from self._more(-1)
 
-    def _refill(self) -> Steps[None]:
-        """Pulls more once all that is held was read, which isn't kept twice. What ended it too early is raised each time."""
+    def _check(self) -> None:
+        """Raises what ended it too early, each time."""
         if self._last.outcome == REFUSED:
             raise Refused(self._last.metadata.get("code", ""), self._last.metadata.get("message", ""), [self._last])
         if self._last.outcome not in (DONE, COMMITTED):
@@ -112,19 +112,39 @@ class Pulled:
         if self._last is not self._taken:
             # (its rows may not be there)
             raise Broken([self._last], self._session._why or INTERRUPTED)
+
+    def _refill(self) -> Steps[None]:
+        """Pulls more once all that is held was read, which isn't kept twice."""
+        self._check()
         while self._is_read and self._has_more:
             self._rows, self._read = [], 0
             yield from self._more(self._fetch)
+
+    def _ahead(self) -> Steps[bool]:
+        """Pulls more, and keeps it; answers whether more is left."""
+        self._check()
+        if self._has_more:
+            yield from self._more(self._fetch)
+        return self._has_more
 
     @property
     def _is_read(self) -> bool:
         return self._read == len(self._rows)
 
+    def _record(self, row: list[Any]) -> Record:
+        return Record(self.keys(), [heard(it, self._session.version) for it in row])
+
     def _next(self) -> Record:
         """The next record, which is held."""
-        found = Record(self.keys(), [heard(it, self._session.version) for it in self._rows[self._read]])
+        found = self._record(self._rows[self._read])
         # (last, so that what breaks this off loses no record)
         self._read += 1
+        return found
+
+    def _unread(self, of: Callable[[list[Record]], Answer]) -> Answer:
+        """What is made of the records that are held and weren't read yet, which stay so where this is broken off."""
+        found = of([self._record(it) for it in self._rows[self._read:]])
+        self._read = len(self._rows)
         return found
 
     def _held(self) -> Iterator[Record]:
@@ -139,6 +159,14 @@ class Pulled:
         """The names of the columns, none where the server tells none."""
         names = self._run.metadata.get("fields")
         return list(names) if isinstance(names, list) else []
+
+
+def by_name(records: list[Record]) -> list[dict[str, Any]]:
+    return [it.data() for it in records]
+
+
+def by_place(records: list[Record]) -> list[list[Any]]:
+    return [it.values() for it in records]
 
 
 def only(records: list[Record]) -> Record:
