@@ -316,6 +316,43 @@ def commits_nothing_by_itself(port):
         number += 1
 
 
+class Closed(breaks.Closed):
+    """Closes a connection at a line of what runs queries: how many these are doesn't depend on how answers come."""
+
+    def __call__(self, frame, event, word):
+        named = os.path.basename(frame.f_code.co_filename) in ("connection.py", "queries.py", "results.py")
+        return super().__call__(frame, event, word) if named else None
+
+
+# What is called with a result that is open.
+OPEN = (lambda connection, left: connection.run("ONE"), lambda connection, left: left.values(), lambda connection, left: by_steps(connection, "meanwhile"),
+        lambda connection, left: in_one(connection, "meanwhile"))
+
+
+def closes_meanwhile(port):
+    """Whether of a call in the midst of which its connection is closed an error of the package is raised, if one is, at whichever line of what runs queries that comes."""
+    wrong, number = [], 1
+    while True:
+        has_come = False
+        for at, call in enumerate(OPEN):
+            with connected(port, fetch=2) as connection:
+                left = connection.run("ROWS", n=5)
+                closing = Closed(number, connection)
+                sys.settrace(closing)
+                try:
+                    why = breaks.raised(lambda: call(connection, left))
+                finally:
+                    sys.settrace(None)
+            has_come = has_come or closing.has_come
+            wrong += [] if why is None or isinstance(why, bolt.BoltError) else [f"call {at}, line {number}: {why!r}"]
+        if not has_come:
+            break
+        number += 1
+    if wrong:
+        print("connections that are closed meanwhile:", *wrong[:9], sep="\n")
+    return not wrong and number > 50
+
+
 def pipes(port):
     """Whether a pipeline's records are there at its end, and nothing of one goes out that an exception ends."""
     with connected(port) as connection:
@@ -904,4 +941,4 @@ def installs(port):
 
 WORKS = (reads_rows, hears_another, bounds_the_handshake, loses_no_record, loses_no_records, tells_lost_records, leaves_nothing_open,
          sends_nothing_twice, keeps_results_apart, transacts, ends_below, commits_nothing_by_itself, tells_what_it_heard, tells_what_was_passed_over,
-         breaks_off_connecting, pipes, keeps_moments, tells_errors, keeps_tokens, tells_fates, encrypts, installs)
+         closes_meanwhile, breaks_off_connecting, pipes, keeps_moments, tells_errors, keeps_tokens, tells_fates, encrypts, installs)

@@ -65,8 +65,10 @@ class Queries(Generic[Kind, Found]):
 
     def _settling_open(self) -> Steps[None]:
         """Pulls what is left of the result that is open: only then may something else be asked."""
-        if self._open_result and self._open_result._is_open():
-            yield from self._open_result._finish()
+        # (a signal handler or another thread may close the connection meanwhile, which has no result then)
+        left = self._open_result
+        if left and left._is_open():
+            yield from left._finish()
         self._open_result = None
 
     def _own(self, text: str, parameters: dict[str, Any], write: bool = True) -> Steps[Found]:
