@@ -1,15 +1,8 @@
 //! Messages of bytes.
 ghost use Rattle.std.specs.Prelude.{◌≡◌, ◌↔◌, ℕ, List, Ok, Err, OnOk};
-ghost use Rattle.packstream.specs.Canon.{canon};
-ghost use Rattle.packstream.specs.Good.{IsGood};
-ghost use Rattle.packstream.specs.Spelling.{Spells};
-ghost use Rattle.packstream.specs.View.{tree};
+ghost use Rattle.packstream.specs.Prelude.{canon, IsGood, Spells, tree};
 ghost use Rattle.messages.specs.declared.fault.MsgFault.{MsgFault as AnyFault};
-ghost use Rattle.messages.specs.Table.{requests, responses};
-ghost use Rattle.messages.specs.View.{request_view, response_view, RequestView, ResponseView};
-ghost use Rattle.messages.specs.Reading.{Answers, request_contents, response_contents};
-ghost use Rattle.messages.specs.Messages.{Req, Resp, NoRequest, NoResponse, Gave, UnlessMemory, contents_in, request_of, response_of};
-ghost use Rattle.messages.specs.Writing.{Appends, spelling_within, spelling_of_tree, request_spelling, response_spelling};
+ghost use Rattle.messages.specs.Prelude.{requests, responses, request_view, response_view, RequestView, ResponseView, Answers, request_contents, response_contents, Req, Resp, NoRequest, NoResponse, Gave, UnlessMemory, contents_in, request_of, response_of, Appends, spelling_within, spelling_of_tree, request_spelling, response_spelling};
 
 use crate::fault::MsgFault;
 use crate::read_requests::{request_of_value, scan_request};

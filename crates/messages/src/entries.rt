@@ -1,12 +1,8 @@
 //! The named entries of a dictionary, of values or of cells.
 ghost use Rattle.std.specs.Prelude.{◌≡◌, codes, Some, ◌∷◌, []};
-ghost use Rattle.packstream.specs.Tree.{Tree};
-ghost use Rattle.packstream.specs.View.{tree};
+ghost use Rattle.packstream.specs.Prelude.{Tree, tree};
 ghost use Rattle.cells.specs.Shape.{shape, text_of};
-ghost use Rattle.messages.specs.Reading.{Answers, lookup, contents_of_text, contents_of_mode, contents_of_count, contents_of_token, contents_of_named, is_token, token_tree, mode_tree, count_tree, login_trees, all_named, contents_of_extra, request_contents, response_contents};
-ghost use Rattle.messages.specs.Parts.{contents_of_login, contents_of_dict, entries_seen, IsKind};
-ghost use Rattle.messages.specs.Table.{refused, how_many, hello, of_transaction, of_error, HELLO, FAILURE};
-ghost use Rattle.messages.specs.View.{auth_view as login, token_view, request_view, response_view};
+ghost use Rattle.messages.specs.Prelude.{Answers, lookup, contents_of_text, contents_of_mode, contents_of_count, contents_of_token, contents_of_named, is_token, token_tree, mode_tree, count_tree, login_trees, all_named, contents_of_extra, request_contents, response_contents, contents_of_login, contents_of_dict, entries_seen, IsKind, refused, how_many, hello, of_transaction, of_error, HELLO, FAILURE, auth_view as login, token_view, request_view, response_view};
 ghost use Rattle.wire.specs.declared.Version.TheVariants.{V51};
 
 use crate::MAX_TOKEN;

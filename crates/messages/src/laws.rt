@@ -3,9 +3,7 @@ ghost use Rattle.std.specs.Prelude.{◌≡◌, ◌++◌, [], List, ℕ, Ok, Err}
 ghost use Rattle.packstream.specs.Plain.{AreBytes};
 ghost use Rattle.wire.specs.declared.Version.{Version as AnyVersion};
 ghost use Rattle.messages.specs.declared.fault.MsgFault.{MsgFault as AnyFault};
-ghost use Rattle.messages.specs.View.{RequestView, ResponseView};
-ghost use Rattle.messages.specs.Sound.{RequestsAreMade, RequestsReadBack, ResponsesAreMade, ResponsesReadBack};
-ghost use Rattle.messages.specs.Messages.{Req, Resp, NoRequest, NoResponse, request_of, response_of};
+ghost use Rattle.messages.specs.Prelude.{RequestView, ResponseView, RequestsAreMade, RequestsReadBack, ResponsesAreMade, ResponsesReadBack, Req, Resp, NoRequest, NoResponse, request_of, response_of};
 
 pub mod framing;
 pub mod saying;

@@ -2,10 +2,7 @@
 ghost use Rattle.std.specs.Prelude.{◌≡◌, ◌↔◌, ℕ, List, Err};
 ghost use Rattle.packstream.specs.Spelling.{Spells};
 ghost use Rattle.messages.specs.declared.fault.MsgFault.{MsgFault as AnyFault};
-ghost use Rattle.messages.specs.Table.{requests, responses};
-ghost use Rattle.messages.specs.View.{request_view, response_view, RequestView, ResponseView};
-ghost use Rattle.messages.specs.Reading.{Answers, request_contents, response_contents, contents_of_message};
-ghost use Rattle.messages.specs.Messages.{Req, Resp, NoRequest, NoResponse, Gave, UnlessMemory, request_of as request_by, response_of as response_by};
+ghost use Rattle.messages.specs.Prelude.{requests, responses, request_view, response_view, RequestView, ResponseView, Answers, request_contents, response_contents, contents_of_message, Req, Resp, NoRequest, NoResponse, Gave, UnlessMemory, request_of as request_by, response_of as response_by};
 
 use crate::fault::MsgFault;
 use crate::read_requests::request_of_value;

@@ -1,11 +1,7 @@
 //! The named entries of a dictionary, written straight into an output.
 ghost use Rattle.std.specs.Prelude.{◌≡◌, ◌≤◌, ◌++◌, ◌∷◌, [], Some, true, OnOk, codes, length, map, string_bytes};
-ghost use Rattle.packstream.specs.Canon.{canon, canon_entries};
-ghost use Rattle.packstream.specs.View.{entries_of};
-ghost use Rattle.messages.specs.Added.{AddsEntries};
-ghost use Rattle.messages.specs.Reading.{is_token as token_fits};
-ghost use Rattle.messages.specs.Parts.{transaction_put, rows_put, token_dict, named_text, of_texts, login_pairs, hello_pairs, error_pairs};
-ghost use Rattle.messages.specs.View.{auth_view, token_view};
+ghost use Rattle.packstream.specs.Prelude.{canon, canon_entries, entries_of};
+ghost use Rattle.messages.specs.Prelude.{AddsEntries, is_token as token_fits, transaction_put, rows_put, token_dict, named_text, of_texts, login_pairs, hello_pairs, error_pairs, auth_view, token_view};
 
 use crate::entries::is_token;
 use crate::request::{Auth, Count, Mode};

@@ -1,11 +1,8 @@
 //! Parts of a message that are read of requests and of responses.
 ghost use Rattle.std.specs.Prelude.{◌≡◌, [], ◌++◌, IfOk, OnOk};
-ghost use Rattle.messages.specs.Scanned.{SpellsDict};
-ghost use Rattle.packstream.specs.Tree.{list, dict};
-ghost use Rattle.packstream.specs.View.{tree, trees, trees_of, entries as value_entries, entries_of};
+ghost use Rattle.messages.specs.Prelude.{SpellsDict, Answers, cell_of_field, entries_of_dict, only_dict, no_field, one_field, dict_of_cells, list_of_cells};
+ghost use Rattle.packstream.specs.Prelude.{list, dict, tree, trees, trees_of, entries as value_entries, entries_of};
 ghost use Rattle.cells.specs.Shape.{entries, shape, shapes};
-ghost use Rattle.messages.specs.Reading.{Answers, cell_of_field};
-ghost use Rattle.messages.specs.Parts.{entries_of_dict, only_dict, no_field, one_field, dict_of_cells, list_of_cells};
 
 use crate::fault::MsgFault;
 use packstream::Value;

@@ -2,11 +2,7 @@
 //! read goes the first.
 ghost use Rattle.std.specs.Prelude.{◌∷◌, [], IfOk};
 ghost use Rattle.packstream.specs.View.{tree, trees, trees_of, entries as value_entries, entries_of};
-ghost use Rattle.messages.specs.Table.{ignored, extra, text_field, cells, of_transaction, HELLO, LOGON, LOGOFF, GOODBYE, RESET, RUN, BEGIN, COMMIT, ROLLBACK, DISCARD, PULL, requests, run_tag};
-ghost use Rattle.messages.specs.View.{request_view};
-ghost use Rattle.messages.specs.Reading.{Answers, contents_of_row, contents_at_tag, contents_of_message, request_contents};
-ghost use Rattle.messages.specs.Parts.{contents_of_plain, contents_of_run, parts, run_parts, field_text};
-ghost use Rattle.messages.specs.Messages.{Req};
+ghost use Rattle.messages.specs.Prelude.{ignored, extra, text_field, cells, of_transaction, HELLO, LOGON, LOGOFF, GOODBYE, RESET, RUN, BEGIN, COMMIT, ROLLBACK, DISCARD, PULL, requests, run_tag, request_view, Answers, contents_of_row, contents_at_tag, contents_of_message, request_contents, contents_of_plain, contents_of_run, parts, run_parts, field_text, Req};
 
 use crate::entries::{auth_of, count_in, hello_of, transaction_of};
 use crate::fault::MsgFault;

@@ -3,10 +3,7 @@
 ghost use Rattle.std.specs.Prelude.{◌∷◌, [], IfOk};
 ghost use Rattle.packstream.specs.View.{tree, trees, trees_of};
 ghost use Rattle.wire.specs.declared.Version.{Version as AnyVersion};
-ghost use Rattle.messages.specs.Table.{cells, cell_list, SUCCESS, RECORD, IGNORED, FAILURE, responses};
-ghost use Rattle.messages.specs.View.{response_view};
-ghost use Rattle.messages.specs.Reading.{Answers, contents_of_row, contents_of_message, response_contents};
-ghost use Rattle.messages.specs.Messages.{Resp};
+ghost use Rattle.messages.specs.Prelude.{cells, cell_list, SUCCESS, RECORD, IGNORED, FAILURE, responses, response_view, Answers, contents_of_row, contents_of_message, response_contents, Resp};
 
 use crate::entries::failure_of;
 use crate::fault::MsgFault;

@@ -1,13 +1,9 @@
 //! The written runs of messages, behind the mark of an output.
 ghost use Rattle.std.specs.Prelude.{◌≡◌, ◌<◌, ◌≤◌, ◌∷◌, [], true, false, length, drop, OnOk, OnErr, IfErr, Err};
 ghost use Rattle.packstream.specs.Writing.{whole};
+ghost use Rattle.wire.specs.Prelude.{written_run};
 ghost use Rattle.wire.specs.Limits.{max_message};
-ghost use Rattle.wire.specs.Texts.{written_run};
-ghost use Rattle.messages.specs.Arrivals.{PutsRequest};
-ghost use Rattle.messages.specs.View.{request_view};
-ghost use Rattle.messages.specs.Added.{Adds};
-ghost use Rattle.messages.specs.Reading.{request_contents};
-ghost use Rattle.messages.specs.Writing.{form_put, request_spelling};
+ghost use Rattle.messages.specs.Prelude.{PutsRequest, request_view, Adds, request_contents, form_put, request_spelling};
 
 use crate::codec::write_request;
 use crate::fault::MsgFault;

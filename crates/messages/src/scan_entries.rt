@@ -2,17 +2,10 @@
 //! read where they stand; other dictionaries are read as cells.
 ghost use Rattle.std.specs.Prelude.{◌≡◌, ◌∷◌, [], true, Ok, IfOk, codes};
 ghost use Rattle.std.specs.Str.{IsUtf8};
-ghost use Rattle.packstream.specs.Canon.{canon};
-ghost use Rattle.packstream.specs.Spelling.{SpellsEntries};
-ghost use Rattle.packstream.specs.Tree.{dict, text};
-ghost use Rattle.packstream.specs.View.{entries_of};
+ghost use Rattle.packstream.specs.Prelude.{canon, SpellsEntries, dict, text, entries_of};
 ghost use Rattle.cells.specs.Shape.{entries};
 ghost use Rattle.messages.specs.declared.request.Mode.TheVariants.{Read, Write};
-ghost use Rattle.messages.specs.Parts.{mode_pairs, token_dict};
-ghost use Rattle.messages.specs.Reading.{contents_of_number, count_tree, mode_tree, token_tree, is_token as token_fits};
-ghost use Rattle.messages.specs.Scanned.{SpellsExtra, SpellsNamed};
-ghost use Rattle.messages.specs.Table.{ignored, refused, of_transaction, how_many};
-ghost use Rattle.messages.specs.View.{token_view};
+ghost use Rattle.messages.specs.Prelude.{mode_pairs, token_dict, contents_of_number, count_tree, mode_tree, token_tree, is_token as token_fits, SpellsExtra, SpellsNamed, ignored, refused, of_transaction, how_many, token_view};
 ghost use Rattle.wire.specs.declared.Version.{Version as AnyVersion};
 
 use crate::entries::{count_in, is_token, transaction_of};

@@ -1,13 +1,8 @@
 //! Parts of a message that are written of requests and of responses.
 ghost use Rattle.std.specs.Prelude.{◌≡◌, true, false, ◌∷◌, [], ◌++◌, Ok, IfOk, OnOk, ◌≤◌, ◌+◌, length, map};
-ghost use Rattle.packstream.specs.Tree.{dict, structure, no_trees, tree_then};
-ghost use Rattle.packstream.specs.View.{tree, entries as value_entries, entries_of};
+ghost use Rattle.packstream.specs.Prelude.{dict, structure, no_trees, tree_then, tree, entries as value_entries, entries_of, max_size};
 ghost use Rattle.cells.specs.Shape.{entries};
-ghost use Rattle.messages.specs.Reading.{Answers};
-ghost use Rattle.messages.specs.Cells.{cell_put};
-ghost use Rattle.messages.specs.Parts.{named_text, of_texts};
-ghost use Rattle.packstream.specs.Limits.{max_size};
-ghost use Rattle.messages.specs.Added.{Adds, AddsCells};
+ghost use Rattle.messages.specs.Prelude.{Answers, cell_put, named_text, of_texts, Adds, AddsCells};
 
 use crate::fault::MsgFault;
 use crate::read_parts::FIELD_DEPTH;

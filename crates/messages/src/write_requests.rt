@@ -1,14 +1,8 @@
 //! Requests, written in two ways: as a value, which also tells what is wrong, and straight into an output. What the second doesn't
 //! write goes the first, or is told as want of memory where nothing else can be wrong.
 ghost use Rattle.std.specs.Prelude.{◌≡◌, true, false, IfOk, OnOk, ◌≤◌, ◌+◌, length};
-ghost use Rattle.packstream.specs.Tree.{int};
-ghost use Rattle.packstream.specs.View.{tree, entries as value_entries, entries_of};
-ghost use Rattle.messages.specs.View.{request_view, token_view};
-ghost use Rattle.messages.specs.Reading.{Answers, request_contents, count_tree};
-ghost use Rattle.messages.specs.Writing.{form_put};
-ghost use Rattle.messages.specs.Parts.{with_dict, transaction_put, rows_put, mode_pairs, count_number};
-ghost use Rattle.packstream.specs.Limits.{max_size};
-ghost use Rattle.messages.specs.Added.{Adds};
+ghost use Rattle.packstream.specs.Prelude.{int, tree, entries as value_entries, entries_of, max_size};
+ghost use Rattle.messages.specs.Prelude.{request_view, token_view, Answers, request_contents, count_tree, form_put, with_dict, transaction_put, rows_put, mode_pairs, count_number, Adds};
 
 use crate::entries::is_token;
 use crate::fault::MsgFault;

@@ -1,15 +1,9 @@
 //! Responses, written in two ways: as a value, which also tells what is wrong, and straight into an output. What the second doesn't
 //! write goes the first, or is told as want of memory where nothing else can be wrong.
 ghost use Rattle.std.specs.Prelude.{◌≡◌, true, false, Ok, OnOk, ◌≤◌, ◌+◌, length};
-ghost use Rattle.packstream.specs.Tree.{list};
-ghost use Rattle.packstream.specs.View.{tree, trees_of};
+ghost use Rattle.packstream.specs.Prelude.{list, tree, trees_of, max_size};
 ghost use Rattle.cells.specs.Shape.{shapes};
-ghost use Rattle.messages.specs.View.{response_view};
-ghost use Rattle.messages.specs.Reading.{Answers, response_contents};
-ghost use Rattle.messages.specs.Writing.{form_put};
-ghost use Rattle.messages.specs.Cells.{cell_put};
-ghost use Rattle.packstream.specs.Limits.{max_size};
-ghost use Rattle.messages.specs.Added.{Adds};
+ghost use Rattle.messages.specs.Prelude.{response_view, Answers, response_contents, form_put, cell_put, Adds};
 
 use crate::fault::MsgFault;
 use crate::put_entries::{error_texts, put_texts};

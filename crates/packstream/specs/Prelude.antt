@@ -5,7 +5,7 @@ pub use Rattle.packstream.specs.Good.{depth, trees_depth, entries_depth, count, 
 pub use Rattle.packstream.specs.View.{trees_of, entries_of, tree, trees, entry, entries}
 pub use Rattle.packstream.specs.Markers.{width, size_len}
 unfoldable pub use Rattle.packstream.specs.Markers.{marker}
-pub use Rattle.packstream.specs.Reading.{Read, ◌>>=◌, Fails, keys}
+pub use Rattle.packstream.specs.Reading.{Read, ◌>>=◌, Fails, keys, Gives}
 unfoldable pub use Rattle.packstream.specs.Reading.{number_at, int_at, size_at, bytes_at, text_at, items_at, key_of, key_at, entries_at, list_at, dict_at, struct_at, form_at, layer, inner}
 pub use Rattle.packstream.specs.Hashing.{hash, in_place, numbered, is_key, is_other, Knows}
 unfoldable pub use Rattle.packstream.specs.Hashing.{hash_more}
@@ -19,3 +19,5 @@ unfoldable pub use Rattle.packstream.specs.Canon.{long_head, head, int_bytes}
 pub use Rattle.packstream.specs.Making.{own_fault, faults_in, faults_in_all, faults_in_entries}
 unfoldable pub use Rattle.packstream.specs.Making.{first_fault}
 pub use Rattle.packstream.specs.Twins.{Pair, names, stands_before, IsFirstTwin}
+pub use Rattle.packstream.specs.Limits.{max_depth, max_size}
+pub use Rattle.packstream.specs.Writing.{Writes, whole}

@@ -1,18 +1,11 @@
 //! Bytes out of values.
 ghost use Rattle.std.specs.Prelude.{◌≡◌, ◌<◌, ◌+◌, ◌++◌, length};
-ghost use Rattle.packstream.specs.Canon.{long_head, text_bytes, canon, canon_all, canon_entries, IsShortest};
-ghost use Rattle.packstream.specs.Tree.{list, dict, structure};
-ghost use Rattle.packstream.specs.Good.{IsSound, AreSound, HaveSoundValues};
-ghost use Rattle.packstream.specs.View.{tree, trees, trees_of, entries, entries_of};
+ghost use Rattle.packstream.specs.Prelude.{long_head, text_bytes, canon, canon_all, canon_entries, IsShortest, list, dict, structure, IsSound, AreSound, HaveSoundValues, tree, trees, trees_of, entries, entries_of, UnlessMemory, Writes, Spells, max_size};
 ghost use Rattle.std.specs.Prelude.{ℕ, min, OnOk, OnErr, Err, ◌↔◌};
-ghost use Rattle.packstream.specs.Answers.{UnlessMemory};
-ghost use Rattle.packstream.specs.Writing.{Writes};
 ghost use Rattle.packstream.specs.declared.fault.Reason.{Reason};
 ghost use Rattle.packstream.specs.declared.fault.Reason.TheVariants as reason;
 ghost use Rattle.packstream.specs.declared.fault.PackFault.TheVariants as fault;
 ghost use Rattle.std.specs.Prelude.{List};
-ghost use Rattle.packstream.specs.Spelling.{Spells};
-ghost use Rattle.packstream.specs.Limits.{max_size};
 
 use crate::MAX_SIZE;
 use crate::fault::{PackFault, Reason, Unwritten};

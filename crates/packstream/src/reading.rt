@@ -1,11 +1,7 @@
 //! What follows a marker: numbers, lengths, bytes and texts (PackStream version 1). `left` counts the bytes from the marker on, for the fault.
 ghost use Rattle.std.specs.Prelude.{◌≡◌, ◌≤◌, [], ◌∷◌, ◌++◌, IfOk, IfSome, IsNone, IsUtf8, length};
 ghost use Rattle.byteorder.specs.Endian.{big_number, twos_complement};
-ghost use Rattle.packstream.specs.Hashing.{Knows};
-ghost use Rattle.packstream.specs.Markers.{width};
-ghost use Rattle.packstream.specs.Reading.{Gives, number_at, int_at, size_at, bytes_at, text_at, key_at};
-ghost use Rattle.packstream.specs.Tree.{int};
-ghost use Rattle.packstream.specs.Twins.{names};
+ghost use Rattle.packstream.specs.Prelude.{Knows, width, Gives, number_at, int_at, size_at, bytes_at, text_at, key_at, int, names};
 
 use crate::fault::Reason;
 pub use crate::fault::Stop;

@@ -1,8 +1,6 @@
 //! Keys that were seen.
 ghost use Rattle.std.specs.Prelude.{◌≡◌, ◌<◌, ◌%◌, ◌++◌, ◌∷◌, [], not, true, length, slice_index_or, IfOk};
-ghost use Rattle.packstream.specs.Good.{is_among};
-ghost use Rattle.packstream.specs.Hashing.{hash, numbered, is_key, Knows};
-ghost use Rattle.packstream.specs.Twins.{names};
+ghost use Rattle.packstream.specs.Prelude.{is_among, hash, numbered, is_key, Knows, names};
 
 pub use crate::places::Seen;
 use std::alloc::{AllocError, Global};

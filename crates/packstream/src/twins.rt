@@ -1,7 +1,6 @@
 //! The first key of a dictionary that stands before it too.
 ghost use Rattle.std.specs.Prelude.{◌≡◌, IfOk, map, string_bytes};
-ghost use Rattle.packstream.specs.Good.{is_among};
-ghost use Rattle.packstream.specs.Twins.{IsFirstTwin};
+ghost use Rattle.packstream.specs.Prelude.{is_among, IsFirstTwin};
 
 use crate::seen::{Seen, is_new};
 use std::alloc::{AllocError, Global};

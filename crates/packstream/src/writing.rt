@@ -2,8 +2,7 @@
 //! then a part may have been added.
 ghost use Rattle.std.specs.Prelude.{◌≡◌, ◌≤◌, ◌∷◌, ◌++◌, length, OnOk};
 ghost use Rattle.byteorder.specs.Endian.{big_bytes};
-ghost use Rattle.packstream.specs.Canon.{long_head, head, int_bytes, text_bytes};
-ghost use Rattle.packstream.specs.Limits.{max_size};
+ghost use Rattle.packstream.specs.Prelude.{long_head, head, int_bytes, text_bytes, max_size};
 
 pub use crate::output::Output;
 use std::alloc::AllocError;

@@ -1,15 +1,8 @@
 //! Dictionaries at the front of bytes.
 ghost use Rattle.std.specs.Prelude.{◌≡◌, ℕ, List, suc, Ok, IfOk, OnOk, true, [], ◌∷◌, ◌++◌, map, string_bytes};
-ghost use Rattle.packstream.specs.Reading.{key_at, entries_at, dict_at, layer, inner};
-ghost use Rattle.packstream.specs.Tree.{int, text, dict};
-ghost use Rattle.packstream.specs.Twins.{names};
-ghost use Rattle.packstream.specs.View.{entries_of};
-ghost use Rattle.cells.specs.Faults.{structures_under};
-ghost use Rattle.cells.specs.Shape.{entries};
-ghost use Rattle.cells.specs.Steps.{all_fine};
-ghost use Rattle.cells.specs.Writing.{fault_of_structure};
-ghost use Rattle.structures.specs.Form.{form};
-ghost use Rattle.structures.specs.Steps.{form_entry};
+ghost use Rattle.packstream.specs.Prelude.{key_at, entries_at, dict_at, layer, inner, int, text, dict, names, entries_of};
+ghost use Rattle.cells.specs.Prelude.{structures_under, entries, all_fine, fault_of_structure};
+ghost use Rattle.structures.specs.Prelude.{form, form_entry};
 
 use crate::fault::Unscanned;
 use crate::plain::{int_in, text_in};

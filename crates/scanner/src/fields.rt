@@ -1,7 +1,6 @@
 //! Fields of structures that hold no cells: heads, labels, indices and element ids.
 ghost use Rattle.std.specs.Prelude.{◌≡◌, ℕ, Ok, IfOk};
-ghost use Rattle.packstream.specs.Good.{count as count_of};
-ghost use Rattle.packstream.specs.Reading.{layer, inner};
+ghost use Rattle.packstream.specs.Prelude.{count as count_of, layer, inner};
 ghost use Rattle.cells.specs.Shape.{text_of, texts_of, numbers_of, element_of, elements_of};
 ghost use Rattle.scanner.specs.Fields.{Laid, OpensList, OpensStructure};
 

@@ -1,10 +1,7 @@
 //! Nodes, relationships and paths, behind their tag.
 ghost use Rattle.std.specs.Prelude.{◌≡◌, Ok, IfOk, map};
-ghost use Rattle.packstream.specs.Reading.{layer, inner};
-ghost use Rattle.packstream.specs.Tree.{list};
-ghost use Rattle.packstream.specs.View.{trees_of};
-ghost use Rattle.cells.specs.Shape.{node_shape, unbound_shape, relationship_shape, path_shape};
-ghost use Rattle.cells.specs.Table.{node_tag, relationship_tag, unbound_tag, path_tag};
+ghost use Rattle.packstream.specs.Prelude.{layer, inner, list, trees_of};
+ghost use Rattle.cells.specs.Prelude.{node_shape, unbound_shape, relationship_shape, path_shape, node_tag, relationship_tag, unbound_tag, path_tag};
 ghost use Rattle.structures.specs.Form.{form};
 ghost use Rattle.scanner.specs.Fields.{HasFields};
 

@@ -1,7 +1,6 @@
 //! Integers, floats and texts.
 ghost use Rattle.std.specs.Prelude.{◌≡◌, ℕ, Ok, IfOk};
-ghost use Rattle.packstream.specs.Reading.{layer, inner};
-ghost use Rattle.packstream.specs.Tree.{int, float, text};
+ghost use Rattle.packstream.specs.Prelude.{layer, inner, int, float, text};
 
 use crate::fault::Unscanned;
 use packstream::marker::{Marker, Width, marker_of};

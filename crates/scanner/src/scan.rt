@@ -1,13 +1,9 @@
 //! Cells at the front of bytes.
 ghost use Rattle.std.specs.Prelude.{◌≡◌, ℕ, suc, Ok, IfOk, OnOk, true, [], map};
-ghost use Rattle.packstream.specs.Reading.{items_at, list_at, struct_at, layer, inner};
-ghost use Rattle.packstream.specs.Tree.{list};
-ghost use Rattle.packstream.specs.View.{trees_of};
-ghost use Rattle.cells.specs.Faults.{structures, structures_in};
-ghost use Rattle.cells.specs.Shape.{shape, shapes};
-ghost use Rattle.cells.specs.Steps.{all_fine};
-ghost use Rattle.cells.specs.Writing.{fault_of_structure};
+ghost use Rattle.packstream.specs.Prelude.{items_at, list_at, struct_at, layer, inner, list, trees_of};
+ghost use Rattle.cells.specs.Prelude.{structures, structures_in, shape, shapes, all_fine, fault_of_structure};
 ghost use Rattle.structures.specs.Form.{form};
+ghost use Rattle.scanner.specs.Prelude.{};
 ghost use Rattle.scanner.specs.Fields.{HasFields};
 ghost use Rattle.scanner.specs.Fronts.{with_marker};
 

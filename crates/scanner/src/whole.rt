@@ -1,10 +1,7 @@
 //! Cells, lists, dictionaries, integers and texts at the front of a message's bytes, or of what is left of them.
 ghost use Rattle.std.specs.Prelude.{◌≤◌, IfOk};
-ghost use Rattle.packstream.specs.Good.{IsGood, depth};
-ghost use Rattle.packstream.specs.Tree.{int, text, list, dict};
-ghost use Rattle.packstream.specs.View.{trees_of, entries_of};
-ghost use Rattle.cells.specs.Shape.{shape, shapes, entries};
-ghost use Rattle.cells.specs.Writing.{IsWritable};
+ghost use Rattle.packstream.specs.Prelude.{IsGood, depth, int, text, list, dict, trees_of, entries_of};
+ghost use Rattle.cells.specs.Prelude.{shape, shapes, entries, IsWritable};
 ghost use Rattle.structures.specs.Form.{form};
 ghost use Rattle.scanner.specs.Fronts.{SpellsFront};
 

@@ -1,9 +1,6 @@
 //! Nodes, relationships and paths whose structures have no fault.
 ghost use Rattle.std.specs.Prelude.{◌≡◌, ◌≤◌, ◌++◌, ℕ, OnOk, map};
-ghost use Rattle.packstream.specs.Canon.{canon, canon_all};
-ghost use Rattle.packstream.specs.Good.{count};
-ghost use Rattle.packstream.specs.Tree.{int, list};
-ghost use Rattle.packstream.specs.View.{trees_of};
+ghost use Rattle.packstream.specs.Prelude.{canon, canon_all, count, int, list, trees_of};
 ghost use Rattle.cells.specs.Shape.{text_of, texts_of, numbers_of, element_of, elements_of, node_shape, unbound_shape, relationship_shape, path_shape};
 ghost use Rattle.structures.specs.Form.{form, form_all};
 ghost use Rattle.speller.specs.Ready.{IsReady, AreReady};

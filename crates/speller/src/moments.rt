@@ -1,10 +1,7 @@
 //! Times, durations and points.
 ghost use Rattle.std.specs.Prelude.{◌≡◌, ◌≤◌, ◌++◌, ℕ, length, map, OnOk};
-ghost use Rattle.packstream.specs.Canon.{canon, canon_all};
-ghost use Rattle.packstream.specs.Tree.{int, float, structure, no_trees, tree_then};
-ghost use Rattle.packstream.specs.View.{trees_of};
-ghost use Rattle.cells.specs.Shape.{shape, text_of};
-ghost use Rattle.cells.specs.Table.{date_time_tag};
+ghost use Rattle.packstream.specs.Prelude.{canon, canon_all, int, float, structure, no_trees, tree_then, trees_of};
+ghost use Rattle.cells.specs.Prelude.{shape, text_of, date_time_tag};
 ghost use Rattle.structures.specs.Form.{form};
 ghost use Rattle.speller.specs.Ready.{IsReady, AreReady};
 

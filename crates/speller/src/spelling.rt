@@ -1,14 +1,8 @@
 //! Cells, lists and dictionaries.
 ghost use Rattle.std.specs.Prelude.{◌≡◌, ◌++◌, OnOk, true, [], string_bytes};
-ghost use Rattle.packstream.specs.Canon.{text_bytes, canon, canon_all, canon_entries};
+ghost use Rattle.packstream.specs.Prelude.{text_bytes, canon, canon_all, canon_entries, AreNewKeys, list, dict, trees_of, entries_of};
 ghost use Rattle.std.specs.Str.{IsUtf8};
-ghost use Rattle.packstream.specs.Good.{AreNewKeys};
-ghost use Rattle.packstream.specs.Tree.{list, dict};
-ghost use Rattle.packstream.specs.View.{trees_of, entries_of};
-ghost use Rattle.cells.specs.Faults.{structures, structures_in, structures_under};
-ghost use Rattle.cells.specs.Shape.{shape, shapes, entries};
-ghost use Rattle.cells.specs.Steps.{all_fine};
-ghost use Rattle.cells.specs.Writing.{fault_of_structure};
+ghost use Rattle.cells.specs.Prelude.{structures, structures_in, structures_under, shape, shapes, entries, all_fine, fault_of_structure};
 ghost use Rattle.structures.specs.Form.{form, form_all, form_under};
 ghost use Rattle.speller.specs.declared.inside.Inside.TheVariants.{Unchecked};
 ghost use Rattle.speller.specs.Ready.{IsReady, AreReady, HaveReady};

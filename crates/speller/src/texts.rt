@@ -1,7 +1,6 @@
 //! Heads, texts and bytes.
 ghost use Rattle.std.specs.Prelude.{◌≡◌, ◌≤◌, ◌+◌, ◌∷◌, [], ◌++◌, length, OnOk};
-ghost use Rattle.packstream.specs.Canon.{long_head, head, text_bytes};
-ghost use Rattle.packstream.specs.Plain.{AreBytes};
+ghost use Rattle.packstream.specs.Prelude.{long_head, head, text_bytes, AreBytes};
 
 use crate::fault::Unspelled;
 use packstream::MAX_SIZE;

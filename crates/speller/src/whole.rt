@@ -1,11 +1,7 @@
 //! Lists and dictionaries of cells.
 ghost use Rattle.std.specs.Prelude.{◌≡◌, ◌≤◌, ◌++◌, OnOk};
-ghost use Rattle.packstream.specs.Canon.{canon};
-ghost use Rattle.packstream.specs.Good.{IsGood, depth};
-ghost use Rattle.packstream.specs.Tree.{list, dict};
-ghost use Rattle.packstream.specs.View.{trees_of, entries_of};
-ghost use Rattle.cells.specs.Shape.{shapes, entries};
-ghost use Rattle.cells.specs.Writing.{IsWritable};
+ghost use Rattle.packstream.specs.Prelude.{canon, IsGood, depth, list, dict, trees_of, entries_of};
+ghost use Rattle.cells.specs.Prelude.{shapes, entries, IsWritable};
 ghost use Rattle.structures.specs.Form.{form};
 
 use crate::fault::Unspelled;

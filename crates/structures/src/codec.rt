@@ -1,15 +1,11 @@
 //! Cells of values, and values of cells.
 ghost use Rattle.std.specs.Prelude.{◌≡◌, ℕ, Ok, Err, ◌↔◌};
 ghost use Rattle.packstream.specs.declared.fault.Reason.{Reason as PackReason};
-ghost use Rattle.packstream.specs.Tree.{Tree, dict, list};
-ghost use Rattle.packstream.specs.View.{tree, trees_of, entries_of};
+ghost use Rattle.packstream.specs.Prelude.{Tree, dict, list, tree, trees_of, entries_of};
 ghost use Rattle.cells.specs.declared.fault.Reason.{Reason};
-ghost use Rattle.cells.specs.Faults.{IsBad, IsFine};
-ghost use Rattle.cells.specs.Shape.{shape, shapes, entries};
-ghost use Rattle.cells.specs.Writing.{IsWritable, IsUnwritable};
+ghost use Rattle.cells.specs.Prelude.{IsBad, IsFine, shape, shapes, entries, IsWritable, IsUnwritable};
 ghost use Rattle.structures.specs.declared.fault.CellFault.TheVariants as fault;
-ghost use Rattle.structures.specs.Answers.{Writes, HasGoodForm, HasBadForm, Packs, Gave, UnlessMemory};
-ghost use Rattle.structures.specs.Form.{Form};
+ghost use Rattle.structures.specs.Prelude.{Writes, HasGoodForm, HasBadForm, Packs, Gave, UnlessMemory, Form};
 
 use crate::fault::CellFault;
 use crate::reader::cell_of;

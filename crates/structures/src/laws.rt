@@ -2,12 +2,9 @@
 ghost use Rattle.std.specs.Prelude.{◌≡◌, ℕ, IsTrue};
 ghost use Rattle.packstream.specs.Tree.{Tree};
 ghost use Rattle.packstream.specs.declared.fault.Reason.{Reason as PackReason};
-ghost use Rattle.cells.specs.Cells.{is_typed};
-ghost use Rattle.cells.specs.Shape.{shape};
-ghost use Rattle.cells.specs.Writing.{IsWritable};
+ghost use Rattle.cells.specs.Prelude.{is_typed, shape, IsWritable};
 ghost use Rattle.cells.specs.declared.cell.Cell.{Cell as AnyCell};
-ghost use Rattle.structures.specs.Answers.{HasOneReading, HasOneWriting, IsOfPacking, IsUnpacked};
-ghost use Rattle.structures.specs.Form.{Form, form, typed};
+ghost use Rattle.structures.specs.Prelude.{HasOneReading, HasOneWriting, IsOfPacking, IsUnpacked, Form, form, typed};
 ghost use Rattle.wire.specs.declared.Version.{Version as AnyVersion};
 
 pub mod laying;

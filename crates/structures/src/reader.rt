@@ -1,13 +1,8 @@
 //! Cells of values whose structures have no fault.
 ghost use Rattle.std.specs.Prelude.{◌≡◌, IfOk, None, true, map};
-ghost use Rattle.packstream.specs.Tree.{structure, dict, list};
-ghost use Rattle.packstream.specs.View.{tree, trees, trees_of, entries_of, entries as seen_entries};
-ghost use Rattle.cells.specs.Faults.{fault, structures, structures_in, structures_under, is_kind};
-ghost use Rattle.cells.specs.Steps.{all_fine};
-ghost use Rattle.cells.specs.Shape.{shape, shapes, node_shape, unbound_shape, relationship_shape, path_shape, entries};
-ghost use Rattle.cells.specs.Table.{node_tag, relationship_tag, unbound_tag, path_tag};
-ghost use Rattle.structures.specs.Form.{typed};
-ghost use Rattle.structures.specs.Steps.{typed_entry, tree_at};
+ghost use Rattle.packstream.specs.Prelude.{structure, dict, list, tree, trees, trees_of, entries_of, entries as seen_entries};
+ghost use Rattle.cells.specs.Prelude.{fault, structures, structures_in, structures_under, is_kind, all_fine, shape, shapes, node_shape, unbound_shape, relationship_shape, path_shape, entries, node_tag, relationship_tag, unbound_tag, path_tag};
+ghost use Rattle.structures.specs.Prelude.{typed, typed_entry, tree_at};
 
 use crate::fields::{element_at, elements_at, int_at, ints_of, text_at, texts_at};
 use crate::plain::plain_of;

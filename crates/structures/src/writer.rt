@@ -1,14 +1,8 @@
 //! Values of cells.
 ghost use Rattle.std.specs.Prelude.{◌≡◌, IfOk, map, None, true};
-ghost use Rattle.packstream.specs.Tree.{int, float, structure, no_trees, tree_then};
-ghost use Rattle.packstream.specs.View.{tree, trees, trees_of, entries_of, entries as seen_entries};
-ghost use Rattle.cells.specs.Faults.{structures, structures_in, structures_under};
-ghost use Rattle.cells.specs.Steps.{all_fine};
-ghost use Rattle.cells.specs.Writing.{fault_of_structure};
-ghost use Rattle.cells.specs.Shape.{shape, shapes, entries, node_shape, unbound_shape, relationship_shape, path_shape, text_of, texts_of, element_of, elements_of};
-ghost use Rattle.cells.specs.Table.{relationship_tag, date_time_tag};
-ghost use Rattle.structures.specs.Form.{form};
-ghost use Rattle.structures.specs.Steps.{form_entry};
+ghost use Rattle.packstream.specs.Prelude.{int, float, structure, no_trees, tree_then, tree, trees, trees_of, entries_of, entries as seen_entries};
+ghost use Rattle.cells.specs.Prelude.{structures, structures_in, structures_under, all_fine, fault_of_structure, shape, shapes, entries, node_shape, unbound_shape, relationship_shape, path_shape, text_of, texts_of, element_of, elements_of, relationship_tag, date_time_tag};
+ghost use Rattle.structures.specs.Prelude.{form, form_entry};
 
 use cells::{Cell, ElementIds, Node, Path, Relationship, UnboundRelationship, tags};
 use packstream::Value;

@@ -2,11 +2,7 @@
 ghost use Rattle.std.specs.Prelude.{◌≡◌, ◌↔◌, ℕ, List, Ok};
 ghost use Rattle.packstream.specs.Tree.{Tree};
 ghost use Rattle.wire.specs.declared.Version.{Version as AnyVersion};
-ghost use Rattle.messages.specs.Table.{requests, responses};
-ghost use Rattle.messages.specs.View.{RequestView, ResponseView};
-ghost use Rattle.messages.specs.Reading.{Contents, contents_of_message, request_contents, response_contents};
-ghost use Rattle.messages.specs.Messages.{Req, Resp};
-ghost use Rattle.messages.specs.Saying.{SaysMessage, IsSpelled};
+ghost use Rattle.messages.specs.Prelude.{requests, responses, RequestView, ResponseView, Contents, contents_of_message, request_contents, response_contents, Req, Resp, SaysMessage, IsSpelled};
 
 /// What is told of a value as a request, or as a response, is what a row of the table says of it; and bytes stand for
 /// the request, or the response, that a row says of the value that they spell.
