@@ -20,4 +20,12 @@ pub use Rattle.packstream.specs.Making.{own_fault, faults_in, faults_in_all, fau
 unfoldable pub use Rattle.packstream.specs.Making.{first_fault}
 pub use Rattle.packstream.specs.Twins.{Pair, names, stands_before, IsFirstTwin}
 pub use Rattle.packstream.specs.Limits.{max_depth, max_size}
-pub use Rattle.packstream.specs.Writing.{Writes, whole}
+pub use Rattle.packstream.specs.Writing.{Puts, whole}
+pub use Rattle.packstream.specs.declared.fault.Reason.{Reason}
+pub use Rattle.packstream.specs.declared.fault.PackFault.{PackFault}
+pub use Rattle.packstream.specs.declared.marker.Width.{Width}
+pub use Rattle.packstream.specs.declared.marker.Width.TheVariants.{One, Two, Four, Eight}
+pub use Rattle.packstream.specs.declared.marker.Size.{Size}
+pub use Rattle.packstream.specs.declared.marker.Size.TheVariants.{Here, After}
+pub use Rattle.packstream.specs.declared.marker.Marker.{Marker}
+pub use Rattle.packstream.specs.declared.places.Seen.{Seen}

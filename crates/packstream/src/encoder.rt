@@ -1,11 +1,8 @@
 //! Bytes out of values.
-ghost use Rattle.std.specs.Prelude.{◌≡◌, ◌<◌, ◌+◌, ◌++◌, length};
-ghost use Rattle.packstream.specs.Prelude.{long_head, text_bytes, canon, canon_all, canon_entries, IsShortest, list, dict, structure, IsSound, AreSound, HaveSoundValues, tree, trees, trees_of, entries, entries_of, UnlessMemory, Writes, Spells, max_size};
-ghost use Rattle.std.specs.Prelude.{ℕ, min, OnOk, OnErr, Err, ◌↔◌};
-ghost use Rattle.packstream.specs.declared.fault.Reason.{Reason};
+ghost use Rattle.std.specs.Prelude.{◌≡◌, ◌<◌, ◌+◌, ◌++◌, length, ℕ, min, OnOk, OnErr, Err, ◌↔◌, List};
+ghost use Rattle.packstream.specs.Prelude.{Reason, long_head, text_bytes, canon, canon_all, canon_entries, IsShortest, list, dict, structure, IsSound, AreSound, HaveSoundValues, tree, trees, trees_of, entries, entries_of, UnlessMemory, Puts, Spells, max_size};
 ghost use Rattle.packstream.specs.declared.fault.Reason.TheVariants as reason;
 ghost use Rattle.packstream.specs.declared.fault.PackFault.TheVariants as fault;
-ghost use Rattle.std.specs.Prelude.{List};
 
 use crate::MAX_SIZE;
 use crate::fault::{PackFault, Reason, Unwritten};
@@ -19,8 +16,7 @@ use bytes::BytesMut;
 /// A text, in place: the loop over a dictionary's pairs has no call for a key.
 #[inline]
 fn put_key(out: &mut Output, key: &str) -> Result<(), Unwritten>
-    ensures before { out.new.before ≡ out.old.before }
-    ensures writes { Writes result out.old.more out.new.more (text_bytes key.now) }
+    ensures { Puts result out.old out.new (text_bytes key.now) }
 {
     if key.len() > MAX_SIZE {
         return Err(Unwritten::Size);
@@ -32,17 +28,14 @@ fn put_key(out: &mut Output, key: &str) -> Result<(), Unwritten>
 /// A text, by a call, which keeps `put_value` small.
 #[inline(never)]
 fn put_text(out: &mut Output, text: &str) -> Result<(), Unwritten>
-    ensures before { out.new.before ≡ out.old.before }
-    ensures writes { Writes result out.old.more out.new.more (text_bytes text.now) }
+    ensures { Puts result out.old out.new (text_bytes text.now) }
 {
     put_key(out, text)
 }
 
 #[inline(never)]
 fn put_bytes(out: &mut Output, bytes: &[u8]) -> Result<(), Unwritten>
-    ensures before { out.new.before ≡ out.old.before }
-    ensures writes { Writes result out.old.more out.new.more
-        (long_head 0xCC (length bytes.now) ++ bytes.now) }
+    ensures { Puts result out.old out.new (long_head 0xCC (length bytes.now) ++ bytes.now) }
 {
     if bytes.len() > MAX_SIZE {
         return Err(Unwritten::Size);
@@ -52,11 +45,10 @@ fn put_bytes(out: &mut Output, bytes: &[u8]) -> Result<(), Unwritten>
 }
 
 #[cycle(encoder)]
-#[tactic(auto, using(crate::proofs::Views::dicts))]
+#[tactic(auto, using(crate::proofs::Putting::tree_of_dict))]
 fn put_value(out: &mut Output, value: &Value) -> Result<(), Unwritten>
     requires { IsSound (tree value.now) }
-    ensures before { out.new.before ≡ out.old.before }
-    ensures writes { Writes result out.old.more out.new.more (canon (tree value.now)) }
+    ensures { Puts result out.old out.new (canon (tree value.now)) }
 {
     match value {
         Value::Null => out.push(0xC0)?,
@@ -77,9 +69,7 @@ fn put_value(out: &mut Output, value: &Value) -> Result<(), Unwritten>
 #[inline(never)]
 fn put_list(out: &mut Output, members: &[Value]) -> Result<(), Unwritten>
     requires { AreSound (trees_of (trees members.now)) }
-    ensures before { out.new.before ≡ out.old.before }
-    ensures writes { Writes result out.old.more out.new.more
-        (canon (list (trees_of (trees members.now)))) }
+    ensures { Puts result out.old out.new (canon (list (trees_of (trees members.now)))) }
 {
     if members.len() > MAX_SIZE {
         return Err(Unwritten::Size);
@@ -93,9 +83,7 @@ fn put_list(out: &mut Output, members: &[Value]) -> Result<(), Unwritten>
 #[inline(never)]
 fn put_dict(out: &mut Output, pairs: &[(String, Value)]) -> Result<(), Unwritten>
     requires { HaveSoundValues (entries_of (entries pairs.now)) }
-    ensures before { out.new.before ≡ out.old.before }
-    ensures writes { Writes result out.old.more out.new.more
-        (canon (dict (entries_of (entries pairs.now)))) }
+    ensures { Puts result out.old out.new (canon (dict (entries_of (entries pairs.now)))) }
 {
     if pairs.len() > MAX_SIZE {
         return Err(Unwritten::Size);
@@ -109,9 +97,7 @@ fn put_dict(out: &mut Output, pairs: &[(String, Value)]) -> Result<(), Unwritten
 #[inline(never)]
 fn put_struct(out: &mut Output, tag: u8, fields: &[Value]) -> Result<(), Unwritten>
     requires { IsSound (structure tag (trees_of (trees fields.now))) }
-    ensures before { out.new.before ≡ out.old.before }
-    ensures writes { Writes result out.old.more out.new.more
-        (canon (structure tag (trees_of (trees fields.now)))) }
+    ensures { Puts result out.old out.new (canon (structure tag (trees_of (trees fields.now)))) }
 {
     out.push(0xB0 + fields.len() as u8)?;
     out.push(tag)?;
@@ -122,9 +108,7 @@ fn put_struct(out: &mut Output, tag: u8, fields: &[Value]) -> Result<(), Unwritt
 #[tactic(auto, using(crate::proofs::Putting::members))]
 fn put_members(out: &mut Output, members: &[Value]) -> Result<(), Unwritten>
     requires { AreSound (trees_of (trees members.now)) }
-    ensures before { out.new.before ≡ out.old.before }
-    ensures writes { Writes result out.old.more out.new.more
-        (canon_all (trees_of (trees members.now))) }
+    ensures { Puts result out.old out.new (canon_all (trees_of (trees members.now))) }
 {
     for member in members {
         match member {
@@ -140,9 +124,7 @@ fn put_members(out: &mut Output, members: &[Value]) -> Result<(), Unwritten>
 #[tactic(auto, using(crate::proofs::Putting::flats_more, crate::proofs::Putting::flats_room, crate::proofs::Putting::values_sound_at, crate::proofs::Putting::parts))]
 fn put_pairs(out: &mut Output, pairs: &[(String, Value)]) -> Result<(), Unwritten>
     requires { HaveSoundValues (entries_of (entries pairs.now)) }
-    ensures before { out.new.before ≡ out.old.before }
-    ensures writes { Writes result out.old.more out.new.more
-        (canon_entries (entries_of (entries pairs.now))) }
+    ensures { Puts result out.old out.new (canon_entries (entries_of (entries pairs.now))) }
 {
     for pair in pairs {
         if out.len() > MAX_SIZE {

@@ -154,8 +154,7 @@ pub fn new_key_of<'a, T>(
 {
     let left = bytes.len();
     let (key, rest) = key_of::<()>(&[], bytes)?;
-    let is_new = is_new(seen, pairs, key)?;
-    if !is_new {
+    if !is_new(seen, pairs, key)? {
         return Err(Stop::Fault(Reason::KeyTwice, left));
     }
     Ok((key, rest))

@@ -30,14 +30,13 @@ pub fn first_twin<T>(lookup: Lookup, pairs: &[(String, T)]) -> usize
     }
 }
 
-#[tactic(auto, using(crate::proofs::FirstTwin::twins))]
+#[tactic(auto, using(crate::proofs::Checking::twins))]
 fn twin_in_set<T>(alloc: Global, pairs: &[(String, T)]) -> Result<usize, AllocError>
     ensures { IfOk result (IsFirstTwin pairs.now) }
 {
     let mut seen = Seen::new(alloc, pairs.len())?;
     for (i, pair) in pairs.iter().enumerate() {
-        let is_new = is_new(&mut seen, &pairs[..i], pair.0.as_str())?;
-        if !is_new {
+        if !is_new(&mut seen, &pairs[..i], pair.0.as_str())? {
             return Ok(i);
         }
     }
@@ -48,8 +47,7 @@ fn twin_compared<T>(pairs: &[(String, T)]) -> usize
     ensures { IsFirstTwin pairs.now result }
 {
     for (i, pair) in pairs.iter().enumerate() {
-        let again = has_key(&pairs[..i], pair.0.as_str());
-        if again {
+        if has_key(&pairs[..i], pair.0.as_str()) {
             return i;
         }
     }

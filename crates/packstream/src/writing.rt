@@ -33,8 +33,7 @@ pub fn put_head(out: &mut Output, tiny: u8, marker: u8, n: u32) -> Result<(), Al
     ensures ok { OnOk result (out.new.more ≡ out.old.more ++ head tiny marker n) }
 {
     if n < 16 {
-        out.push(tiny + n as u8)?;
-        Ok(())
+        out.push(tiny + n as u8)
     } else {
         put_long(out, marker, n)
     }

@@ -1,6 +1,6 @@
 use Rattle.std.proofs.Common.{◌≡◌, ◌∙◌, sym, refl}
 use Rattle.packstream.specs.Prelude.{in_place, names}
-use Rattle.packstream.proofs.Keys.{knows_other, other_more}
+use Rattle.packstream.proofs.Keys.{knows_other}
 use Rattle.packstream.proofs.seen.is_new.Goals as goal
 
 pub returns-clause-seen : goal.returns-clause-seen
@@ -8,5 +8,4 @@ returns-clause-seen g c = λ knows _.
     let seen = c.args.seen.now in
     let k = c.args.key.now in
     let there : in_place seen k ≡ c.number_in-number.result = cc in
-    let more = other_more seen.others c.insert.new.self k c.hash_of-hash.result c.hash_of-hash.ensures c.in_ok-is_new.ensures.updates in
-    knows_other seen _ (names c.args.pairs.now) k knows (λ z. c.if-number-eq0.false (sym there ∙ z)) refl more
+    knows_other seen _ (names c.args.pairs.now) k knows (λ z. c.if-number-eq0.false (sym there ∙ z)) refl c.hash_of-hash.result c.hash_of-hash.ensures c.in_ok-is_new.ensures.updates

@@ -1,4 +1,4 @@
-use Rattle.packstream.proofs.FirstTwin.{AllNew}
+use Rattle.packstream.proofs.Checking.{AllNew}
 use Rattle.packstream.proofs.twins.twin_compared.Given as goal
 
 abbrev pub invariant-loop-i : goal.invariant-loop-i

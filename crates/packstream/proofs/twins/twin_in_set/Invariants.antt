@@ -1,6 +1,6 @@
 use Rattle.std.proofs.Common.{take}
 use Rattle.packstream.specs.Prelude.{names, Knows}
-use Rattle.packstream.proofs.FirstTwin.{AllNew}
+use Rattle.packstream.proofs.Checking.{AllNew}
 use Rattle.packstream.proofs.twins.twin_in_set.Given as goal
 
 abbrev pub invariant-loop-i : goal.invariant-loop-i

@@ -1,0 +1,22 @@
+-- The words and lemmas of the libraries that the proofs of this crate cite.
+pub use Rattle.std.proofs.Common.{slice_get, option_map, if◌then◌else◌, ℕ, ◌≤◌, List, ◌∷◌, ◌++◌, subst, arith, inl, inr, ℤ, FitsSigned, w64, ◌≡◌, ◌+◌, ◌<◌, min, Bool, true, false, cond, nat_lt, nat_le, [], length, take, drop, get_or, Option, Some, None, Result, Ok, Err, String, Global, string_bytes, refl, sym, ap, ◌∙◌, zero, suc, append_assoc, IsUtf8, ◌-◌, ◌↔◌, ◌==◌, below_more, ◌≢◌, mod-lt, ◌%◌, replicate, slice_set, nat_eq, add-one, ◌⊎◌, not, ◌||◌, bytes_eq, nat_cmp, Ordering, ◌*◌, ◌^◌, ◌&&◌, pos, negsuc, int_le, map, Vec, ◌/◌, Fits, w8, slice_index_or, rules}
+pub use Rattle.byteorder.specs.Endian.{big_bytes, twos_complement, big_number}
+pub use Rattle.byteorder.specs.Numbers.{big_from-append, length-bytes_high_first, big_from-lt, big_from-cons, big_number-reads_back, big_from-take}
+pub use Rattle.std.proofs.Math.Seq.{get_or-append_seam, take-length, drop-length}
+pub use Rattle.std.proofs.lemmas.Bool.{cases_eq, le-ltb, lt-leb, leb-false, ltb-false, false_from_ne_true, cases_lt, leb-true, and_parts, ltb-true, cond_both, eqb-true, agree_below_at}
+pub use Rattle.std.proofs.lemmas.Bool.Decides.{nat_tests}
+pub use Rattle.std.proofs.lemmas.Int.{ints}
+pub use Rattle.std.proofs.lemmas.List.{get_or_append_left, drop_more, drop_all, map_more, append-nil, take_at, drop_at, length-append, map_push, take-append-drop, length-drop, get_or-map, take-append-le, drop-append-le, get_or-replicate, get_or-set_same, get_or-set_other, length-map, length-set, length-replicate, length-take}
+pub use Rattle.std.proofs.lemmas.List.Elements.{same_from_all_zip}
+pub use Rattle.std.proofs.lemmas.List.Folds.{list_any-append}
+pub use Rattle.std.proofs.lemmas.Map.Text.{is_eq-slice_cmp}
+pub use Rattle.std.proofs.lemmas.Nat.{div-mul-add}
+pub use Rattle.std.proofs.lemmas.Option.{slice_get-get_or, slice_get-map, slice_get_past, slice_get_read}
+pub use Rattle.std.proofs.lemmas.Simd.{map-map}
+pub use Rattle.std.proofs.lemmas.Slice.Eq.{bytes_eq-Decides}
+pub use Rattle.std.proofs.lemmas.Str.{is_utf8-from_IsUtf8, IsUtf8-from_is_utf8, IsUtf8-string_bytes}
+pub use Rattle.std.specs.BTreeSet.{UpdatesBy}
+pub use Rattle.std.specs.Cmp.Lexicographic.{slice_cmp, nat_list_eq_equiv}
+pub use Rattle.std.specs.Int.{byte_at}
+pub use Rattle.std.specs.Ordering.{is_eq, ordering_then}
+pub use Rattle.std.specs.Str.{is_utf8}
