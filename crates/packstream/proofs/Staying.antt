@@ -1,6 +1,6 @@
 -- A fault for another reason than missing bytes stays, whatever bytes follow.
 use Rattle.packstream.proofs.Words.{◌≡◌, ℕ, ◌≤◌, List, [], ◌∷◌, ◌++◌, length, Option, Some, None, refl, sym, ap, ◌∙◌, append_assoc, arith, inl, inr, nat_tests, length-append, take-append-le, drop-append-le, length-drop, big_from-append}
-use Rattle.packstream.specs.Prelude.{Reason, Size, Here, After, Marker, width, marker, size_len, Place, size_in, needs, text_in, fault_of, fault_at, innermost, outside, Bad, BadFront, Trails, IsBadAlways}
+use Rattle.packstream.specs.Prelude.{Reason, Size, Here, After, Marker, width, marker, size_len, Place, size_in, needs, text_in, fault_of, fault_at, innermost, outside, Bad, IsBadAlways}
 
 pub size_in_more : (size : Size) (rest more : List ℕ) → size_len size ≤ length rest → size_in size (rest ++ more) ≡ size_in size rest
 size_in_more (Here n) rest more le = refl
@@ -28,9 +28,9 @@ unfolding fault_at
 fault_at_more p [] more r e other = absurd (other (some_short r e))
 fault_at_more p (x ∷ rest) more r e other = fault_of_more p (marker x) rest more r e other
 
-front_more : (b more : List ℕ) (r : Reason) (o : ℕ) → BadFront b o r → (r ≡ Reason.Short → ⊥) → BadFront (b ++ more) o r
-front_more b more r o h other =
-    record {
+pub stays : (b : List ℕ) (r : Reason) (o : ℕ) → Bad b o r → (r ≡ Reason.Short → ⊥) → IsBadAlways b r o
+stays b r o (inl h) other = λ more bytes.
+    inl (record {
       opened = h.opened;
       before = h.before;
       after = h.after ++ more;
@@ -38,21 +38,18 @@ front_more b more r o h other =
       whole = ap (λ (x : List ℕ). x ++ more) h.whole ∙ append_assoc h.before h.after more;
       place = h.place;
       broken = fault_at_more (innermost outside h.opened) h.after more r h.broken other;
-    }
-
-trails_more : (b more : List ℕ) (o : ℕ) → Trails b o → Trails (b ++ more) o
-trails_more b more o h =
-    record {
-      tree = h.tree;
-      front = h.front;
-      more = h.more ++ more;
-      good = h.good;
-      spelled = h.spelled;
-      whole = ap (λ (x : List ℕ). x ++ more) h.whole ∙ append_assoc h.front h.more more;
-      some = omega (arith, h.some, length-append h.more more);
-      place = h.place;
-    }
-
-pub stays : (b : List ℕ) (r : Reason) (o : ℕ) → Bad b o r → (r ≡ Reason.Short → ⊥) → IsBadAlways b r o
-stays b r o (inl h) other = λ more bytes. inl (front_more b more r o h other)
-stays b r o (inr h) other = λ more bytes. inr (h.0, trails_more b more o h.1)
+    })
+stays b r o (inr (e, u)) other = λ more bytes.
+    inr (
+      e,
+      record {
+        tree = u.tree;
+        front = u.front;
+        more = u.more ++ more;
+        good = u.good;
+        spelled = u.spelled;
+        whole = ap (λ (x : List ℕ). x ++ more) u.whole ∙ append_assoc u.front u.more more;
+        some = omega (arith, u.some, length-append u.more more);
+        place = u.place;
+      },
+    )
