@@ -1,9 +1,9 @@
 -- The words and lemmas of the libraries that the proofs of this crate cite.
-pub use Rattle.std.proofs.Common.{is_ok, slice_get, option_map, if◌then◌else◌, ℕ, ◌≤◌, List, ◌∷◌, ◌++◌, subst, arith, inl, inr, ℤ, FitsSigned, w64, ◌≡◌, ◌+◌, ◌<◌, min, Bool, true, false, cond, nat_lt, nat_le, [], length, take, drop, get_or, Option, Some, None, Result, Ok, Err, String, Global, string_bytes, refl, sym, ap, ◌∙◌, zero, suc, append_assoc, IsUtf8, ◌-◌, ◌↔◌, ◌==◌, below_more, ◌≢◌, mod-lt, ◌%◌, replicate, slice_set, nat_eq, add-one, ◌⊎◌, not, ◌||◌, bytes_eq, nat_cmp, Ordering, ◌*◌, ◌^◌, ◌&&◌, pos, negsuc, int_le, map, Vec, ◌/◌, Fits, w8, slice_index_or, rules}
+pub use Rattle.std.proofs.Common.{is_ok, slice_get, option_map, if◌then◌else◌, ℕ, ◌≤◌, List, ◌∷◌, ◌++◌, subst, arith, inl, inr, ℤ, FitsSigned, w64, ◌≡◌, ◌+◌, ◌<◌, min, Bool, true, false, cond, nat_lt, nat_le, [], length, take, drop, get_or, Option, Some, None, Result, Ok, Err, String, Global, string_bytes, refl, sym, ap, ◌∙◌, zero, suc, append_assoc, IsUtf8, ◌-◌, ◌↔◌, ◌==◌, below_more, ◌≢◌, mod-lt, ◌%◌, replicate, slice_set, nat_eq, add-one, ◌⊎◌, not, ◌||◌, bytes_eq, nat_cmp, ◌*◌, ◌^◌, ◌&&◌, pos, negsuc, int_le, map, Vec, ◌/◌, Fits, w8, slice_index_or, rules}
 pub use Rattle.byteorder.specs.Endian.{big_bytes, twos_complement, big_number}
 pub use Rattle.byteorder.specs.Numbers.{big_from-append, length-bytes_high_first, big_from-lt, big_from-cons, big_number-reads_back, big_from-take}
 pub use Rattle.std.proofs.Math.Seq.{get_or-append_seam, take-length, drop-length}
-pub use Rattle.std.proofs.lemmas.Bool.{cases_eq, le-ltb, lt-leb, leb-false, ltb-false, false_from_ne_true, cases_lt, leb-true, and_parts, ltb-true, cond_both, eqb-true, agree_below_at}
+pub use Rattle.std.proofs.lemmas.Bool.{cases_eq, le-ltb, lt-leb, ltb-false, false_from_ne_true, cases_lt, leb-true, and_parts, ltb-true, cond_both, agree_below_at}
 pub use Rattle.std.proofs.lemmas.Bool.Decides.{nat_tests}
 pub use Rattle.std.proofs.lemmas.Int.{ints}
 pub use Rattle.std.proofs.lemmas.List.{get_or_append_left, drop_more, drop_all, map_more, append-nil, take_at, drop_at, length-append, map_push, take-append-drop, length-drop, get_or-map, take-append-le, drop-append-le, get_or-replicate, get_or-set_same, get_or-set_other, length-map, length-set, length-replicate, length-take}
