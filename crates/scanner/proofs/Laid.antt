@@ -1,18 +1,19 @@
 -- Fields that are read one after the other, and what is read behind a head.
 use Rattle.std.proofs.Common.{◌≡◌, ℕ, ℤ, zero, suc, ◌+◌, ◌-◌, ◌≤◌, ◌<◌, ◌+ℤ◌, ◌-ℤ◌, false, cond, List, [], ◌∷◌, ◌++◌, map, Some, Ok, refl, sym, ap, ◌∙◌, arith, length, append-nil, append_assoc}
 use Rattle.std.proofs.lemmas.List.{map_push}
-use Rattle.packstream.specs.Prelude.{Tree, structure, Trees, no_trees, tree_then, count, list, trees_of, Read, marker, size_at, items_at, list_at, struct_at, form_at, layer, inner}
-use Rattle.packstream.specs.declared.marker.Size.{Size}
-use Rattle.packstream.specs.declared.marker.Marker.TheVariants as announces
-use Rattle.packstream.proofs.Steps.{inner_more, items_on, items_done}
+use Rattle.packstream.specs.Prelude.{Tree, structure, Trees, no_trees, tree_then, count, list, trees_of, items_at, list_at, struct_at, form_at, layer, inner}
+use Rattle.packstream.proofs.Steps.{items_on, items_done}
 use Rattle.wire.specs.declared.Version.{Version}
 use Rattle.wire.specs.Prelude.{has_utc_times}
 use Rattle.cells.specs.declared.cell.Cell.{DateTime}
 use Rattle.cells.specs.Prelude.{shape}
 use Rattle.cells.proofs.Views.{shape-DateTime}
-use Rattle.structures.specs.Prelude.{form, date_time_fields as three}
+use Rattle.structures.specs.Prelude.{form, form_all, date_time_fields as three}
+use Rattle.structures.proofs.Fitted.{form_list}
 use Rattle.structures.proofs.Formed.{back_and_there}
-use Rattle.scanner.specs.Fields.{Laid, HasFields, OpensList, OpensStructure}
+use Rattle.scanner.specs.declared.scope.Scope.{Scope}
+use Rattle.scanner.specs.Fronts.{IsRead}
+use Rattle.scanner.specs.Fields.{Laid, AreLaid}
 
 -- these trees in a list
 abbrev listed : Trees → List Tree
@@ -23,44 +24,32 @@ listed_is : (ts : Trees) → trees_of (listed ts) ≡ ts
 listed_is no_trees = refl
 listed_is (tree_then t ts) = ap (λ us. tree_then t us) (listed_is ts)
 
-items_laid : (read : List ℕ → Read Tree) (ts : Trees) (done : List Tree) (b after : List ℕ) → Laid read ts b after → items_at read (count ts) done b ≡ Ok (done ++ listed ts, after)
+items_laid : (room : ℕ) (ts : Trees) (done : List Tree) (b after : List ℕ) → Laid room ts b after → items_at (layer (inner room)) (count ts) done b ≡ Ok (done ++ listed ts, after)
 unfolding items_at
-items_laid read no_trees done b after e = rw e (ap (λ (xs : List Tree). Ok (xs, b)) (sym (append-nil done)))
-items_laid read (tree_then t ts) done b after l =
-    rw l.1 (items_laid read ts (done ++ t ∷ []) l.0 after l.2 ∙ ap (λ (xs : List Tree). Ok (xs, after)) (append_assoc done (t ∷ []) (listed ts)))
+items_laid room no_trees done b after e = rw e (ap (λ (xs : List Tree). Ok (xs, b)) (sym (append-nil done)))
+items_laid room (tree_then t ts) done b after l =
+    rw l.1 (items_laid room ts (done ++ t ∷ []) l.0 after l.2 ∙ ap (λ (xs : List Tree). Ok (xs, after)) (append_assoc done (t ∷ []) (listed ts)))
 
 -- a structure of this tag, by its fields
-pub has_fields : (read : List ℕ → Read Tree) (n tag : ℕ) (ts : Trees) (t : Tree) (b after : List ℕ) → t ≡ structure tag ts → n ≡ count ts → Laid read ts b after → HasFields read n tag t b after
+pub has_fields : (s : Scope) (room n tag : ℕ) (ts : Trees) (t : Tree) (b after : List ℕ) → t ≡ structure tag (form_all s.version ts) → AreLaid s room n ts b after → (left : ℕ) → struct_at (Some (layer (inner room))) left n (tag ∷ b) ≡ Ok (t, after)
 unfolding struct_at
-has_fields read n tag ts t b after is counted l = rw (counted, items_laid read ts [] b after l, listed_is ts, is) refl
+has_fields s room n tag ts t b after is l left = rw (l.0, items_laid room (form_all s.version ts) [] b after l.1, listed_is (form_all s.version ts), is) refl
 
-at_least : (room : ℕ) → (room ≡ 0 → ⊥) → 1 ≤ room
-at_least zero ne = absurd (ne refl)
-at_least (suc room) ne = omega arith
+-- what the members of a list are read as, i of its n being read as the forms of these, is what it is read as
+abbrev pub ListSoFar : Version → ℕ → ℕ → ℕ → List Tree → List ℕ → List ℕ → Type 0
+ListSoFar v room n i done rest b = (xs : List Tree) (after : List ℕ) → items_at (layer (inner (room - 1))) (n - i) (map (form v) done) rest ≡ Ok (xs, after) → IsRead room (list (trees_of xs)) b after
 
-pub list_opens : (room n first : ℕ) (size : Size) (b rest behind : List ℕ) → (room ≡ 0 → ⊥) → b ≡ first ∷ rest → marker first ≡ Some (announces.List size) → size_at (suc (length rest)) size rest ≡ Ok (n, behind) → OpensList room n b behind
-unfolding layer form_at list_at
-list_opens room n first size b rest behind ne is m s = (at_least room ne, λ xs after h. rw (is, m, inner_more room ne, s, h) refl)
+-- one more behind those before it, in the form of a version
+pub seen_on : {A : Type 0} (f : A → Tree) (v : Version) (xs ys : List A) (y : A) → ys ≡ xs ++ y ∷ [] → map (form v) (map f ys) ≡ map (form v) (map f xs) ++ form v (f y) ∷ []
+seen_on f v xs ys y e = ap (λ zs. map (form v) (map f zs)) e ∙ ap (map (form v)) (map_push f xs y) ∙ map_push (form v) (map f xs) (f y)
 
--- what the members of a list are read as, i of its n being read, is what it is read as
-abbrev pub ListSoFar : ℕ → ℕ → ℕ → List Tree → List ℕ → List ℕ → Type 0
-ListSoFar room n i done rest b = (xs : List Tree) (after : List ℕ) → items_at (layer (inner (room - 1))) (n - i) done rest ≡ Ok (xs, after) → layer (inner room) b ≡ Ok (list (trees_of xs), after)
+pub list_on : {A : Type 0} (f : A → Tree) (v : Version) (room n i : ℕ) (xs ys : List A) (y : A) (rest b mid : List ℕ) → ys ≡ xs ++ y ∷ [] → i < n → IsRead (room - 1) (form v (f y)) rest mid → ListSoFar v room n i (map f xs) rest b → ListSoFar v room n (i + 1) (map f ys) mid b
+list_on f v room n i xs ys y rest b mid more lt h so_far =
+    rw (seen_on f v xs ys y more) (λ zs after e. so_far zs after (sym (items_on (layer (inner (room - 1))) n i (map (form v) (map f xs)) rest mid (form v (f y)) (items_at (layer (inner (room - 1))) (n - i) (map (form v) (map f xs)) rest) lt h refl) ∙ e))
 
-pub list_on : (room n i : ℕ) (done : List Tree) (rest b mid : List ℕ) (t : Tree) → i < n → layer (inner (room - 1)) rest ≡ Ok (t, mid) → ListSoFar room n i done rest b → ListSoFar room n (i + 1) (done ++ t ∷ []) mid b
-list_on room n i done rest b mid t lt h so_far =
-    λ xs after e. so_far xs after (sym (items_on (layer (inner (room - 1))) n i done rest mid t (items_at (layer (inner (room - 1))) (n - i) done rest) lt h refl) ∙ e)
-
-pub list_done : (room n i : ℕ) (done : List Tree) (rest b : List ℕ) → n ≤ i → ListSoFar room n i done rest b → layer (inner room) b ≡ Ok (list (trees_of done), rest)
-list_done room n i done rest b le so_far =
-    so_far done rest (items_done (layer (inner (room - 1))) n i done rest (items_at (layer (inner (room - 1))) (n - i) done rest) le refl)
-
-pub structure_opens : (room n first tag : ℕ) (b rest behind : List ℕ) → (room ≡ 0 → ⊥) → b ≡ first ∷ rest → marker first ≡ Some (announces.Struct n) → rest ≡ tag ∷ behind → OpensStructure room n tag b behind
-unfolding layer form_at
-structure_opens room n first tag b rest behind ne is m r = (at_least room ne, λ t after h. rw (is, m, inner_more room ne, r) h)
-
--- one more behind those before it, seen twice
-pub seen_on : {A B C : Type 0} (f : A → B) (g : B → C) (xs ys : List A) (y : A) → ys ≡ xs ++ y ∷ [] → map g (map f ys) ≡ map g (map f xs) ++ g (f y) ∷ []
-seen_on f g xs ys y e = ap (λ zs. map g (map f zs)) e ∙ ap (map g) (map_push f xs y) ∙ map_push g (map f xs) (f y)
+pub list_done : (v : Version) (room n i : ℕ) (ts : List Tree) (rest b : List ℕ) → n ≤ i → ListSoFar v room n i ts rest b → IsRead room (form v (list (trees_of ts))) b rest
+list_done v room n i ts rest b le so_far =
+    rw (form_list v ts) (so_far (map (form v) ts) rest (items_done (layer (inner (room - 1))) n i (map (form v) ts) rest (items_at (layer (inner (room - 1))) (n - i) (map (form v) ts) rest) le refl))
 
 -- a DateTime where a version has no UTC times
 pub local_formed : (v : Version) (l u n o : ℤ) → has_utc_times v ≡ false → u ≡ l -ℤ o → form v (shape (DateTime u n o)) ≡ structure 0x46 (three l n o)

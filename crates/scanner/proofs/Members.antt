@@ -1,56 +1,70 @@
--- Cells and entries, and one more behind them.
-use Rattle.std.proofs.Common.{◌≡◌, ℕ, suc, ℤ, Ok, rules, List, [], ◌∷◌, ◌++◌, map, string_bytes, true, refl, sym, ap, ◌∙◌, append_assoc}
+-- Members and entries, and one more behind them.
+use Rattle.std.proofs.Common.{◌≡◌, ℕ, suc, ℤ, Ok, rules, List, [], ◌∷◌, ◌++◌, ◌+◌, ◌-◌, ◌<◌, map, string_bytes, true, refl, sym, ap, ◌∙◌, append_assoc, arith}
 use Rattle.std.proofs.lemmas.List.{append-nil, map_push}
-use Rattle.packstream.specs.Prelude.{Tree, names, int, trees_of, entries_of, Read, keys, key_at, items_at, entries_at}
+use Rattle.packstream.specs.Prelude.{Tree, names, int, trees_of, entries_of, keys, key_at, layer, inner, items_at, entries_at}
 use Rattle.packstream.proofs.Complete.{Pairs}
+use Rattle.packstream.proofs.Steps.{items_on}
 use Rattle.cells.specs.declared.cell.Cell.{Int as IntCase, the_lemmas}
-use Rattle.cells.specs.Prelude.{FaultOf, all_fine, structures, structures_in, structures_under, shape, entries}
+use Rattle.cells.specs.Prelude.{FaultOf, all_fine, fault_of_structure, structures, structures_in, structures_under, shape, entries}
 use Rattle.cells.proofs.Both.{both_true}
 use Rattle.cells.proofs.Fine.{fine_append}
 use Rattle.cells.proofs.Views.{Pair, shape-Dict}
-use Rattle.structures.specs.Prelude.{form_entry}
-use Rattle.wire.specs.declared.Version.{Version}
+use Rattle.structures.specs.Prelude.{form, form_entry}
+use Rattle.scanner.specs.declared.scope.Scope.{Scope}
+use Rattle.scanner.specs.Fronts.{CellJoins, PairJoins}
 
 pub ruleset dicts = (shape-Dict)
 
 pub shape_of_int : (z : ℤ) → shape (IntCase z) ≡ int z
 shape_of_int z = search (rules, the_lemmas)
 
-pub keys_are : (v : Version) (es : List Pair) → keys (map (form_entry v) (entries es)) ≡ names es
-keys_are v [] = refl
-keys_are v (e ∷ es) = ap (λ (ks : List (List ℕ)). string_bytes e.0 ∷ ks) (keys_are v es)
-
--- a member that is read joins those before it
-pub member_on : (read : List ℕ → Read Tree) (n : ℕ) (done : List Tree) (bs after : List ℕ) (t : Tree) → read bs ≡ Ok (t, after) → items_at read n (done ++ t ∷ []) after ≡ items_at read (suc n) done bs
-unfolding items_at
-member_on read n done bs after t h = rw h refl
-
--- an entry that is read joins those before it
-pub entry_on : (v : Version) (read : List ℕ → Read Tree) (n : ℕ) (es : List Pair) (bs mid after : List ℕ) (k : List ℕ) (t : Tree) → key_at (names es) bs ≡ Ok (k, mid) → read mid ≡ Ok (t, after)
-    → entries_at read n (map (form_entry v) (entries es) ++ (k, t) ∷ []) after ≡ entries_at read (suc n) (map (form_entry v) (entries es)) bs
-unfolding entries_at
-entry_on v read n es bs mid after k t h e = rw (keys_are v es, h, e) refl
-
+-- the entries' keys
 firsts_are : (es : List Pair) → map (λ (e : List ℕ × Tree). e.0) (entries es) ≡ names es
 firsts_are [] = refl
 firsts_are (e ∷ es) = ap (λ (ks : List (List ℕ)). string_bytes e.0 ∷ ks) (firsts_are es)
-
--- the keys with that of an entry that joined
-pub names_added : (xs es : List Pair) (k : List ℕ) (t : Tree) → entries xs ≡ entries es ++ (k, t) ∷ [] → names xs ≡ names es ++ k ∷ []
-names_added xs es k t e =
-    sym (firsts_are xs) ∙ ap (map (λ (e : List ℕ × Tree). e.0)) e ∙ map_push (λ (e : List ℕ × Tree). e.0) (entries es) (k, t) ∙ ap (λ (ks : List (List ℕ)). ks ++ k ∷ []) (firsts_are es)
 
 -- what is gathered of a list's elements, and of one more behind them
 gathered : {A B : Type 0} (F : List A → List B) (f : A → List B) → F [] ≡ [] → ((x : A) (xs : List A) → F (x ∷ xs) ≡ f x ++ F xs) → (xs : List A) (y : A) → F (xs ++ y ∷ []) ≡ F xs ++ f y
 gathered F f none step [] y = rw (step y [], none) (append-nil (f y))
 gathered F f none step (x ∷ xs) y = rw (step x (xs ++ y ∷ []), step x xs, gathered F f none step xs y) (sym (append_assoc (f x) (F xs) (f y)))
 
--- a member without a fault joins members without a fault
-pub fine_member : (j : FaultOf) (ts : List Tree) (t : Tree) → all_fine j (structures_in (trees_of ts)) ≡ true → all_fine j (structures t) ≡ true → all_fine j (structures_in (trees_of (ts ++ t ∷ []))) ≡ true
-fine_member j ts t all one =
-    ap (all_fine j) (gathered (λ (us : List Tree). structures_in (trees_of us)) structures refl (λ u us. refl) ts t) ∙ fine_append j (structures_in (trees_of ts)) (structures t) ∙ both_true _ _ all one
+-- i of n members being read as the forms of these, what is left is read as all of them are, and none has a fault
+abbrev pub MembersSoFar : Scope → ℕ → ℕ → ℕ → List Tree → List ℕ → List ℕ → Type 0
+MembersSoFar s room n i ts rest b =
+    (items_at (layer (inner room)) (n - i) (map (form s.version) ts) rest ≡ items_at (layer (inner room)) n [] b)
+    × (all_fine (fault_of_structure s.version) (structures_in (trees_of ts)) ≡ true)
 
--- an entry without a fault joins entries without a fault
-pub fine_entry : (j : FaultOf) (es : Pairs) (k : List ℕ) (t : Tree) → all_fine j (structures_under (entries_of es)) ≡ true → all_fine j (structures t) ≡ true → all_fine j (structures_under (entries_of (es ++ (k, t) ∷ []))) ≡ true
-fine_entry j es k t all one =
-    ap (all_fine j) (gathered (λ (fs : Pairs). structures_under (entries_of fs)) (λ (e : List ℕ × Tree). structures e.1) refl (λ e fs. refl) es (k, t)) ∙ fine_append j (structures_under (entries_of es)) (structures t) ∙ both_true _ _ all one
+pub members_on : (s : Scope) (room n i : ℕ) (old new : List Tree) (rest mid b : List ℕ) → i < n → CellJoins s room old new rest mid → MembersSoFar s room n i old rest b → MembersSoFar s room n (i + 1) new mid b
+members_on s room n i old new rest mid b lt m so_far =
+    let j = fault_of_structure s.version in
+    rw m.1 (
+      rw (map_push (form s.version) old m.0) (items_on (layer (inner room)) n i (map (form s.version) old) rest mid (form s.version m.0) _ lt m.2.0 so_far.0),
+      ap (all_fine j) (gathered (λ (us : List Tree). structures_in (trees_of us)) structures refl (λ u us. refl) old m.0) ∙ fine_append j (structures_in (trees_of old)) (structures m.0) ∙ both_true _ _ so_far.1 m.2.1,
+    )
+
+-- the same of entries
+abbrev pub EntriesSoFar : Scope → ℕ → ℕ → ℕ → Pairs → List ℕ → List ℕ → Type 0
+EntriesSoFar s room n i es rest b =
+    (entries_at (layer (inner room)) (n - i) (map (form_entry s.version) es) rest ≡ entries_at (layer (inner room)) n [] b)
+    × (all_fine (fault_of_structure s.version) (structures_under (entries_of es)) ≡ true)
+
+keys_are : (s : Scope) (es : Pairs) → keys (map (form_entry s.version) es) ≡ map (λ (e : List ℕ × Tree). e.0) es
+keys_are s [] = refl
+keys_are s (e ∷ es) = ap (λ (ks : List (List ℕ)). e.0 ∷ ks) (keys_are s es)
+
+pub entries_on : (s : Scope) (room n i : ℕ) (old : List Pair) (new : Pairs) (key rest value mid b : List ℕ) → i < n → key_at (names old) rest ≡ Ok (key, value) → PairJoins s room key (entries old) new value mid → EntriesSoFar s room n i (entries old) rest b → EntriesSoFar s room n (i + 1) new mid b
+unfolding entries_at
+entries_on s room n i old new key rest value mid b lt k m so_far =
+    let j = fault_of_structure s.version in
+    let one : n - i ≡ suc (n - (i + 1)) = omega (arith, lt) in
+    let first : key_at (keys (map (form_entry s.version) (entries old))) rest ≡ Ok (key, value) = rw (keys_are s (entries old), firsts_are old) k in
+    let all = rw (one, first, m.2.0) at so_far.0 in
+    rw m.1 (
+      rw (map_push (form_entry s.version) (entries old) (key, m.0)) all,
+      ap (all_fine j) (gathered (λ (fs : Pairs). structures_under (entries_of fs)) (λ (e : List ℕ × Tree). structures e.1) refl (λ e fs. refl) (entries old) (key, m.0)) ∙ fine_append j (structures_under (entries_of (entries old))) (structures m.0) ∙ both_true _ _ so_far.1 m.2.1,
+    )
+
+-- the keys with that of an entry that joined
+pub names_on : (s : Scope) (room : ℕ) (old new : List Pair) (key b rest : List ℕ) → PairJoins s room key (entries old) (entries new) b rest → names new ≡ names old ++ key ∷ []
+names_on s room old new key b rest m =
+    sym (firsts_are new) ∙ ap (map (λ (e : List ℕ × Tree). e.0)) m.1 ∙ map_push (λ (e : List ℕ × Tree). e.0) (entries old) (key, m.0) ∙ ap (λ (ks : List (List ℕ)). ks ++ key ∷ []) (firsts_are old)

@@ -2,19 +2,26 @@
 use Rattle.std.specs.Prelude.{◌≡◌, ◌≤◌, ℕ, ◌-◌, Ok, Some, List, [], ◌∷◌}
 use Rattle.packstream.specs.Tree.{Tree, list, Trees, no_trees, tree_then}
 use Rattle.packstream.specs.View.{trees_of}
-use Rattle.packstream.specs.Reading.{Read, items_at, struct_at, layer, inner}
-use Rattle.scanner.specs.Fronts.{with_marker}
+use Rattle.packstream.specs.Good.{count}
+use Rattle.packstream.specs.Reading.{items_at, struct_at, layer, inner}
+use Rattle.structures.specs.Form.{form, form_all}
+use Rattle.scanner.specs.Fronts.{IsRead}
+use Rattle.scanner.specs.declared.scope.Scope.{Scope}
 
 -- these trees are read one after the other from the front of b, and after follows them
-abbrev pub Laid : (List ℕ → Read Tree) → Trees → List ℕ → List ℕ → Type 0
-Laid read no_trees b after = after ≡ b
-Laid read (tree_then t ts) b after =
-    (mid : List ℕ) × (read b ≡ Ok (t, mid)) × Laid read ts mid after
+abbrev pub Laid : ℕ → Trees → List ℕ → List ℕ → Type 0
+Laid room no_trees b after = after ≡ b
+Laid room (tree_then t ts) b after = (mid : List ℕ) × IsRead room t b mid × Laid room ts mid after
 
--- behind a structure's marker stand this tag and b, whose n fields make t, and after follows them
-abbrev pub HasFields : (List ℕ → Read Tree) → ℕ → ℕ → Tree → List ℕ → List ℕ → Type 0
-HasFields read n tag t b after =
-    struct_at (Some read) (with_marker (tag ∷ b)) n (tag ∷ b) ≡ Ok (t, after)
+-- so many fields are the forms of these at the version
+abbrev pub AreLaid : Scope → ℕ → ℕ → Trees → List ℕ → List ℕ → Type 0
+AreLaid s room n ts b after =
+    (n ≡ count (form_all s.version ts)) × Laid room (form_all s.version ts) b after
+
+-- behind a structure's marker stand this tag and b, whose n fields make the form of t at the version, and after follows them
+abbrev pub HasFields : Scope → ℕ → ℕ → ℕ → Tree → List ℕ → List ℕ → Type 0
+HasFields s room n tag t b after =
+    (left : ℕ) → struct_at (Some (layer (inner room))) left n (tag ∷ b) ≡ Ok (form s.version t, after)
 
 -- b opens a list of n members, which may nest so deep, and rest is what follows its head
 abbrev pub OpensList : ℕ → ℕ → List ℕ → List ℕ → Type 0
@@ -22,11 +29,11 @@ OpensList room n b rest =
     (1 ≤ room)
     × ((xs : List Tree) (after : List ℕ)
     → items_at (layer (inner (room - 1))) n [] rest ≡ Ok (xs, after)
-    → layer (inner room) b ≡ Ok (list (trees_of xs), after))
+    → IsRead room (list (trees_of xs)) b after)
 
 -- b opens a structure of n fields and this tag, which may nest so deep, and rest is what follows its tag
 abbrev pub OpensStructure : ℕ → ℕ → ℕ → List ℕ → List ℕ → Type 0
 OpensStructure room n tag b rest =
     (1 ≤ room)
-    × ((t : Tree) (after : List ℕ) → HasFields (layer (inner (room - 1))) n tag t rest after
-    → layer (inner room) b ≡ Ok (t, after))
+    × ((s : Scope) (t : Tree) (after : List ℕ) → HasFields s (room - 1) n tag t rest after
+    → IsRead room (form s.version t) b after)

@@ -1,12 +1,53 @@
--- What stands at the front of bytes.
-use Rattle.std.specs.Prelude.{◌≡◌, ◌++◌, ℕ, suc, List, length}
+-- What stands at the front of bytes. Of it all only SpellsFront is said to callers.
+use Rattle.std.specs.Prelude.{◌≡◌, ◌++◌, ◌∷◌, ℕ, List, Ok, true, [], map}
 use Rattle.packstream.specs.Tree.{Tree}
+use Rattle.packstream.specs.View.{entries_of, trees_of}
 use Rattle.packstream.specs.Spelling.{Spells}
+use Rattle.packstream.specs.Reading.{Read, items_at, entries_at, layer, inner}
+use Rattle.cells.specs.Faults.{structures, structures_in, structures_under}
+use Rattle.cells.specs.Writing.{fault_of_structure}
+use Rattle.cells.specs.Steps.{all_fine}
+use Rattle.structures.specs.Form.{form}
+use Rattle.structures.specs.Steps.{form_entry}
+use Rattle.scanner.specs.declared.scope.Scope.{Scope}
 
 -- b is a spelling of t, and then rest
 abbrev pub SpellsFront : Tree → List ℕ → List ℕ → Type 0
 SpellsFront t rest b = (front : List ℕ) × Spells t front × (b ≡ front ++ rest)
 
--- how many bytes these are with the marker before them
-abbrev pub with_marker : List ℕ → ℕ
-with_marker rest = suc (length rest)
+-- t is read from the front of b, where so many may open around each other, and rest follows it
+abbrev pub IsRead : ℕ → Tree → List ℕ → List ℕ → Type 0
+IsRead room t b rest = layer (inner room) b ≡ Ok (t, rest)
+
+-- what is read is the form of t at the version, no structure of t has a fault there, and rest follows it
+abbrev pub Takes : Scope → Tree → List ℕ → Read Tree → Type 0
+Takes s t rest read =
+    (read ≡ Ok (form s.version t, rest))
+    × (all_fine (fault_of_structure s.version) (structures t) ≡ true)
+
+-- the same from the front of b, where so many may open around each other
+abbrev pub IsTaken : Scope → ℕ → Tree → List ℕ → List ℕ → Type 0
+IsTaken s room t b rest = Takes s t rest (layer (inner room) b)
+
+-- so many members of a list are read from the front of b as the forms of these, and rest follows them
+abbrev pub CellsTaken : Scope → ℕ → ℕ → List Tree → List ℕ → List ℕ → Type 0
+CellsTaken s room n ts b rest =
+    (items_at (layer (inner room)) n [] b ≡ Ok (map (form s.version) ts, rest))
+    × (all_fine (fault_of_structure s.version) (structures_in (trees_of ts)) ≡ true)
+
+-- a member that is read from the front of b joins those before it, and rest follows it
+abbrev pub CellJoins : Scope → ℕ → List Tree → List Tree → List ℕ → List ℕ → Type 0
+CellJoins s room old new b rest =
+    (t : Tree) × (new ≡ old ++ t ∷ []) × IsTaken s room t b rest
+
+-- so many entries of a dictionary are read from the front of b as the forms of these, and rest follows them
+abbrev pub PairsTaken : Scope → ℕ → ℕ → List (List ℕ × Tree) → List ℕ → List ℕ → Type 0
+PairsTaken s room n es b rest =
+    (entries_at (layer (inner room)) n [] b ≡ Ok (map (form_entry s.version) es, rest))
+    × (all_fine (fault_of_structure s.version) (structures_under (entries_of es)) ≡ true)
+
+-- an entry of this key, whose value is read from the front of b, joins those before it, and rest follows it
+abbrev pub PairJoins : Scope → ℕ → List ℕ → List (List ℕ × Tree) → List (List ℕ × Tree) → List ℕ
+    → List ℕ → Type 0
+PairJoins s room key old new b rest =
+    (t : Tree) × (new ≡ old ++ (key, t) ∷ []) × IsTaken s room t b rest

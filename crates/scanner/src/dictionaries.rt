@@ -1,47 +1,42 @@
 //! Dictionaries at the front of bytes.
-ghost use Rattle.std.specs.Prelude.{◌≡◌, ℕ, List, suc, Ok, IfOk, OnOk, true, [], ◌∷◌, ◌++◌, map, string_bytes};
-ghost use Rattle.packstream.specs.Prelude.{key_at, entries_at, dict_at, layer, inner, int, text, dict, names, entries_of};
-ghost use Rattle.cells.specs.Prelude.{structures_under, entries, all_fine, fault_of_structure};
-ghost use Rattle.structures.specs.Prelude.{form, form_entry};
+ghost use Rattle.std.specs.Prelude.{◌≡◌, IfOk, OnOk, [], ◌∷◌, ◌++◌, string_bytes};
+ghost use Rattle.packstream.specs.Prelude.{dict_at, inner, int, text, dict, entries_of};
+ghost use Rattle.cells.specs.Prelude.{entries};
+ghost use Rattle.scanner.specs.Fronts.{Takes, IsTaken, PairsTaken, PairJoins};
 
-use crate::fault::Unscanned;
-use crate::plain::{int_in, text_in};
+use crate::fault::{Scanned, Unscanned};
+use crate::plain::{int_in, marker_in, text_in};
 use crate::scan::cell_in;
+use crate::scope::Scope;
 use cells::Cell;
-use packstream::marker::{Marker, Size, marker_of};
+use packstream::marker::{Marker, Size};
 use packstream::reading::{first_room, key_of, most_members, new_key_of, size_of};
 use packstream::seen::Seen;
 use packstream::twins::FEW;
 use std::alloc::Global;
-use wire::Version;
 
 /// A dictionary behind its marker.
 #[cycle(scanner)]
 #[tactic(auto, using(packstream::proofs::Steps::inner_more, structures::proofs::Fitted::form_pairs), unfolding(packstream::specs::Reading::dict_at))]
 pub(crate) fn dict_of(
-    alloc: Global,
-    version: Version,
+    scope: Scope,
     room: u8,
     left: usize,
     size: Size,
     bytes: &[u8],
-) -> Result<(Vec<(String, Cell)>, &[u8]), Unscanned>
-    ensures read { IfOk result (λ x. dict_at (inner room) left size bytes.now
-        ≡ Ok (form version (dict (entries_of (entries x.0.items))), x.1.now)) }
-    ensures fine { IfOk result (λ x. all_fine (fault_of_structure version)
-        (structures_under (entries_of (entries x.0.items))) ≡ true) }
+) -> Scanned<'_, Vec<(String, Cell)>>
+    ensures { IfOk result (λ x. Takes scope (dict (entries_of (entries x.0.items))) x.1.now
+        (dict_at (inner room) left size bytes.now)) }
 {
     if room == 0 {
         return Err(Unscanned);
     }
     let (count, rest) = size_of(left, size, bytes)?;
-    if count == 0 {
-        return Ok((Vec::new(alloc), rest));
+    match count {
+        0 => Ok((Vec::new(scope.alloc), rest)),
+        1..=FEW => pairs_of(scope, room - 1, count, rest),
+        _ => many_pairs_of(scope, room - 1, count, rest),
     }
-    if count > FEW {
-        return many_pairs_of(alloc, version, room - 1, count, rest);
-    }
-    pairs_of(alloc, version, room - 1, count, rest)
 }
 
 /// A text joins the entries before it; room was made for each entry. If this stands in its caller, each entry pays for the locals
@@ -82,24 +77,15 @@ fn push_int(pairs: &mut Vec<(String, Cell)>, name: String, n: i64) -> Result<(),
 #[inline(never)]
 fn push_named<'a>(
     pairs: &mut Vec<(String, Cell)>,
-    alloc: Global,
-    version: Version,
+    scope: Scope,
     room: u8,
     name: String,
     bytes: &'a [u8],
 ) -> Result<&'a [u8], Unscanned>
-    ensures read { (n : ℕ) (before : List ℕ)
-        → key_at (names pairs.old.items) before ≡ Ok (string_bytes name, bytes.now)
-        → IfOk result
-        (λ x. entries_at (layer (inner room)) n (map (form_entry version) (entries pairs.new.items)) x.now
-        ≡ entries_at (layer (inner room)) (suc n) (map (form_entry version) (entries pairs.old.items)) before) }
-    ensures keys { OnOk result (names pairs.new.items ≡ names pairs.old.items ++ string_bytes name ∷ []) }
-    ensures fine { all_fine (fault_of_structure version)
-        (structures_under (entries_of (entries pairs.old.items))) ≡ true
-        → OnOk result (all_fine (fault_of_structure version)
-        (structures_under (entries_of (entries pairs.new.items))) ≡ true) }
+    ensures { IfOk result (λ x. PairJoins scope room (string_bytes name)
+        (entries pairs.old.items) (entries pairs.new.items) bytes.now x.now) }
 {
-    let (cell, rest) = cell_in(alloc, version, room, bytes)?;
+    let (cell, rest) = cell_in(scope, room, bytes)?;
     pairs.push((name, cell))?;
     Ok(rest)
 }
@@ -108,55 +94,37 @@ fn push_named<'a>(
 #[cycle(scanner)]
 fn push_value<'a>(
     pairs: &mut Vec<(String, Cell)>,
-    alloc: Global,
-    version: Version,
+    scope: Scope,
     room: u8,
     key: &str,
     bytes: &'a [u8],
 ) -> Result<&'a [u8], Unscanned>
-    ensures read { (n : ℕ) (before : List ℕ)
-        → key_at (names pairs.old.items) before ≡ Ok (key.now, bytes.now)
-        → IfOk result
-        (λ x. entries_at (layer (inner room)) n (map (form_entry version) (entries pairs.new.items)) x.now
-        ≡ entries_at (layer (inner room)) (suc n) (map (form_entry version) (entries pairs.old.items)) before) }
-    ensures keys { OnOk result (names pairs.new.items ≡ names pairs.old.items ++ key.now ∷ []) }
-    ensures fine { all_fine (fault_of_structure version)
-        (structures_under (entries_of (entries pairs.old.items))) ≡ true
-        → OnOk result (all_fine (fault_of_structure version)
-        (structures_under (entries_of (entries pairs.new.items))) ≡ true) }
+    ensures { IfOk result (λ x. PairJoins scope room key.now
+        (entries pairs.old.items) (entries pairs.new.items) bytes.now x.now) }
 {
-    let name = String::from_str(alloc, key)?;
+    let name = String::from_str(scope.alloc, key)?;
     if let Ok((told, rest)) = text_in(bytes) {
-        push_text(pairs, alloc, name, told)?;
+        push_text(pairs, scope.alloc, name, told)?;
         return Ok(rest);
     }
     if let Ok((n, rest)) = int_in(bytes) {
         push_int(pairs, name, n)?;
         return Ok(rest);
     }
-    push_named(pairs, alloc, version, room, name, bytes)
+    push_named(pairs, scope, room, name, bytes)
 }
 
 /// So many entries, few enough that each key is compared with those before it.
 #[cycle(scanner)]
 #[inline(never)]
-fn pairs_of(
-    alloc: Global,
-    version: Version,
-    room: u8,
-    count: u64,
-    bytes: &[u8],
-) -> Result<(Vec<(String, Cell)>, &[u8]), Unscanned>
-    ensures read { IfOk result (λ x. entries_at (layer (inner room)) count [] bytes.now
-        ≡ Ok (map (form_entry version) (entries x.0.items), x.1.now)) }
-    ensures fine { IfOk result (λ x. all_fine (fault_of_structure version)
-        (structures_under (entries_of (entries x.0.items))) ≡ true) }
+fn pairs_of(scope: Scope, room: u8, count: u64, bytes: &[u8]) -> Scanned<'_, Vec<(String, Cell)>>
+    ensures { IfOk result (λ x. PairsTaken scope room count (entries x.0.items) bytes.now x.1.now) }
 {
-    let mut pairs = Vec::with_capacity(alloc, first_room(count, bytes))?;
+    let mut pairs = Vec::with_capacity(scope.alloc, first_room(count, bytes))?;
     let mut rest = bytes;
     for _ in 0..count {
         let (key, value) = key_of(&pairs, rest)?;
-        let after = push_value(&mut pairs, alloc, version, room, key, value)?;
+        let after = push_value(&mut pairs, scope, room, key, value)?;
         rest = after;
     }
     Ok((pairs, rest))
@@ -166,23 +134,19 @@ fn pairs_of(
 #[cycle(scanner)]
 #[inline(never)]
 fn many_pairs_of(
-    alloc: Global,
-    version: Version,
+    scope: Scope,
     room: u8,
     count: u64,
     bytes: &[u8],
-) -> Result<(Vec<(String, Cell)>, &[u8]), Unscanned>
-    ensures read { IfOk result (λ x. entries_at (layer (inner room)) count [] bytes.now
-        ≡ Ok (map (form_entry version) (entries x.0.items), x.1.now)) }
-    ensures fine { IfOk result (λ x. all_fine (fault_of_structure version)
-        (structures_under (entries_of (entries x.0.items))) ≡ true) }
+) -> Scanned<'_, Vec<(String, Cell)>>
+    ensures { IfOk result (λ x. PairsTaken scope room count (entries x.0.items) bytes.now x.1.now) }
 {
-    let mut seen = Seen::new(alloc, most_members(count, bytes))?;
-    let mut pairs = Vec::with_capacity(alloc, first_room(count, bytes))?;
+    let mut seen = Seen::new(scope.alloc, most_members(count, bytes))?;
+    let mut pairs = Vec::with_capacity(scope.alloc, first_room(count, bytes))?;
     let mut rest = bytes;
     for _ in 0..count {
         let (key, value) = new_key_of(&mut seen, &pairs, rest)?;
-        let after = push_value(&mut pairs, alloc, version, room, key, value)?;
+        let after = push_value(&mut pairs, scope, room, key, value)?;
         rest = after;
     }
     Ok((pairs, rest))
@@ -190,24 +154,14 @@ fn many_pairs_of(
 
 /// The entries of a dictionary.
 #[cycle(scanner)]
-#[tactic(auto, unfolding(packstream::specs::Reading::layer, packstream::specs::Reading::form_at))]
-pub(crate) fn dict_in(
-    alloc: Global,
-    version: Version,
-    room: u8,
-    bytes: &[u8],
-) -> Result<(Vec<(String, Cell)>, &[u8]), Unscanned>
-    ensures read { IfOk result (λ x. layer (inner room) bytes.now
-        ≡ Ok (form version (dict (entries_of (entries x.0.items))), x.1.now)) }
-    ensures fine { IfOk result (λ x. all_fine (fault_of_structure version)
-        (structures_under (entries_of (entries x.0.items))) ≡ true) }
+#[tactic(auto, unfolding(packstream::specs::Reading::form_at))]
+pub(crate) fn dict_in(scope: Scope, room: u8, bytes: &[u8]) -> Scanned<'_, Vec<(String, Cell)>>
+    ensures { IfOk result
+        (λ x. IsTaken scope room (dict (entries_of (entries x.0.items))) bytes.now x.1.now) }
 {
-    let left = bytes.len();
-    let Some((&first, rest)) = bytes.split_first() else {
-        return Err(Unscanned);
-    };
-    match marker_of(first) {
-        Some(Marker::Dict(size)) => dict_of(alloc, version, room, left, size, rest),
+    let (marker, rest) = marker_in(bytes)?;
+    match marker {
+        Marker::Dict(size) => dict_of(scope, room, bytes.len(), size, rest),
         _ => Err(Unscanned),
     }
 }

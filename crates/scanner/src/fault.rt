@@ -8,6 +8,9 @@ use std::alloc::{AllocError, AllocFailed};
 #[derive(Clone, Copy, Debug)]
 pub struct Unscanned;
 
+/// What was scanned and the bytes that follow it.
+pub type Scanned<'a, T> = Result<(T, &'a [u8]), Unscanned>;
+
 impl From<AllocError> for Unscanned {
     fn from(_e: AllocError) -> Unscanned {
         Unscanned

@@ -1,40 +1,34 @@
 //! Nodes, relationships and paths, behind their tag.
-ghost use Rattle.std.specs.Prelude.{◌≡◌, Ok, IfOk, map};
-ghost use Rattle.packstream.specs.Prelude.{layer, inner, list, trees_of};
+ghost use Rattle.std.specs.Prelude.{IfOk, map};
+ghost use Rattle.packstream.specs.Prelude.{list, trees_of};
 ghost use Rattle.cells.specs.Prelude.{node_shape, unbound_shape, relationship_shape, path_shape, node_tag, relationship_tag, unbound_tag, path_tag};
 ghost use Rattle.structures.specs.Form.{form};
+ghost use Rattle.scanner.specs.Fronts.{IsRead};
 ghost use Rattle.scanner.specs.Fields.{HasFields};
 
 use crate::dictionaries::dict_in;
-use crate::fault::Unscanned;
+use crate::fault::{Scanned, Unscanned};
 use crate::fields::{
     element_in, elements_in, indices_in, labels_in, list_head, string_in, structure_head,
 };
 use crate::plain::int_in;
+use crate::scope::Scope;
 use cells::{Node, Path, Relationship, UnboundRelationship, tags};
 use packstream::reading::first_room;
-use std::alloc::Global;
-use wire::Version;
 
 /// A node: its id, labels and properties, and the element id if there are four fields.
 #[cycle(scanner)]
-pub(crate) fn node_of(
-    alloc: Global,
-    version: Version,
-    room: u8,
-    count: u64,
-    bytes: &[u8],
-) -> Result<(Node, &[u8]), Unscanned>
-    ensures { IfOk result (λ x. HasFields (layer (inner room)) count node_tag
-        (form version (node_shape x.0)) bytes.now x.1.now) }
+pub(crate) fn node_of(scope: Scope, room: u8, count: u64, bytes: &[u8]) -> Scanned<'_, Node>
+    ensures { IfOk result
+        (λ x. HasFields scope room count node_tag (node_shape x.0) bytes.now x.1.now) }
 {
     if count < 3 {
         return Err(Unscanned);
     }
     let (id, rest) = int_in(bytes)?;
-    let (labels, rest) = labels_in(alloc, room, rest)?;
-    let (properties, rest) = dict_in(alloc, version, room, rest)?;
-    let (element_id, rest) = element_in(alloc, count - 3, rest)?;
+    let (labels, rest) = labels_in(scope, room, rest)?;
+    let (properties, rest) = dict_in(scope, room, rest)?;
+    let (element_id, rest) = element_in(scope, count - 3, rest)?;
     let node = Node {
         id,
         labels,
@@ -47,22 +41,21 @@ pub(crate) fn node_of(
 /// A relationship without its ends: its id, type and properties, and the element id if there are four fields.
 #[cycle(scanner)]
 pub(crate) fn unbound_of(
-    alloc: Global,
-    version: Version,
+    scope: Scope,
     room: u8,
     count: u64,
     bytes: &[u8],
-) -> Result<(UnboundRelationship, &[u8]), Unscanned>
-    ensures { IfOk result (λ x. HasFields (layer (inner room)) count unbound_tag
-        (form version (unbound_shape x.0)) bytes.now x.1.now) }
+) -> Scanned<'_, UnboundRelationship>
+    ensures { IfOk result
+        (λ x. HasFields scope room count unbound_tag (unbound_shape x.0) bytes.now x.1.now) }
 {
     if count < 3 {
         return Err(Unscanned);
     }
     let (id, rest) = int_in(bytes)?;
-    let (kind, rest) = string_in(alloc, rest)?;
-    let (properties, rest) = dict_in(alloc, version, room, rest)?;
-    let (element_id, rest) = element_in(alloc, count - 3, rest)?;
+    let (kind, rest) = string_in(scope.alloc, rest)?;
+    let (properties, rest) = dict_in(scope, room, rest)?;
+    let (element_id, rest) = element_in(scope, count - 3, rest)?;
     let unbound = UnboundRelationship {
         id,
         kind,
@@ -75,14 +68,13 @@ pub(crate) fn unbound_of(
 /// A relationship: the three ids, its type and properties, and the element ids if there are eight fields.
 #[cycle(scanner)]
 pub(crate) fn relationship_of(
-    alloc: Global,
-    version: Version,
+    scope: Scope,
     room: u8,
     count: u64,
     bytes: &[u8],
-) -> Result<(Relationship, &[u8]), Unscanned>
-    ensures { IfOk result (λ x. HasFields (layer (inner room)) count relationship_tag
-        (form version (relationship_shape x.0)) bytes.now x.1.now) }
+) -> Scanned<'_, Relationship>
+    ensures { IfOk result (λ x. HasFields scope room count relationship_tag
+        (relationship_shape x.0) bytes.now x.1.now) }
 {
     if count < 5 {
         return Err(Unscanned);
@@ -90,9 +82,9 @@ pub(crate) fn relationship_of(
     let (id, rest) = int_in(bytes)?;
     let (start, rest) = int_in(rest)?;
     let (end, rest) = int_in(rest)?;
-    let (kind, rest) = string_in(alloc, rest)?;
-    let (properties, rest) = dict_in(alloc, version, room, rest)?;
-    let (element_ids, rest) = elements_in(alloc, count - 5, rest)?;
+    let (kind, rest) = string_in(scope.alloc, rest)?;
+    let (properties, rest) = dict_in(scope, room, rest)?;
+    let (element_ids, rest) = elements_in(scope, count - 5, rest)?;
     let relationship = Relationship {
         id,
         start,
@@ -106,22 +98,16 @@ pub(crate) fn relationship_of(
 
 /// A path: its nodes, its relationships, and the indices of its walk.
 #[cycle(scanner)]
-pub(crate) fn path_of(
-    alloc: Global,
-    version: Version,
-    room: u8,
-    count: u64,
-    bytes: &[u8],
-) -> Result<(Path, &[u8]), Unscanned>
-    ensures { IfOk result (λ x. HasFields (layer (inner room)) count path_tag
-        (form version (path_shape x.0)) bytes.now x.1.now) }
+pub(crate) fn path_of(scope: Scope, room: u8, count: u64, bytes: &[u8]) -> Scanned<'_, Path>
+    ensures { IfOk result
+        (λ x. HasFields scope room count path_tag (path_shape x.0) bytes.now x.1.now) }
 {
     if count != 3 {
         return Err(Unscanned);
     }
-    let (nodes, rest) = nodes_in(alloc, version, room, bytes)?;
-    let (relationships, rest) = unbounds_in(alloc, version, room, rest)?;
-    let (indices, rest) = indices_in(alloc, room, rest)?;
+    let (nodes, rest) = nodes_in(scope, room, bytes)?;
+    let (relationships, rest) = unbounds_in(scope, room, rest)?;
+    let (indices, rest) = indices_in(scope, room, rest)?;
     let path = Path {
         nodes,
         relationships,
@@ -132,21 +118,16 @@ pub(crate) fn path_of(
 
 /// A list of nodes.
 #[cycle(scanner)]
-fn nodes_in(
-    alloc: Global,
-    version: Version,
-    room: u8,
-    bytes: &[u8],
-) -> Result<(Vec<Node>, &[u8]), Unscanned>
-    ensures { IfOk result (λ x. layer (inner room) bytes.now
-        ≡ Ok (list (trees_of (map (form version) (map node_shape x.0.items))), x.1.now)) }
+fn nodes_in(scope: Scope, room: u8, bytes: &[u8]) -> Scanned<'_, Vec<Node>>
+    ensures { IfOk result (λ x. IsRead room
+        (form scope.version (list (trees_of (map node_shape x.0.items)))) bytes.now x.1.now) }
 {
     let (count, members) = list_head(room, bytes)?;
-    let mut nodes = Vec::with_capacity(alloc, first_room(count, members))?;
+    let mut nodes = Vec::with_capacity(scope.alloc, first_room(count, members))?;
     let mut rest = members;
     for _ in 0..count {
         let (fields, inside) = structure_head(room - 1, tags::NODE, rest)?;
-        let (node, after) = node_of(alloc, version, room - 2, fields, inside)?;
+        let (node, after) = node_of(scope, room - 2, fields, inside)?;
         nodes.push(node)?;
         rest = after;
     }
@@ -155,21 +136,16 @@ fn nodes_in(
 
 /// A list of relationships without their ends.
 #[cycle(scanner)]
-fn unbounds_in(
-    alloc: Global,
-    version: Version,
-    room: u8,
-    bytes: &[u8],
-) -> Result<(Vec<UnboundRelationship>, &[u8]), Unscanned>
-    ensures { IfOk result (λ x. layer (inner room) bytes.now
-        ≡ Ok (list (trees_of (map (form version) (map unbound_shape x.0.items))), x.1.now)) }
+fn unbounds_in(scope: Scope, room: u8, bytes: &[u8]) -> Scanned<'_, Vec<UnboundRelationship>>
+    ensures { IfOk result (λ x. IsRead room
+        (form scope.version (list (trees_of (map unbound_shape x.0.items)))) bytes.now x.1.now) }
 {
     let (count, members) = list_head(room, bytes)?;
-    let mut unbounds = Vec::with_capacity(alloc, first_room(count, members))?;
+    let mut unbounds = Vec::with_capacity(scope.alloc, first_room(count, members))?;
     let mut rest = members;
     for _ in 0..count {
         let (fields, inside) = structure_head(room - 1, tags::UNBOUND_RELATIONSHIP, rest)?;
-        let (unbound, after) = unbound_of(alloc, version, room - 2, fields, inside)?;
+        let (unbound, after) = unbound_of(scope, room - 2, fields, inside)?;
         unbounds.push(unbound)?;
         rest = after;
     }

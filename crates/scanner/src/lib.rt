@@ -11,7 +11,8 @@ mod graphs;
 mod moments;
 mod plain;
 mod scan;
+mod scope;
 mod whole;
 
-pub use fault::Unscanned;
+pub use fault::{Scanned, Unscanned};
 pub use whole::{scan_cell, scan_dict, scan_int, scan_list, scan_text};

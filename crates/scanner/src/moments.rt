@@ -1,28 +1,19 @@
 //! Dates, times, durations and points, behind their tag.
 ghost use Rattle.std.specs.Prelude.{ℕ, IfOk};
-ghost use Rattle.packstream.specs.Reading.{layer, inner};
 ghost use Rattle.cells.specs.Shape.{shape};
-ghost use Rattle.structures.specs.Form.{form};
 ghost use Rattle.scanner.specs.Fields.{HasFields};
 
-use crate::fault::Unscanned;
+use crate::fault::{Scanned, Unscanned};
 use crate::fields::string_in;
 use crate::plain::{float_in, int_in};
+use crate::scope::Scope;
 use cells::{Cell, tags};
-use std::alloc::Global;
-use wire::Version;
 
 /// A structure without cells inside, behind its tag: its fields are of their kinds, and a DateTime is of the version.
 #[tactic(auto, unfolding(packstream::specs::Reading::struct_at, packstream::specs::Reading::items_at))]
-pub(crate) fn moment_of(
-    alloc: Global,
-    version: Version,
-    tag: u8,
-    count: u64,
-    bytes: &[u8],
-) -> Result<(Cell, &[u8]), Unscanned>
-    ensures { (room : ℕ) → IfOk result (λ x. HasFields (layer (inner room)) count tag
-        (form version (shape x.0)) bytes.now x.1.now) }
+pub(crate) fn moment_of(scope: Scope, tag: u8, count: u64, bytes: &[u8]) -> Scanned<'_, Cell>
+    ensures { (room : ℕ)
+        → IfOk result (λ x. HasFields scope room count tag (shape x.0) bytes.now x.1.now) }
 {
     match (tag, count) {
         (tags::DATE, 1) => {
@@ -69,21 +60,15 @@ pub(crate) fn moment_of(
             let (z, rest) = float_in(rest)?;
             Ok((Cell::Point3D { srid, x, y, z }, rest))
         }
-        _ => date_time_of(alloc, version, tag, count, bytes),
+        _ => date_time_of(scope, tag, count, bytes),
     }
 }
 
 /// A date with a time and an offset or a zone. A DateTime has local seconds where the version has no UTC times; the cell has its seconds in UTC.
 #[tactic(auto, unfolding(packstream::specs::Reading::struct_at, packstream::specs::Reading::items_at))]
-fn date_time_of(
-    alloc: Global,
-    version: Version,
-    tag: u8,
-    count: u64,
-    bytes: &[u8],
-) -> Result<(Cell, &[u8]), Unscanned>
-    ensures { (room : ℕ) → IfOk result (λ x. HasFields (layer (inner room)) count tag
-        (form version (shape x.0)) bytes.now x.1.now) }
+fn date_time_of(scope: Scope, tag: u8, count: u64, bytes: &[u8]) -> Scanned<'_, Cell>
+    ensures { (room : ℕ)
+        → IfOk result (λ x. HasFields scope room count tag (shape x.0) bytes.now x.1.now) }
 {
     if count != 3 {
         return Err(Unscanned);
@@ -91,12 +76,12 @@ fn date_time_of(
     let (seconds, rest) = int_in(bytes)?;
     let (nanos, rest) = int_in(rest)?;
     match tag {
-        tags::DATE_TIME if version.has_utc_times() => {
+        tags::DATE_TIME if scope.version.has_utc_times() => {
             let (offset, rest) = int_in(rest)?;
             let utc = seconds;
             Ok((Cell::DateTime { utc, nanos, offset }, rest))
         }
-        tags::LEGACY_DATE_TIME if !version.has_utc_times() => {
+        tags::LEGACY_DATE_TIME if !scope.version.has_utc_times() => {
             let (offset, rest) = int_in(rest)?;
             let Some(utc) = seconds.checked_sub(offset) else {
                 return Err(Unscanned);
@@ -104,7 +89,7 @@ fn date_time_of(
             Ok((Cell::DateTime { utc, nanos, offset }, rest))
         }
         tags::LEGACY_ZONED => {
-            let (zone, rest) = string_in(alloc, rest)?;
+            let (zone, rest) = string_in(scope.alloc, rest)?;
             let zoned = Cell::ZonedLocal {
                 seconds,
                 nanos,
@@ -113,7 +98,7 @@ fn date_time_of(
             Ok((zoned, rest))
         }
         tags::ZONED => {
-            let (zone, rest) = string_in(alloc, rest)?;
+            let (zone, rest) = string_in(scope.alloc, rest)?;
             let zoned = Cell::ZonedUtc {
                 seconds,
                 nanos,

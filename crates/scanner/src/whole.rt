@@ -6,37 +6,28 @@ ghost use Rattle.structures.specs.Form.{form};
 ghost use Rattle.scanner.specs.Fronts.{SpellsFront};
 
 use crate::dictionaries::dict_in;
-use crate::fault::Unscanned;
+use crate::fault::Scanned;
 use crate::plain::{int_in, text_in};
 use crate::scan::{cell_in, list_in};
+use crate::scope::Scope;
 use cells::Cell;
 use std::alloc::Global;
 use wire::Version;
 
 /// The cell whose form at the version the front of the bytes spells, in any of its spellings, and what follows it. That form is good and
 /// nests at most `room` deep, and none of its structures has a fault.
-pub fn scan_cell(
-    alloc: Global,
-    version: Version,
-    bytes: &[u8],
-    room: u8,
-) -> Result<(Cell, &[u8]), Unscanned>
+pub fn scan_cell(alloc: Global, version: Version, bytes: &[u8], room: u8) -> Scanned<'_, Cell>
     requires { room ≤ 32 }
     ensures spelled { IfOk result (λ x. SpellsFront (form version (shape x.0)) x.1.now bytes.now) }
     ensures good { IfOk result (λ x. IsGood (form version (shape x.0))) }
     ensures deep { IfOk result (λ x. depth (form version (shape x.0)) ≤ room) }
     ensures writable { IfOk result (λ x. IsWritable version (shape x.0)) }
 {
-    cell_in(alloc, version, room, bytes)
+    cell_in(Scope { alloc, version }, room, bytes)
 }
 
 /// The members of the list whose form at the version the front of the bytes spells, as `scan_cell` a cell.
-pub fn scan_list(
-    alloc: Global,
-    version: Version,
-    bytes: &[u8],
-    room: u8,
-) -> Result<(Vec<Cell>, &[u8]), Unscanned>
+pub fn scan_list(alloc: Global, version: Version, bytes: &[u8], room: u8) -> Scanned<'_, Vec<Cell>>
     requires { room ≤ 32 }
     ensures spelled { IfOk result
         (λ x. SpellsFront (form version (list (trees_of (shapes x.0.items)))) x.1.now bytes.now) }
@@ -44,7 +35,7 @@ pub fn scan_list(
     ensures deep { IfOk result (λ x. depth (form version (list (trees_of (shapes x.0.items)))) ≤ room) }
     ensures writable { IfOk result (λ x. IsWritable version (list (trees_of (shapes x.0.items)))) }
 {
-    list_in(alloc, version, room, bytes)
+    list_in(Scope { alloc, version }, room, bytes)
 }
 
 /// The entries of the dictionary whose form at the version the front of the bytes spells, as `scan_cell` a cell.
@@ -53,7 +44,7 @@ pub fn scan_dict(
     version: Version,
     bytes: &[u8],
     room: u8,
-) -> Result<(Vec<(String, Cell)>, &[u8]), Unscanned>
+) -> Scanned<'_, Vec<(String, Cell)>>
     requires { room ≤ 32 }
     ensures spelled { IfOk result
         (λ x. SpellsFront (form version (dict (entries_of (entries x.0.items)))) x.1.now bytes.now) }
@@ -61,11 +52,11 @@ pub fn scan_dict(
     ensures deep { IfOk result (λ x. depth (form version (dict (entries_of (entries x.0.items)))) ≤ room) }
     ensures writable { IfOk result (λ x. IsWritable version (dict (entries_of (entries x.0.items)))) }
 {
-    dict_in(alloc, version, room, bytes)
+    dict_in(Scope { alloc, version }, room, bytes)
 }
 
 /// The integer that the front of the bytes spells, in any of its forms, and what follows it.
-pub fn scan_int(bytes: &[u8]) -> Result<(i64, &[u8]), Unscanned>
+pub fn scan_int(bytes: &[u8]) -> Scanned<'_, i64>
     ensures spelled { IfOk result (λ x. SpellsFront (int x.0) x.1.now bytes.now) }
     ensures good { IfOk result (λ x. IsGood (int x.0)) }
 {
@@ -73,7 +64,7 @@ pub fn scan_int(bytes: &[u8]) -> Result<(i64, &[u8]), Unscanned>
 }
 
 /// The text that the front of the bytes spells, lent, and what follows it.
-pub fn scan_text(bytes: &[u8]) -> Result<(&str, &[u8]), Unscanned>
+pub fn scan_text(bytes: &[u8]) -> Scanned<'_, &str>
     ensures spelled { IfOk result (λ x. SpellsFront (text x.0.now) x.1.now bytes.now) }
     ensures good { IfOk result (λ x. IsGood (text x.0.now)) }
 {

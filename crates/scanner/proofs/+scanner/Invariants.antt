@@ -1,8 +1,8 @@
-use Rattle.std.proofs.Common.{◌≡◌, ◌-◌, ◌*◌, ◌+◌, true, [], map}
-use Rattle.packstream.specs.Prelude.{Knows, names, layer, inner, items_at, entries_at, trees_of, entries_of}
-use Rattle.cells.specs.Prelude.{all_fine, fault_of_structure, structures_in, structures_under, shapes, entries, node_shape, unbound_shape}
-use Rattle.structures.specs.Prelude.{form, form_entry}
+use Rattle.std.proofs.Common.{◌*◌, ◌+◌, map}
+use Rattle.packstream.specs.Prelude.{Knows, names}
+use Rattle.cells.specs.Prelude.{shapes, entries, node_shape, unbound_shape}
 use Rattle.scanner.proofs.Laid.{ListSoFar}
+use Rattle.scanner.proofs.Members.{MembersSoFar, EntriesSoFar}
 use Rattle.scanner.proofs.+scanner.Given as goal
 
 abbrev pub decreases-scan::list_of : goal.decreases-scan::list_of
@@ -63,16 +63,16 @@ abbrev pub decreases-graphs::unbounds_in : goal.decreases-graphs::unbounds_in
 decreases-graphs::unbounds_in l = 6 * l.room + 1
 
 abbrev pub invariant-scan::members_of-loop : goal.invariant-scan::members_of-loop
-invariant-scan::members_of-loop l = (items_at (layer (inner l.room)) (l.count - l.counter) (map (form l.version) (shapes l.members.items)) l.rest ≡ items_at (layer (inner l.room)) l.count [] l.bytes) × (all_fine (fault_of_structure l.version) (structures_in (trees_of (shapes l.members.items))) ≡ true)
+invariant-scan::members_of-loop l = MembersSoFar l.scope l.room l.count l.counter (shapes l.members.items) l.rest l.bytes
 
 abbrev pub invariant-dictionaries::pairs_of-loop : goal.invariant-dictionaries::pairs_of-loop
-invariant-dictionaries::pairs_of-loop l = (entries_at (layer (inner l.room)) (l.count - l.counter) (map (form_entry l.version) (entries l.pairs.items)) l.rest ≡ entries_at (layer (inner l.room)) l.count [] l.bytes) × (all_fine (fault_of_structure l.version) (structures_under (entries_of (entries l.pairs.items))) ≡ true)
+invariant-dictionaries::pairs_of-loop l = EntriesSoFar l.scope l.room l.count l.counter (entries l.pairs.items) l.rest l.bytes
 
 abbrev pub invariant-dictionaries::many_pairs_of-loop : goal.invariant-dictionaries::many_pairs_of-loop
-invariant-dictionaries::many_pairs_of-loop l = (entries_at (layer (inner l.room)) (l.count - l.counter) (map (form_entry l.version) (entries l.pairs.items)) l.rest ≡ entries_at (layer (inner l.room)) l.count [] l.bytes) × (all_fine (fault_of_structure l.version) (structures_under (entries_of (entries l.pairs.items))) ≡ true) × Knows l.seen (names l.pairs.items)
+invariant-dictionaries::many_pairs_of-loop l = EntriesSoFar l.scope l.room l.count l.counter (entries l.pairs.items) l.rest l.bytes × Knows l.seen (names l.pairs.items)
 
 abbrev pub invariant-graphs::nodes_in-loop : goal.invariant-graphs::nodes_in-loop
-invariant-graphs::nodes_in-loop l = ListSoFar l.room l.count l.counter (map (form l.version) (map node_shape l.nodes.items)) l.rest l.bytes
+invariant-graphs::nodes_in-loop l = ListSoFar l.scope.version l.room l.count l.counter (map node_shape l.nodes.items) l.rest l.bytes
 
 abbrev pub invariant-graphs::unbounds_in-loop : goal.invariant-graphs::unbounds_in-loop
-invariant-graphs::unbounds_in-loop l = ListSoFar l.room l.count l.counter (map (form l.version) (map unbound_shape l.unbounds.items)) l.rest l.bytes
+invariant-graphs::unbounds_in-loop l = ListSoFar l.scope.version l.room l.count l.counter (map unbound_shape l.unbounds.items) l.rest l.bytes

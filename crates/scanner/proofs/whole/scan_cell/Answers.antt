@@ -1,10 +1,9 @@
 use Rattle.packstream.proofs.Ranges.{bytes_from_each}
 use Rattle.cells.specs.Prelude.{shape}
-use Rattle.structures.specs.Prelude.{form}
-use Rattle.scanner.proofs.Fronts.{fronts, are_writable}
+use Rattle.scanner.proofs.Fronts.{forms}
 use Rattle.scanner.proofs.whole.scan_cell.Goals as goal
 
 pub returns : goal.returns
 returns c =
-    let f = fronts c.cell_in.result (λ x. form c.args.version (shape x.0)) (λ x. x.1.now) c.args.bytes.now c.args.room (bytes_from_each c.args.bytes.now c.type_inv.bytes) c.requires c.cell_in.ensures.read in
-    record { spelled = f.0; good = f.1; deep = f.2; writable = are_writable c.args.version c.cell_in.result (λ x. shape x.0) c.cell_in.ensures.fine }
+    let f = forms (record { alloc = c.args.alloc; version = c.args.version }) c.cell_in.result (λ x. shape x.0) (λ x. x.1.now) c.args.bytes.now c.args.room (bytes_from_each c.args.bytes.now c.type_inv.bytes) c.requires c.cell_in.ensures in
+    record { spelled = f.0; good = f.1; deep = f.2; writable = f.3 }

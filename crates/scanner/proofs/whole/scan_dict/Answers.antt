@@ -1,11 +1,10 @@
 use Rattle.packstream.proofs.Ranges.{bytes_from_each}
 use Rattle.packstream.specs.Prelude.{dict, entries_of}
 use Rattle.cells.specs.Prelude.{entries}
-use Rattle.structures.specs.Prelude.{form}
-use Rattle.scanner.proofs.Fronts.{fronts, are_writable}
+use Rattle.scanner.proofs.Fronts.{forms}
 use Rattle.scanner.proofs.whole.scan_dict.Goals as goal
 
 pub returns : goal.returns
 returns c =
-    let f = fronts c.dict_in.result (λ x. form c.args.version (dict (entries_of (entries x.0.items)))) (λ x. x.1.now) c.args.bytes.now c.args.room (bytes_from_each c.args.bytes.now c.type_inv.bytes) c.requires c.dict_in.ensures.read in
-    record { spelled = f.0; good = f.1; deep = f.2; writable = are_writable c.args.version c.dict_in.result (λ x. dict (entries_of (entries x.0.items))) c.dict_in.ensures.fine }
+    let f = forms (record { alloc = c.args.alloc; version = c.args.version }) c.dict_in.result (λ x. dict (entries_of (entries x.0.items))) (λ x. x.1.now) c.args.bytes.now c.args.room (bytes_from_each c.args.bytes.now c.type_inv.bytes) c.requires c.dict_in.ensures in
+    record { spelled = f.0; good = f.1; deep = f.2; writable = f.3 }
