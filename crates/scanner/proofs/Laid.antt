@@ -1,7 +1,7 @@
 -- Fields that are read one after the other, and what is read behind a head.
-use Rattle.std.proofs.Common.{◌≡◌, ℕ, ℤ, zero, suc, ◌+◌, ◌-◌, ◌≤◌, ◌<◌, ◌+ℤ◌, ◌-ℤ◌, false, cond, List, [], ◌∷◌, ◌++◌, map, Some, Ok, refl, sym, ap, ◌∙◌, arith, length, append-nil, append_assoc}
+use Rattle.std.proofs.Common.{◌≡◌, ℕ, ℤ, ◌+◌, ◌-◌, ◌≤◌, ◌<◌, ◌+ℤ◌, ◌-ℤ◌, false, cond, List, [], ◌∷◌, ◌++◌, map, Some, Ok, refl, sym, ap, ◌∙◌, append-nil, append_assoc}
 use Rattle.std.proofs.lemmas.List.{map_push}
-use Rattle.packstream.specs.Prelude.{Tree, structure, Trees, no_trees, tree_then, count, list, trees_of, items_at, list_at, struct_at, form_at, layer, inner}
+use Rattle.packstream.specs.Prelude.{Tree, structure, Trees, no_trees, tree_then, count, list, trees_of, items_at, struct_at, layer, inner}
 use Rattle.packstream.proofs.Steps.{items_on, items_done}
 use Rattle.wire.specs.declared.Version.{Version}
 use Rattle.wire.specs.Prelude.{has_utc_times}

@@ -5,7 +5,7 @@ use Rattle.packstream.specs.Prelude.{Tree, names, int, trees_of, entries_of, key
 use Rattle.packstream.proofs.Complete.{Pairs}
 use Rattle.packstream.proofs.Steps.{items_on}
 use Rattle.cells.specs.declared.cell.Cell.{Int as IntCase, the_lemmas}
-use Rattle.cells.specs.Prelude.{FaultOf, all_fine, fault_of_structure, structures, structures_in, structures_under, shape, entries}
+use Rattle.cells.specs.Prelude.{all_fine, fault_of_structure, structures, structures_in, structures_under, shape, entries}
 use Rattle.cells.proofs.Both.{both_true}
 use Rattle.cells.proofs.Fine.{fine_append}
 use Rattle.cells.proofs.Views.{Pair, shape-Dict}

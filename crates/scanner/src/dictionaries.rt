@@ -4,7 +4,7 @@ ghost use Rattle.packstream.specs.Prelude.{dict_at, inner, int, text, dict, entr
 ghost use Rattle.cells.specs.Prelude.{entries};
 ghost use Rattle.scanner.specs.Fronts.{Takes, IsTaken, PairsTaken, PairJoins};
 
-use crate::fault::{Scanned, Unscanned};
+use crate::fault::{Left, Scanned, Unscanned};
 use crate::plain::{int_in, marker_in, text_in};
 use crate::scan::cell_in;
 use crate::scope::Scope;
@@ -15,6 +15,9 @@ use packstream::seen::Seen;
 use packstream::twins::FEW;
 use std::alloc::Global;
 
+/// The entries of a dictionary in their order.
+type Pairs = Vec<(String, Cell)>;
+
 /// A dictionary behind its marker.
 #[cycle(scanner)]
 #[tactic(auto, using(packstream::proofs::Steps::inner_more, structures::proofs::Fitted::form_pairs), unfolding(packstream::specs::Reading::dict_at))]
@@ -24,7 +27,7 @@ pub(crate) fn dict_of(
     left: usize,
     size: Size,
     bytes: &[u8],
-) -> Scanned<'_, Vec<(String, Cell)>>
+) -> Scanned<'_, Pairs>
     ensures { IfOk result (λ x. Takes scope (dict (entries_of (entries x.0.items))) x.1.now
         (dict_at (inner room) left size bytes.now)) }
 {
@@ -42,12 +45,7 @@ pub(crate) fn dict_of(
 /// A text joins the entries before it; room was made for each entry. If this stands in its caller, each entry pays for the locals
 /// of every kind.
 #[inline(never)]
-fn push_text(
-    pairs: &mut Vec<(String, Cell)>,
-    alloc: Global,
-    name: String,
-    told: &str,
-) -> Result<(), Unscanned>
+fn push_text(pairs: &mut Pairs, alloc: Global, name: String, told: &str) -> Result<(), Unscanned>
     ensures { OnOk result (entries pairs.new.items
         ≡ entries pairs.old.items ++ (string_bytes name, text told.now) ∷ []) }
 {
@@ -61,7 +59,7 @@ fn push_text(
 
 /// An integer joins the entries before it.
 #[inline(never)]
-fn push_int(pairs: &mut Vec<(String, Cell)>, name: String, n: i64) -> Result<(), Unscanned>
+fn push_int(pairs: &mut Pairs, name: String, n: i64) -> Result<(), Unscanned>
     ensures { OnOk result (entries pairs.new.items
         ≡ entries pairs.old.items ++ (string_bytes name, int n) ∷ []) }
 {
@@ -76,12 +74,12 @@ fn push_int(pairs: &mut Vec<(String, Cell)>, name: String, n: i64) -> Result<(),
 #[cycle(scanner)]
 #[inline(never)]
 fn push_named<'a>(
-    pairs: &mut Vec<(String, Cell)>,
+    pairs: &mut Pairs,
     scope: Scope,
     room: u8,
     name: String,
     bytes: &'a [u8],
-) -> Result<&'a [u8], Unscanned>
+) -> Left<'a>
     ensures { IfOk result (λ x. PairJoins scope room (string_bytes name)
         (entries pairs.old.items) (entries pairs.new.items) bytes.now x.now) }
 {
@@ -92,13 +90,7 @@ fn push_named<'a>(
 
 /// An entry behind its key, which was read before these bytes, joins those before it.
 #[cycle(scanner)]
-fn push_value<'a>(
-    pairs: &mut Vec<(String, Cell)>,
-    scope: Scope,
-    room: u8,
-    key: &str,
-    bytes: &'a [u8],
-) -> Result<&'a [u8], Unscanned>
+fn push_value<'a>(pairs: &mut Pairs, scope: Scope, room: u8, key: &str, bytes: &'a [u8]) -> Left<'a>
     ensures { IfOk result (λ x. PairJoins scope room key.now
         (entries pairs.old.items) (entries pairs.new.items) bytes.now x.now) }
 {
@@ -117,15 +109,14 @@ fn push_value<'a>(
 /// So many entries, few enough that each key is compared with those before it.
 #[cycle(scanner)]
 #[inline(never)]
-fn pairs_of(scope: Scope, room: u8, count: u64, bytes: &[u8]) -> Scanned<'_, Vec<(String, Cell)>>
+fn pairs_of(scope: Scope, room: u8, count: u64, bytes: &[u8]) -> Scanned<'_, Pairs>
     ensures { IfOk result (λ x. PairsTaken scope room count (entries x.0.items) bytes.now x.1.now) }
 {
     let mut pairs = Vec::with_capacity(scope.alloc, first_room(count, bytes))?;
     let mut rest = bytes;
     for _ in 0..count {
         let (key, value) = key_of(&pairs, rest)?;
-        let after = push_value(&mut pairs, scope, room, key, value)?;
-        rest = after;
+        rest = push_value(&mut pairs, scope, room, key, value)?;
     }
     Ok((pairs, rest))
 }
@@ -133,12 +124,7 @@ fn pairs_of(scope: Scope, room: u8, count: u64, bytes: &[u8]) -> Scanned<'_, Vec
 /// So many entries, whose keys are looked for among those seen.
 #[cycle(scanner)]
 #[inline(never)]
-fn many_pairs_of(
-    scope: Scope,
-    room: u8,
-    count: u64,
-    bytes: &[u8],
-) -> Scanned<'_, Vec<(String, Cell)>>
+fn many_pairs_of(scope: Scope, room: u8, count: u64, bytes: &[u8]) -> Scanned<'_, Pairs>
     ensures { IfOk result (λ x. PairsTaken scope room count (entries x.0.items) bytes.now x.1.now) }
 {
     let mut seen = Seen::new(scope.alloc, most_members(count, bytes))?;
@@ -146,8 +132,7 @@ fn many_pairs_of(
     let mut rest = bytes;
     for _ in 0..count {
         let (key, value) = new_key_of(&mut seen, &pairs, rest)?;
-        let after = push_value(&mut pairs, scope, room, key, value)?;
-        rest = after;
+        rest = push_value(&mut pairs, scope, room, key, value)?;
     }
     Ok((pairs, rest))
 }
@@ -155,7 +140,7 @@ fn many_pairs_of(
 /// The entries of a dictionary.
 #[cycle(scanner)]
 #[tactic(auto, unfolding(packstream::specs::Reading::form_at))]
-pub(crate) fn dict_in(scope: Scope, room: u8, bytes: &[u8]) -> Scanned<'_, Vec<(String, Cell)>>
+pub(crate) fn dict_in(scope: Scope, room: u8, bytes: &[u8]) -> Scanned<'_, Pairs>
     ensures { IfOk result
         (λ x. IsTaken scope room (dict (entries_of (entries x.0.items))) bytes.now x.1.now) }
 {

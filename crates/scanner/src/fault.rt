@@ -11,6 +11,9 @@ pub struct Unscanned;
 /// What was scanned and the bytes that follow it.
 pub type Scanned<'a, T> = Result<(T, &'a [u8]), Unscanned>;
 
+/// The bytes that follow what was scanned and put in its place.
+pub(crate) type Left<'a> = Result<&'a [u8], Unscanned>;
+
 impl From<AllocError> for Unscanned {
     fn from(_e: AllocError) -> Unscanned {
         Unscanned

@@ -46,8 +46,7 @@ pub(crate) fn string_in(alloc: Global, bytes: &[u8]) -> Scanned<'_, String>
     ensures { (room : ℕ) → IfOk result (λ x. IsRead room (text_of x.0) bytes.now x.1.now) }
 {
     let (told, rest) = text_in(bytes)?;
-    let copy = String::from_str(alloc, told)?;
-    Ok((copy, rest))
+    Ok((String::from_str(alloc, told)?, rest))
 }
 
 /// A list of texts.
@@ -55,9 +54,8 @@ pub(crate) fn labels_in(scope: Scope, room: u8, bytes: &[u8]) -> Scanned<'_, Vec
     ensures { IfOk result
         (λ x. IsRead room (form scope.version (texts_of x.0.items)) bytes.now x.1.now) }
 {
-    let (count, members) = list_head(room, bytes)?;
-    let mut texts = Vec::with_capacity(scope.alloc, first_room(count, members))?;
-    let mut rest = members;
+    let (count, mut rest) = list_head(room, bytes)?;
+    let mut texts = Vec::with_capacity(scope.alloc, first_room(count, rest))?;
     for _ in 0..count {
         let (text, after) = string_in(scope.alloc, rest)?;
         texts.push(text)?;
@@ -71,9 +69,8 @@ pub(crate) fn indices_in(scope: Scope, room: u8, bytes: &[u8]) -> Scanned<'_, Ve
     ensures { IfOk result
         (λ x. IsRead room (form scope.version (numbers_of x.0.items)) bytes.now x.1.now) }
 {
-    let (count, members) = list_head(room, bytes)?;
-    let mut indices = Vec::with_capacity(scope.alloc, first_room(count, members))?;
-    let mut rest = members;
+    let (count, mut rest) = list_head(room, bytes)?;
+    let mut indices = Vec::with_capacity(scope.alloc, first_room(count, rest))?;
     for _ in 0..count {
         let (index, after) = int_in(rest)?;
         indices.push(index)?;

@@ -1,7 +1,7 @@
-//! Nodes, relationships and paths, behind their tag.
+//! Structures, and of them nodes, relationships and paths, behind their tag.
 ghost use Rattle.std.specs.Prelude.{IfOk, map};
 ghost use Rattle.packstream.specs.Prelude.{list, trees_of};
-ghost use Rattle.cells.specs.Prelude.{node_shape, unbound_shape, relationship_shape, path_shape, node_tag, relationship_tag, unbound_tag, path_tag};
+ghost use Rattle.cells.specs.Prelude.{shape, node_shape, unbound_shape, relationship_shape, path_shape, node_tag, relationship_tag, unbound_tag, path_tag};
 ghost use Rattle.structures.specs.Form.{form};
 ghost use Rattle.scanner.specs.Fronts.{IsRead};
 ghost use Rattle.scanner.specs.Fields.{HasFields};
@@ -11,14 +11,53 @@ use crate::fault::{Scanned, Unscanned};
 use crate::fields::{
     element_in, elements_in, indices_in, labels_in, list_head, string_in, structure_head,
 };
+use crate::moments::moment_of;
 use crate::plain::int_in;
 use crate::scope::Scope;
-use cells::{Node, Path, Relationship, UnboundRelationship, tags};
+use cells::{Cell, Node, Path, Relationship, UnboundRelationship, tags};
 use packstream::reading::first_room;
+
+/// The cell of a structure, behind its tag: its fields are of their kinds, and a DateTime is of the version.
+#[cycle(scanner)]
+pub(crate) fn made_of(
+    scope: Scope,
+    room: u8,
+    tag: u8,
+    count: u64,
+    bytes: &[u8],
+) -> Scanned<'_, Cell>
+    ensures { IfOk result (λ x. HasFields scope room count tag (shape x.0) bytes.now x.1.now) }
+{
+    match tag {
+        tags::NODE => {
+            let (node, rest) = node_of(scope, room, count, bytes)?;
+            Ok((Cell::Node(Box::new(scope.alloc, node)?), rest))
+        }
+        tags::RELATIONSHIP => {
+            let (relationship, rest) = relationship_of(scope, room, count, bytes)?;
+            Ok((
+                Cell::Relationship(Box::new(scope.alloc, relationship)?),
+                rest,
+            ))
+        }
+        tags::UNBOUND_RELATIONSHIP => {
+            let (unbound, rest) = unbound_of(scope, room, count, bytes)?;
+            Ok((
+                Cell::UnboundRelationship(Box::new(scope.alloc, unbound)?),
+                rest,
+            ))
+        }
+        tags::PATH => {
+            let (path, rest) = path_of(scope, room, count, bytes)?;
+            Ok((Cell::Path(Box::new(scope.alloc, path)?), rest))
+        }
+        _ => moment_of(scope, tag, count, bytes),
+    }
+}
 
 /// A node: its id, labels and properties, and the element id if there are four fields.
 #[cycle(scanner)]
-pub(crate) fn node_of(scope: Scope, room: u8, count: u64, bytes: &[u8]) -> Scanned<'_, Node>
+fn node_of(scope: Scope, room: u8, count: u64, bytes: &[u8]) -> Scanned<'_, Node>
     ensures { IfOk result
         (λ x. HasFields scope room count node_tag (node_shape x.0) bytes.now x.1.now) }
 {
@@ -40,12 +79,7 @@ pub(crate) fn node_of(scope: Scope, room: u8, count: u64, bytes: &[u8]) -> Scann
 
 /// A relationship without its ends: its id, type and properties, and the element id if there are four fields.
 #[cycle(scanner)]
-pub(crate) fn unbound_of(
-    scope: Scope,
-    room: u8,
-    count: u64,
-    bytes: &[u8],
-) -> Scanned<'_, UnboundRelationship>
+fn unbound_of(scope: Scope, room: u8, count: u64, bytes: &[u8]) -> Scanned<'_, UnboundRelationship>
     ensures { IfOk result
         (λ x. HasFields scope room count unbound_tag (unbound_shape x.0) bytes.now x.1.now) }
 {
@@ -67,12 +101,7 @@ pub(crate) fn unbound_of(
 
 /// A relationship: the three ids, its type and properties, and the element ids if there are eight fields.
 #[cycle(scanner)]
-pub(crate) fn relationship_of(
-    scope: Scope,
-    room: u8,
-    count: u64,
-    bytes: &[u8],
-) -> Scanned<'_, Relationship>
+fn relationship_of(scope: Scope, room: u8, count: u64, bytes: &[u8]) -> Scanned<'_, Relationship>
     ensures { IfOk result (λ x. HasFields scope room count relationship_tag
         (relationship_shape x.0) bytes.now x.1.now) }
 {
@@ -98,7 +127,7 @@ pub(crate) fn relationship_of(
 
 /// A path: its nodes, its relationships, and the indices of its walk.
 #[cycle(scanner)]
-pub(crate) fn path_of(scope: Scope, room: u8, count: u64, bytes: &[u8]) -> Scanned<'_, Path>
+fn path_of(scope: Scope, room: u8, count: u64, bytes: &[u8]) -> Scanned<'_, Path>
     ensures { IfOk result
         (λ x. HasFields scope room count path_tag (path_shape x.0) bytes.now x.1.now) }
 {
@@ -122,9 +151,8 @@ fn nodes_in(scope: Scope, room: u8, bytes: &[u8]) -> Scanned<'_, Vec<Node>>
     ensures { IfOk result (λ x. IsRead room
         (form scope.version (list (trees_of (map node_shape x.0.items)))) bytes.now x.1.now) }
 {
-    let (count, members) = list_head(room, bytes)?;
-    let mut nodes = Vec::with_capacity(scope.alloc, first_room(count, members))?;
-    let mut rest = members;
+    let (count, mut rest) = list_head(room, bytes)?;
+    let mut nodes = Vec::with_capacity(scope.alloc, first_room(count, rest))?;
     for _ in 0..count {
         let (fields, inside) = structure_head(room - 1, tags::NODE, rest)?;
         let (node, after) = node_of(scope, room - 2, fields, inside)?;
@@ -140,9 +168,8 @@ fn unbounds_in(scope: Scope, room: u8, bytes: &[u8]) -> Scanned<'_, Vec<UnboundR
     ensures { IfOk result (λ x. IsRead room
         (form scope.version (list (trees_of (map unbound_shape x.0.items)))) bytes.now x.1.now) }
 {
-    let (count, members) = list_head(room, bytes)?;
-    let mut unbounds = Vec::with_capacity(scope.alloc, first_room(count, members))?;
-    let mut rest = members;
+    let (count, mut rest) = list_head(room, bytes)?;
+    let mut unbounds = Vec::with_capacity(scope.alloc, first_room(count, rest))?;
     for _ in 0..count {
         let (fields, inside) = structure_head(room - 1, tags::UNBOUND_RELATIONSHIP, rest)?;
         let (unbound, after) = unbound_of(scope, room - 2, fields, inside)?;

@@ -3,15 +3,13 @@ ghost use Rattle.std.specs.Prelude.{ℕ, IfOk};
 ghost use Rattle.packstream.specs.Prelude.{list_at, struct_at, inner, list, trees_of};
 ghost use Rattle.cells.specs.Prelude.{shape, shapes};
 ghost use Rattle.scanner.specs.Fronts.{Takes, IsTaken, CellsTaken, CellJoins};
-ghost use Rattle.scanner.specs.Fields.{HasFields};
 
 use crate::dictionaries::dict_of;
-use crate::fault::{Scanned, Unscanned};
-use crate::graphs::{node_of, path_of, relationship_of, unbound_of};
-use crate::moments::moment_of;
+use crate::fault::{Left, Scanned, Unscanned};
+use crate::graphs::made_of;
 use crate::plain::{int_in, marker_in};
 use crate::scope::Scope;
-use cells::{Cell, check_cell, tags};
+use cells::{Cell, check_cell};
 use packstream::marker::{Marker, Size, Width};
 use packstream::reading::{bytes_of, first_room, number_of, signed_of, size_of, text_of};
 
@@ -72,12 +70,7 @@ fn list_of(scope: Scope, room: u8, left: usize, size: Size, bytes: &[u8]) -> Sca
 /// A member joins those before it. Integers are put there by this function itself, if there is room: a cell that a call answers is
 /// moved from if it was answered.
 #[cycle(scanner)]
-fn push_member<'a>(
-    members: &mut Vec<Cell>,
-    scope: Scope,
-    room: u8,
-    bytes: &'a [u8],
-) -> Result<&'a [u8], Unscanned>
+fn push_member<'a>(members: &mut Vec<Cell>, scope: Scope, room: u8, bytes: &'a [u8]) -> Left<'a>
     ensures { IfOk result (λ x. CellJoins scope room
         (shapes members.old.items) (shapes members.new.items) bytes.now x.now) }
 {
@@ -93,12 +86,7 @@ fn push_member<'a>(
 /// A member of any kind joins those before it. If this stands in its caller, each member pays for its locals.
 #[cycle(scanner)]
 #[inline(never)]
-fn push_other<'a>(
-    members: &mut Vec<Cell>,
-    scope: Scope,
-    room: u8,
-    bytes: &'a [u8],
-) -> Result<&'a [u8], Unscanned>
+fn push_other<'a>(members: &mut Vec<Cell>, scope: Scope, room: u8, bytes: &'a [u8]) -> Left<'a>
     ensures { IfOk result (λ x. CellJoins scope room
         (shapes members.old.items) (shapes members.new.items) bytes.now x.now) }
 {
@@ -115,8 +103,7 @@ fn members_of(scope: Scope, room: u8, count: u64, bytes: &[u8]) -> Scanned<'_, V
     let mut members = Vec::with_capacity(scope.alloc, first_room(count, bytes))?;
     let mut rest = bytes;
     for _ in 0..count {
-        let after = push_member(&mut members, scope, room, rest)?;
-        rest = after;
+        rest = push_member(&mut members, scope, room, rest)?;
     }
     Ok((members, rest))
 }
@@ -154,37 +141,5 @@ fn structure_of(scope: Scope, room: u8, count: u64, bytes: &[u8]) -> Scanned<'_,
     match check_cell(scope.version, &cell, 0) {
         Ok(_) => Ok((cell, rest)),
         Err(_) => Err(Unscanned),
-    }
-}
-
-/// The cell of a structure, behind its tag: its fields are of their kinds, and a DateTime is of the version.
-#[cycle(scanner)]
-fn made_of(scope: Scope, room: u8, tag: u8, count: u64, bytes: &[u8]) -> Scanned<'_, Cell>
-    ensures { IfOk result (λ x. HasFields scope room count tag (shape x.0) bytes.now x.1.now) }
-{
-    match tag {
-        tags::NODE => {
-            let (node, rest) = node_of(scope, room, count, bytes)?;
-            Ok((Cell::Node(Box::new(scope.alloc, node)?), rest))
-        }
-        tags::RELATIONSHIP => {
-            let (relationship, rest) = relationship_of(scope, room, count, bytes)?;
-            Ok((
-                Cell::Relationship(Box::new(scope.alloc, relationship)?),
-                rest,
-            ))
-        }
-        tags::UNBOUND_RELATIONSHIP => {
-            let (unbound, rest) = unbound_of(scope, room, count, bytes)?;
-            Ok((
-                Cell::UnboundRelationship(Box::new(scope.alloc, unbound)?),
-                rest,
-            ))
-        }
-        tags::PATH => {
-            let (path, rest) = path_of(scope, room, count, bytes)?;
-            Ok((Cell::Path(Box::new(scope.alloc, path)?), rest))
-        }
-        _ => moment_of(scope, tag, count, bytes),
     }
 }

@@ -1,4 +1,4 @@
-use Rattle.std.proofs.Common.{◌≡◌, ◌-◌, ◌++◌, ◌∷◌, [], Ok, ap, sym, ◌∙◌, List, ℕ, refl, rules, string_bytes, to_z, of_z, w64, map, arith}
+use Rattle.std.proofs.Common.{◌≡◌, ◌-◌, ◌++◌, ◌∷◌, [], ap, ◌∙◌, List, ℕ, refl, rules, to_z, of_z, w64, map, arith}
 use Rattle.std.proofs.lemmas.List.{map_push}
 use Rattle.packstream.specs.Prelude.{Tree, Knows, names, int, text, list, dict, no_trees, tree_then, trees_of, entries_of, dict_at, layer, inner, items_at, entries_at}
 use Rattle.packstream.proofs.Steps.{inner_more, items_done, entries_done}
@@ -25,7 +25,7 @@ scan::push_other-returns t c =
     (shape c.in_ok-member.member, rw c.in_ok-push.ensures.items (map_push shape c.args.members.now.items c.in_ok-member.member), c.in_ok-member.ensures)
 
 pub scan::members_of-loop-preserved : goal.scan::members_of-loop-preserved
-scan::members_of-loop-preserved t c = members_on c.args.scope c.args.room c.args.count c.loop.counter _ _ c.loop.rest.now _ c.args.bytes.now c.loop-test.true c.in_ok-after.ensures c.loop.invariant
+scan::members_of-loop-preserved t c = members_on c.args.scope c.args.room c.args.count c.loop.counter _ _ c.loop.rest.now _ c.args.bytes.now c.loop-test.true c.in_ok-rest.ensures c.loop.invariant
 
 pub scan::members_of-returns : goal.scan::members_of-returns
 scan::members_of-returns t c = (items_done (layer (inner c.args.room)) c.args.count c.loop.counter (map (form c.args.scope.version) (shapes c.loop.members.items)) c.loop.rest.now (items_at (layer (inner c.args.room)) c.args.count [] c.args.bytes.now) c.loop-test.false c.loop.invariant.0, c.loop.invariant.1)
@@ -50,14 +50,14 @@ dictionaries::push_value-returns t c = rw c.in_ok-name.ensures.ok at c.push_name
 
 pub dictionaries::pairs_of-loop-preserved : goal.dictionaries::pairs_of-loop-preserved
 dictionaries::pairs_of-loop-preserved t c =
-    entries_on c.args.scope c.args.room c.args.count c.loop.counter c.loop.pairs.items _ c.in_ok-key.key.now c.loop.rest.now c.in_ok-key.value.now _ c.args.bytes.now c.loop-test.true (rw c.deref.ensures.value at c.in_ok-key.ensures) c.in_ok-after.ensures c.loop.invariant
+    entries_on c.args.scope c.args.room c.args.count c.loop.counter c.loop.pairs.items _ c.in_ok-key.key.now c.loop.rest.now c.in_ok-key.value.now _ c.args.bytes.now c.loop-test.true (rw c.deref.ensures.value at c.in_ok-key.ensures) c.in_ok-rest.ensures c.loop.invariant
 
 pub dictionaries::many_pairs_of-loop-preserved : goal.dictionaries::many_pairs_of-loop-preserved
 dictionaries::many_pairs_of-loop-preserved t c =
     let knows : Knows c.loop.seen (names c.loop.pairs.items) = c.loop.invariant.1 in
     let key = rw c.deref.ensures.value at c.in_ok-key.ensures in (
-      entries_on c.args.scope c.args.room c.args.count c.loop.counter c.loop.pairs.items _ c.in_ok-key.key.now c.loop.rest.now c.in_ok-key.value.now _ c.args.bytes.now c.loop-test.true (key.key knows) c.in_ok-after.ensures c.loop.invariant.0,
-      rw (names_on c.args.scope c.args.room c.loop.pairs.items _ c.in_ok-key.key.now c.in_ok-key.value.now _ c.in_ok-after.ensures) (key.seen knows),
+      entries_on c.args.scope c.args.room c.args.count c.loop.counter c.loop.pairs.items _ c.in_ok-key.key.now c.loop.rest.now c.in_ok-key.value.now _ c.args.bytes.now c.loop-test.true (key.key knows) c.in_ok-rest.ensures c.loop.invariant.0,
+      rw (names_on c.args.scope c.args.room c.loop.pairs.items _ c.in_ok-key.key.now c.in_ok-key.value.now _ c.in_ok-rest.ensures) (key.seen knows),
     )
 
 pub dictionaries::pairs_of-returns : goal.dictionaries::pairs_of-returns

@@ -44,8 +44,8 @@ decreases-scan::push_member l = 6 * l.room + 4
 abbrev pub decreases-dictionaries::push_value : goal.decreases-dictionaries::push_value
 decreases-dictionaries::push_value l = 6 * l.room + 4
 
-abbrev pub decreases-scan::made_of : goal.decreases-scan::made_of
-decreases-scan::made_of l = 6 * l.room + 4
+abbrev pub decreases-graphs::made_of : goal.decreases-graphs::made_of
+decreases-graphs::made_of l = 6 * l.room + 4
 
 abbrev pub decreases-scan::members_of : goal.decreases-scan::members_of
 decreases-scan::members_of l = 6 * l.room + 5
