@@ -1,3 +1,3 @@
 pub mod Flat
 pub mod Sure
-pub mod Pieces
+pub mod Adding

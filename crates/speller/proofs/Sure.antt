@@ -1,9 +1,6 @@
--- What is ready is good and nests within its room. What has no structure is its own form.
-use Rattle.std.proofs.Common.{◌≡◌, ℕ, ◌-◌, ◌≤◌, List, [], ◌∷◌, ◌++◌, refl, ap, arith}
+-- What is ready is good and nests within its room.
+use Rattle.std.proofs.Common.{ℕ, ◌-◌, ◌≤◌, arith}
 use Rattle.packstream.specs.Prelude.{Tree, null, boolean, list, dict, structure, Trees, no_trees, tree_then, Entries, no_entries, entry_then, IsPlain, ArePlain, HavePlain, depth, trees_depth, entries_depth, IsSound, AreSound, HaveSoundValues, IsGood}
-use Rattle.wire.specs.declared.Version.{Version}
-use Rattle.cells.specs.Prelude.{structures, structures_in, structures_under}
-use Rattle.structures.specs.Prelude.{form, form_all, form_under}
 use Rattle.speller.specs.Ready.{IsReady, AreReady, HaveReady}
 
 -- what nests no deeper than the room, is sound and plain
@@ -29,35 +26,9 @@ mutual
   pub under_sure : (es : Entries) (r : ℕ) → HaveReady r es → IsSure (entries_depth es) r (HaveSoundValues es) (HavePlain es)
   under_sure no_entries r h = (omega arith, tt, tt)
   under_sure (entry_then k t es) r h =
-      let a = sure t r h.1 in
-      let b = under_sure es r h.2 in
+      let a = sure t r h.1.0 in
+      let b = under_sure es r h.1.1 in
       (omega (arith, a.0, b.0), (a.1, b.1), (h.0, a.2, b.2))
 
 pub good_by : (t : Tree) (r : ℕ) → r ≤ 32 → IsReady r t → IsGood t
 good_by t r le h = let s = sure t r h in record { deep = omega (arith, s.0, le); sound = s.1; plain = s.2 }
-
-none_left : {A : Type 0} (xs ys : List A) → xs ++ ys ≡ [] → xs ≡ []
-none_left [] ys h = refl
-none_left (x ∷ xs) ys h = absurd cc
-
-none_right : {A : Type 0} (xs ys : List A) → xs ++ ys ≡ [] → ys ≡ []
-none_right [] ys h = h
-none_right (x ∷ xs) ys h = absurd cc
-
-mutual
-  -- what has no structures is the same at each version
-  pub plain_form : (v : Version) (t : Tree) → structures t ≡ [] → form v t ≡ t
-  plain_form v (list ts) h = ap list (plain_forms v ts h)
-  plain_form v (dict es) h = ap dict (plain_forms_under v es h)
-  plain_form v (structure tag ts) h = absurd cc
-  plain_form v t h = refl
-
-  pub plain_forms : (v : Version) (ts : Trees) → structures_in ts ≡ [] → form_all v ts ≡ ts
-  plain_forms v no_trees h = refl
-  plain_forms v (tree_then t ts) h =
-      rw (plain_form v t (none_left _ _ h), plain_forms v ts (none_right (structures t) _ h)) refl
-
-  pub plain_forms_under : (v : Version) (es : Entries) → structures_under es ≡ [] → form_under v es ≡ es
-  plain_forms_under v no_entries h = refl
-  plain_forms_under v (entry_then k t es) h =
-      rw (plain_form v t (none_left _ _ h), plain_forms_under v es (none_right (structures t) _ h)) refl

@@ -25,4 +25,4 @@ abbrev mutual
 
   pub HaveReady : ℕ → Entries → Type 0
   HaveReady r no_entries = Unit {0}
-  HaveReady r (entry_then k t es) = IsUtf8 k × IsReady r t × HaveReady r es
+  HaveReady r (entry_then k t es) = IsUtf8 k × (IsReady r t × HaveReady r es)

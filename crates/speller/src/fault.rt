@@ -7,6 +7,9 @@ use std::alloc::AllocError;
 #[derive(Clone, Copy, Debug)]
 pub struct Unspelled;
 
+/// What comes of spelling.
+pub(crate) type Spelled<T> = Result<T, Unspelled>;
+
 impl From<AllocError> for Unspelled {
     fn from(_e: AllocError) -> Unspelled {
         Unspelled

@@ -1,51 +1,37 @@
-//! Nodes, relationships and paths whose structures have no fault.
-ghost use Rattle.std.specs.Prelude.{◌≡◌, ◌≤◌, ◌++◌, ℕ, OnOk, map};
-ghost use Rattle.packstream.specs.Prelude.{canon, canon_all, count, int, list, trees_of};
-ghost use Rattle.cells.specs.Shape.{text_of, texts_of, numbers_of, element_of, elements_of, node_shape, unbound_shape, relationship_shape, path_shape};
-ghost use Rattle.structures.specs.Form.{form, form_all};
-ghost use Rattle.speller.specs.Ready.{IsReady, AreReady};
+//! Structures: nodes, relationships and paths, and what of them is looked for first.
+ghost use Rattle.std.specs.Prelude.{◌≡◌, ◌≤◌, true, OnOk};
+ghost use Rattle.packstream.specs.Prelude.{count, int};
+ghost use Rattle.cells.specs.Prelude.{shape, text_of, element_of, elements_of, node_shape, unbound_shape, relationship_shape, path_shape};
+ghost use Rattle.speller.specs.declared.scope.Scope.{Scope};
+ghost use Rattle.speller.specs.Adding.{Spells, SpellsAll, IsPassed, list_of};
 
-use crate::fault::Unspelled;
-use crate::inside::Inside;
-use crate::moments::put_ints;
+use crate::fault::{Spelled, Unspelled};
+use crate::moments::{put_ints, put_moment};
+use crate::scope::{Inside, Scope};
 use crate::spelling::put_entries;
-use crate::texts::{put_list_head, put_opening, put_text};
-use cells::{ElementIds, Node, Path, Relationship, UnboundRelationship, tags};
-use packstream::writing::{Output, put_int};
-use wire::Version;
+use crate::texts::{put_list_head, put_number, put_opening, put_string};
+use cells::{Cell, ElementIds, Node, Path, Relationship, UnboundRelationship, check_cell, tags};
+use packstream::writing::Output;
 
-/// Spells texts, one after the other.
-fn put_each_text(out: &mut Output, texts: &[String]) -> Result<(), Unspelled>
+/// Spells a list of texts.
+fn put_texts(out: &mut Output, scope: Scope, texts: &[String]) -> Spelled<()>
     ensures before { out.new.before ≡ out.old.before }
-    ensures spelled { OnOk result (out.new.more
-        ≡ out.old.more ++ canon_all (trees_of (map text_of texts.now))) }
+    ensures spelled { OnOk result (Spells scope (list_of text_of texts.now) out.old out.new) }
 {
+    put_list_head(out, scope, texts.len())?;
     for text in texts {
-        put_text(out, text.as_str())?;
+        put_string(out, text)?;
     }
     Ok(())
 }
 
-/// Spells a list of texts.
-#[tactic(auto, using(packstream::proofs::Putting::parts, crate::proofs::Pieces::len_texts))]
-fn put_texts(out: &mut Output, texts: &[String]) -> Result<(), Unspelled>
-    ensures before { out.new.before ≡ out.old.before }
-    ensures spelled { OnOk result (out.new.more ≡ out.old.more ++ canon (texts_of texts.now)) }
-{
-    put_list_head(out, texts.len())?;
-    put_each_text(out, texts)
-}
-
 /// Spells a list of integers.
-#[tactic(auto, using(packstream::proofs::Putting::parts, crate::proofs::Pieces::len_ints))]
-fn put_number_list(out: &mut Output, numbers: &[i64]) -> Result<(), Unspelled>
+fn put_number_list(out: &mut Output, scope: Scope, numbers: &[i64]) -> Spelled<()>
     ensures before { out.new.before ≡ out.old.before }
-    ensures spelled { OnOk result (out.new.more ≡ out.old.more ++ canon (numbers_of numbers.now)) }
-    ensures ready { OnOk result ((room : ℕ) → AreReady room (trees_of (map int numbers.now))) }
+    ensures spelled { OnOk result (Spells scope (list_of int numbers.now) out.old out.new) }
 {
-    put_list_head(out, numbers.len())?;
-    put_ints(out, numbers)?;
-    Ok(())
+    put_list_head(out, scope, numbers.len())?;
+    put_ints(out, numbers)
 }
 
 fn element_count(id: &Option<String>) -> u8
@@ -59,13 +45,13 @@ fn element_count(id: &Option<String>) -> u8
 }
 
 /// Spells the element id if it is there.
-fn put_element(out: &mut Output, id: &Option<String>) -> Result<(), Unspelled>
+fn put_element(out: &mut Output, id: &Option<String>) -> Spelled<()>
     ensures before { out.new.before ≡ out.old.before }
-    ensures spelled { OnOk result (out.new.more ≡ out.old.more ++ canon_all (element_of id.now)) }
+    ensures spelled { OnOk result ((s : Scope) → SpellsAll s (element_of id.now) out.old out.new) }
 {
     match id {
         None => Ok(()),
-        Some(id) => put_text(out, id.as_str()),
+        Some(id) => put_string(out, id),
     }
 }
 
@@ -80,160 +66,129 @@ fn elements_count(ids: &Option<ElementIds>) -> u8
 }
 
 /// Spells the element ids of a relationship and its ends if they are there.
-#[tactic(auto, using(packstream::proofs::Putting::parts))]
-fn put_elements(out: &mut Output, ids: &Option<ElementIds>) -> Result<(), Unspelled>
+fn put_elements(out: &mut Output, ids: &Option<ElementIds>) -> Spelled<()>
     ensures before { out.new.before ≡ out.old.before }
-    ensures spelled { OnOk result (out.new.more ≡ out.old.more ++ canon_all (elements_of ids.now)) }
+    ensures spelled { OnOk result ((s : Scope) → SpellsAll s (elements_of ids.now) out.old out.new) }
 {
     match ids {
         None => Ok(()),
         Some(ids) => {
-            put_text(out, ids.own.as_str())?;
-            put_text(out, ids.start.as_str())?;
-            put_text(out, ids.end.as_str())
+            put_string(out, &ids.own)?;
+            put_string(out, &ids.start)?;
+            put_string(out, &ids.end)
         }
+    }
+}
+
+/// Whether the structures of a cell have no fault at the version, looked at unless that is known.
+fn is_fine(scope: Scope, cell: &Cell) -> bool
+    ensures { result ≡ true → IsPassed scope (shape cell.now) }
+{
+    match scope.inside {
+        Inside::Fine => true,
+        Inside::Unchecked => check_cell(scope.version, cell, 0).is_ok(),
+    }
+}
+
+/// Spells a structure, whose faults and those of what it holds are looked for first and once.
+#[cycle(speller)]
+#[inline(never)]
+pub(crate) fn put_structure(out: &mut Output, mut scope: Scope, cell: &Cell) -> Spelled<()>
+    ensures before { out.new.before ≡ out.old.before }
+    ensures spelled { OnOk result (Spells scope (shape cell.now) out.old out.new) }
+    ensures fine { OnOk result (IsPassed scope (shape cell.now)) }
+{
+    if !is_fine(scope, cell) {
+        return Err(Unspelled);
+    }
+    scope.inside = Inside::Fine;
+    match cell {
+        Cell::Node(node) => put_node(out, scope, node),
+        Cell::Relationship(relationship) => put_relationship(out, scope, relationship),
+        Cell::UnboundRelationship(unbound) => put_unbound(out, scope, unbound),
+        Cell::Path(path) => put_path(out, scope, path),
+        _ => put_moment(out, scope, cell),
     }
 }
 
 /// Spells a node.
 #[cycle(speller)]
-pub(crate) fn put_node(
-    out: &mut Output,
-    version: Version,
-    node: &Node,
-    room: u8,
-) -> Result<(), Unspelled>
+fn put_node(out: &mut Output, scope: Scope, node: &Node) -> Spelled<()>
     ensures before { out.new.before ≡ out.old.before }
-    ensures spelled { OnOk result (out.new.more
-        ≡ out.old.more ++ canon (form version (node_shape node.now))) }
-    ensures ready { OnOk result (IsReady room (form version (node_shape node.now))) }
+    ensures spelled { OnOk result (Spells scope (node_shape node.now) out.old out.new) }
 {
-    if room < 2 {
-        return Err(Unspelled);
-    }
-    put_opening(out, 3 + element_count(&node.element_id), tags::NODE)?;
-    put_int(out, node.id)?;
-    put_texts(out, &node.labels)?;
-    put_entries(out, version, &node.properties, room - 1, Inside::Fine)?;
+    let fields = 3 + element_count(&node.element_id);
+    let inner = put_opening(out, scope, fields, tags::NODE)?;
+    put_number(out, node.id)?;
+    put_texts(out, inner, &node.labels)?;
+    put_entries(out, inner, &node.properties)?;
     put_element(out, &node.element_id)
 }
 
 /// Spells a relationship as a path has it.
 #[cycle(speller)]
-pub(crate) fn put_unbound(
-    out: &mut Output,
-    version: Version,
-    unbound: &UnboundRelationship,
-    room: u8,
-) -> Result<(), Unspelled>
+fn put_unbound(out: &mut Output, scope: Scope, unbound: &UnboundRelationship) -> Spelled<()>
     ensures before { out.new.before ≡ out.old.before }
-    ensures spelled { OnOk result (out.new.more
-        ≡ out.old.more ++ canon (form version (unbound_shape unbound.now))) }
-    ensures ready { OnOk result (IsReady room (form version (unbound_shape unbound.now))) }
+    ensures spelled { OnOk result (Spells scope (unbound_shape unbound.now) out.old out.new) }
 {
-    if room < 2 {
-        return Err(Unspelled);
-    }
-    put_opening(
-        out,
-        3 + element_count(&unbound.element_id),
-        tags::UNBOUND_RELATIONSHIP,
-    )?;
-    put_int(out, unbound.id)?;
-    put_text(out, unbound.kind.as_str())?;
-    put_entries(out, version, &unbound.properties, room - 1, Inside::Fine)?;
+    let fields = 3 + element_count(&unbound.element_id);
+    let inner = put_opening(out, scope, fields, tags::UNBOUND_RELATIONSHIP)?;
+    put_number(out, unbound.id)?;
+    put_string(out, &unbound.kind)?;
+    put_entries(out, inner, &unbound.properties)?;
     put_element(out, &unbound.element_id)
 }
 
 /// Spells a relationship.
 #[cycle(speller)]
-pub(crate) fn put_relationship(
-    out: &mut Output,
-    version: Version,
-    relationship: &Relationship,
-    room: u8,
-) -> Result<(), Unspelled>
+fn put_relationship(out: &mut Output, scope: Scope, relationship: &Relationship) -> Spelled<()>
     ensures before { out.new.before ≡ out.old.before }
-    ensures spelled { OnOk result (out.new.more
-        ≡ out.old.more ++ canon (form version (relationship_shape relationship.now))) }
-    ensures ready { OnOk result (IsReady room (form version (relationship_shape relationship.now))) }
+    ensures spelled { OnOk result (Spells scope (relationship_shape relationship.now) out.old out.new) }
 {
-    if room < 2 {
-        return Err(Unspelled);
-    }
-    let ends = [relationship.id, relationship.start, relationship.end];
-    put_opening(
-        out,
-        5 + elements_count(&relationship.element_ids),
-        tags::RELATIONSHIP,
-    )?;
-    put_ints(out, &ends)?;
-    put_text(out, relationship.kind.as_str())?;
-    put_entries(
-        out,
-        version,
-        &relationship.properties,
-        room - 1,
-        Inside::Fine,
-    )?;
+    let fields = 5 + elements_count(&relationship.element_ids);
+    let inner = put_opening(out, scope, fields, tags::RELATIONSHIP)?;
+    put_number(out, relationship.id)?;
+    put_number(out, relationship.start)?;
+    put_number(out, relationship.end)?;
+    put_string(out, &relationship.kind)?;
+    put_entries(out, inner, &relationship.properties)?;
     put_elements(out, &relationship.element_ids)
 }
 
 /// Spells a path.
 #[cycle(speller)]
-pub(crate) fn put_path(
-    out: &mut Output,
-    version: Version,
-    path: &Path,
-    room: u8,
-) -> Result<(), Unspelled>
+fn put_path(out: &mut Output, scope: Scope, path: &Path) -> Spelled<()>
     ensures before { out.new.before ≡ out.old.before }
-    ensures spelled { OnOk result (out.new.more
-        ≡ out.old.more ++ canon (form version (path_shape path.now))) }
-    ensures ready { OnOk result (IsReady room (form version (path_shape path.now))) }
+    ensures spelled { OnOk result (Spells scope (path_shape path.now) out.old out.new) }
 {
-    if room < 2 {
-        return Err(Unspelled);
-    }
-    put_opening(out, 3, tags::PATH)?;
-    put_nodes(out, version, &path.nodes, room - 2)?;
-    put_unbounds(out, version, &path.relationships, room - 2)?;
-    put_number_list(out, &path.indices)
+    let inner = put_opening(out, scope, 3, tags::PATH)?;
+    put_nodes(out, inner, &path.nodes)?;
+    put_unbounds(out, inner, &path.relationships)?;
+    put_number_list(out, inner, &path.indices)
 }
 
-/// Spells a list of nodes, each within the room.
+/// Spells a list of nodes.
 #[cycle(speller)]
-fn put_nodes(out: &mut Output, version: Version, nodes: &[Node], room: u8) -> Result<(), Unspelled>
+fn put_nodes(out: &mut Output, scope: Scope, nodes: &[Node]) -> Spelled<()>
     ensures before { out.new.before ≡ out.old.before }
-    ensures spelled { OnOk result (out.new.more
-        ≡ out.old.more ++ canon (form version (list (trees_of (map node_shape nodes.now))))) }
-    ensures ready { OnOk result (AreReady room
-        (form_all version (trees_of (map node_shape nodes.now)))) }
+    ensures spelled { OnOk result (Spells scope (list_of node_shape nodes.now) out.old out.new) }
 {
-    put_list_head(out, nodes.len())?;
+    let inner = put_list_head(out, scope, nodes.len())?;
     for node in nodes {
-        put_node(out, version, node, room)?;
+        put_node(out, inner, node)?;
     }
     Ok(())
 }
 
-/// Spells a list of relationships as a path has them, each within the room.
+/// Spells a list of relationships as a path has them.
 #[cycle(speller)]
-fn put_unbounds(
-    out: &mut Output,
-    version: Version,
-    unbounds: &[UnboundRelationship],
-    room: u8,
-) -> Result<(), Unspelled>
+fn put_unbounds(out: &mut Output, scope: Scope, unbounds: &[UnboundRelationship]) -> Spelled<()>
     ensures before { out.new.before ≡ out.old.before }
-    ensures spelled { OnOk result (out.new.more
-        ≡ out.old.more ++ canon (form version (list (trees_of (map unbound_shape unbounds.now))))) }
-    ensures ready { OnOk result (AreReady room
-        (form_all version (trees_of (map unbound_shape unbounds.now)))) }
+    ensures spelled { OnOk result (Spells scope (list_of unbound_shape unbounds.now) out.old out.new) }
 {
-    put_list_head(out, unbounds.len())?;
+    let inner = put_list_head(out, scope, unbounds.len())?;
     for unbound in unbounds {
-        put_unbound(out, version, unbound, room)?;
+        put_unbound(out, inner, unbound)?;
     }
     Ok(())
 }

@@ -6,8 +6,8 @@
 
 mod fault;
 mod graphs;
-mod inside;
 mod moments;
+mod scope;
 mod spelling;
 mod texts;
 mod whole;

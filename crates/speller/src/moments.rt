@@ -1,36 +1,31 @@
 //! Times, durations and points.
-ghost use Rattle.std.specs.Prelude.{◌≡◌, ◌≤◌, ◌++◌, ℕ, length, map, OnOk};
-ghost use Rattle.packstream.specs.Prelude.{canon, canon_all, int, float, structure, no_trees, tree_then, trees_of};
+ghost use Rattle.std.specs.Prelude.{◌≡◌, ◌≤◌, length, map, OnOk};
+ghost use Rattle.packstream.specs.Prelude.{int, float, structure, no_trees, tree_then, trees_of};
 ghost use Rattle.cells.specs.Prelude.{shape, text_of, date_time_tag};
-ghost use Rattle.structures.specs.Form.{form};
-ghost use Rattle.speller.specs.Ready.{IsReady, AreReady};
+ghost use Rattle.speller.specs.declared.scope.Scope.{Scope};
+ghost use Rattle.speller.specs.Adding.{AddsTree, Spells, SpellsEach};
 
-use crate::fault::Unspelled;
-use crate::texts::{put_opening, put_text};
+use crate::fault::{Spelled, Unspelled};
+use crate::scope::Scope;
+use crate::texts::{put_number, put_opening, put_string};
 use cells::{Cell, tags};
-use packstream::writing::{Output, put_float, put_int};
-use std::alloc::AllocError;
-use wire::Version;
+use packstream::writing::{Output, put_float};
 
 /// Spells integers, one after the other.
-pub(crate) fn put_ints(out: &mut Output, numbers: &[i64]) -> Result<(), AllocError>
+pub(crate) fn put_ints(out: &mut Output, numbers: &[i64]) -> Spelled<()>
     ensures before { out.new.before ≡ out.old.before }
-    ensures spelled { OnOk result (out.new.more
-        ≡ out.old.more ++ canon_all (trees_of (map int numbers.now))) }
-    ensures ready { OnOk result ((room : ℕ) → AreReady room (trees_of (map int numbers.now))) }
+    ensures spelled { OnOk result ((s : Scope) → SpellsEach s int numbers.now out.old out.new) }
 {
     for number in numbers {
-        put_int(out, *number)?;
+        put_number(out, *number)?;
     }
     Ok(())
 }
 
 /// Spells floats, one after the other.
-fn put_floats(out: &mut Output, floats: &[u64]) -> Result<(), AllocError>
+fn put_floats(out: &mut Output, floats: &[u64]) -> Spelled<()>
     ensures before { out.new.before ≡ out.old.before }
-    ensures spelled { OnOk result (out.new.more
-        ≡ out.old.more ++ canon_all (trees_of (map float floats.now))) }
-    ensures ready { OnOk result ((room : ℕ) → AreReady room (trees_of (map float floats.now))) }
+    ensures spelled { OnOk result ((s : Scope) → SpellsEach s float floats.now out.old out.new) }
 {
     for bits in floats {
         put_float(out, *bits)?;
@@ -39,129 +34,84 @@ fn put_floats(out: &mut Output, floats: &[u64]) -> Result<(), AllocError>
 }
 
 /// Spells a structure of integers.
-#[tactic(auto, using(packstream::proofs::Putting::parts, crate::proofs::Pieces::len_ints))]
-fn put_numbers(out: &mut Output, tag: u8, numbers: &[i64], room: u8) -> Result<(), Unspelled>
+fn put_numbers(out: &mut Output, scope: Scope, tag: u8, numbers: &[i64]) -> Spelled<()>
     requires { length numbers.now ≤ 15 }
     ensures before { out.new.before ≡ out.old.before }
-    ensures spelled { OnOk result (out.new.more
-        ≡ out.old.more ++ canon (structure tag (trees_of (map int numbers.now)))) }
-    ensures ready { OnOk result (IsReady room (structure tag (trees_of (map int numbers.now)))) }
+    ensures added { OnOk result (AddsTree scope (structure tag (trees_of (map int numbers.now))) out.old out.new) }
 {
-    if room == 0 {
-        return Err(Unspelled);
-    }
-    put_opening(out, numbers.len() as u8, tag)?;
-    put_ints(out, numbers)?;
-    Ok(())
+    put_opening(out, scope, numbers.len() as u8, tag)?;
+    put_ints(out, numbers)
 }
 
 /// Spells a structure of an integer and floats.
-#[tactic(auto, using(packstream::proofs::Putting::parts, crate::proofs::Pieces::len_floats))]
-fn put_point(
-    out: &mut Output,
-    tag: u8,
-    srid: i64,
-    floats: &[u64],
-    room: u8,
-) -> Result<(), Unspelled>
+fn put_point(out: &mut Output, scope: Scope, tag: u8, srid: i64, floats: &[u64]) -> Spelled<()>
     requires { length floats.now ≤ 14 }
     ensures before { out.new.before ≡ out.old.before }
-    ensures spelled { OnOk result (out.new.more
-        ≡ out.old.more ++ canon (structure tag (tree_then (int srid) (trees_of (map float floats.now))))) }
-    ensures ready { OnOk result (IsReady room
-        (structure tag (tree_then (int srid) (trees_of (map float floats.now))))) }
+    ensures added { OnOk result (AddsTree scope
+        (structure tag (tree_then (int srid) (trees_of (map float floats.now)))) out.old out.new) }
 {
-    if room == 0 {
-        return Err(Unspelled);
-    }
-    put_opening(out, 1 + floats.len() as u8, tag)?;
-    put_int(out, srid)?;
-    put_floats(out, floats)?;
-    Ok(())
+    put_opening(out, scope, 1 + floats.len() as u8, tag)?;
+    put_number(out, srid)?;
+    put_floats(out, floats)
 }
 
 /// Spells a structure of two integers and the name of a zone.
 fn put_zoned(
     out: &mut Output,
+    scope: Scope,
     tag: u8,
     seconds: i64,
     nanos: i64,
     zone: &String,
-    room: u8,
-) -> Result<(), Unspelled>
+) -> Spelled<()>
     ensures before { out.new.before ≡ out.old.before }
-    ensures spelled { OnOk result (out.new.more
-        ≡ out.old.more ++ canon (structure tag (tree_then (int seconds)
-        (tree_then (int nanos) (tree_then (text_of zone.now) no_trees))))) }
-    ensures ready { OnOk result (IsReady room (structure tag (tree_then (int seconds)
-        (tree_then (int nanos) (tree_then (text_of zone.now) no_trees))))) }
+    ensures added { OnOk result (AddsTree scope (structure tag (tree_then (int seconds)
+        (tree_then (int nanos) (tree_then (text_of zone.now) no_trees)))) out.old out.new) }
 {
-    if room == 0 {
-        return Err(Unspelled);
-    }
-    put_opening(out, 3, tag)?;
-    put_int(out, seconds)?;
-    put_int(out, nanos)?;
-    put_text(out, zone.as_str())
+    put_opening(out, scope, 3, tag)?;
+    put_number(out, seconds)?;
+    put_number(out, nanos)?;
+    put_string(out, zone)
 }
 
 /// Spells a DateTime, with local seconds if the version has no UTC times.
-fn put_date_time(
-    out: &mut Output,
-    version: Version,
-    utc: i64,
-    nanos: i64,
-    offset: i64,
-    room: u8,
-) -> Result<(), Unspelled>
+fn put_date_time(out: &mut Output, scope: Scope, utc: i64, nanos: i64, offset: i64) -> Spelled<()>
     ensures before { out.new.before ≡ out.old.before }
-    ensures spelled { OnOk result (out.new.more
-        ≡ out.old.more ++ canon (form version (structure date_time_tag
-        (tree_then (int utc) (tree_then (int nanos) (tree_then (int offset) no_trees)))))) }
-    ensures ready { OnOk result (IsReady room (form version (structure date_time_tag
-        (tree_then (int utc) (tree_then (int nanos) (tree_then (int offset) no_trees)))))) }
+    ensures spelled { OnOk result (Spells scope (structure date_time_tag (tree_then (int utc)
+        (tree_then (int nanos) (tree_then (int offset) no_trees)))) out.old out.new) }
 {
-    if version.has_utc_times() {
-        return put_numbers(out, tags::DATE_TIME, &[utc, nanos, offset], room);
+    if scope.version.has_utc_times() {
+        return put_numbers(out, scope, tags::DATE_TIME, &[utc, nanos, offset]);
     }
     let Some(local) = utc.checked_add(offset) else {
         return Err(Unspelled);
     };
-    put_numbers(out, tags::LEGACY_DATE_TIME, &[local, nanos, offset], room)
+    put_numbers(out, scope, tags::LEGACY_DATE_TIME, &[local, nanos, offset])
 }
 
 /// Spells a time, a duration or a point whose structure has no fault.
-pub(crate) fn put_moment(
-    out: &mut Output,
-    version: Version,
-    cell: &Cell,
-    room: u8,
-) -> Result<(), Unspelled>
+pub(crate) fn put_moment(out: &mut Output, scope: Scope, cell: &Cell) -> Spelled<()>
     ensures before { out.new.before ≡ out.old.before }
-    ensures spelled { OnOk result (out.new.more
-        ≡ out.old.more ++ canon (form version (shape cell.now))) }
-    ensures ready { OnOk result (IsReady room (form version (shape cell.now))) }
+    ensures spelled { OnOk result (Spells scope (shape cell.now) out.old out.new) }
 {
     match cell {
-        Cell::Date { days } => put_numbers(out, tags::DATE, &[*days], room),
-        Cell::Time { nanos, offset } => put_numbers(out, tags::TIME, &[*nanos, *offset], room),
-        Cell::LocalTime { nanos } => put_numbers(out, tags::LOCAL_TIME, &[*nanos], room),
+        Cell::Date { days } => put_numbers(out, scope, tags::DATE, &[*days]),
+        Cell::Time { nanos, offset } => put_numbers(out, scope, tags::TIME, &[*nanos, *offset]),
+        Cell::LocalTime { nanos } => put_numbers(out, scope, tags::LOCAL_TIME, &[*nanos]),
         Cell::LocalDateTime { seconds, nanos } => {
-            put_numbers(out, tags::LOCAL_DATE_TIME, &[*seconds, *nanos], room)
+            put_numbers(out, scope, tags::LOCAL_DATE_TIME, &[*seconds, *nanos])
         }
-        Cell::DateTime { utc, nanos, offset } => {
-            put_date_time(out, version, *utc, *nanos, *offset, room)
-        }
+        Cell::DateTime { utc, nanos, offset } => put_date_time(out, scope, *utc, *nanos, *offset),
         Cell::ZonedLocal {
             seconds,
             nanos,
             zone,
-        } => put_zoned(out, tags::LEGACY_ZONED, *seconds, *nanos, zone, room),
+        } => put_zoned(out, scope, tags::LEGACY_ZONED, *seconds, *nanos, zone),
         Cell::ZonedUtc {
             seconds,
             nanos,
             zone,
-        } => put_zoned(out, tags::ZONED, *seconds, *nanos, zone, room),
+        } => put_zoned(out, scope, tags::ZONED, *seconds, *nanos, zone),
         Cell::Duration {
             months,
             days,
@@ -169,13 +119,13 @@ pub(crate) fn put_moment(
             nanos,
         } => put_numbers(
             out,
+            scope,
             tags::DURATION,
             &[*months, *days, *seconds, *nanos],
-            room,
         ),
-        Cell::Point2D { srid, x, y } => put_point(out, tags::POINT_2D, *srid, &[*x, *y], room),
+        Cell::Point2D { srid, x, y } => put_point(out, scope, tags::POINT_2D, *srid, &[*x, *y]),
         Cell::Point3D { srid, x, y, z } => {
-            put_point(out, tags::POINT_3D, *srid, &[*x, *y, *z], room)
+            put_point(out, scope, tags::POINT_3D, *srid, &[*x, *y, *z])
         }
         _ => Err(Unspelled),
     }

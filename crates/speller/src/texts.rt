@@ -1,33 +1,39 @@
-//! Heads, texts and bytes.
-ghost use Rattle.std.specs.Prelude.{◌≡◌, ◌≤◌, ◌+◌, ◌∷◌, [], ◌++◌, length, OnOk};
-ghost use Rattle.packstream.specs.Prelude.{long_head, head, text_bytes, AreBytes};
+//! Heads, integers, texts and bytes.
+ghost use Rattle.std.specs.Prelude.{◌≡◌, ◌≤◌, ◌+◌, ◌∷◌, [], ◌++◌, length, string_bytes, FitsSigned, IfOk, OnOk};
+ghost use Rattle.std.specs.Int.{w64};
+ghost use Rattle.std.specs.Str.{IsUtf8};
+ghost use Rattle.packstream.specs.Prelude.{head, long_head, int_bytes, text_bytes, AreBytes};
+ghost use Rattle.speller.specs.Adding.{Adds, Opens};
 
-use crate::fault::Unspelled;
+use crate::fault::{Spelled, Unspelled};
+use crate::scope::Scope;
 use packstream::MAX_SIZE;
-use packstream::writing::{Output, put_head, put_short_bytes, put_short_text};
-use std::alloc::AllocError;
+use packstream::writing::{Output, put_head, put_int, put_short_bytes, put_short_text};
 
-/// Adds the marker and the tag that a structure of so many fields begins with.
+/// Adds the marker and the tag that a structure of so many fields begins with, and gives the scope of these.
 #[inline]
-pub(crate) fn put_opening(out: &mut Output, fields: u8, tag: u8) -> Result<(), AllocError>
+pub(crate) fn put_opening(out: &mut Output, scope: Scope, fields: u8, tag: u8) -> Spelled<Scope>
     requires { fields ≤ 15 }
     ensures before { out.new.before ≡ out.old.before }
-    ensures ok { OnOk result (out.new.more ≡ out.old.more ++ (0xB0 + fields) ∷ tag ∷ []) }
+    ensures opens { IfOk result (λ inner. Opens scope ((0xB0 + fields) ∷ tag ∷ []) inner out.old out.new) }
 {
-    out.extend_from_slice(&[0xB0 + fields, tag])
+    let inner = scope.inner()?;
+    out.extend_from_slice(&[0xB0 + fields, tag])?;
+    Ok(inner)
 }
 
-/// Adds the head of a list of so many members; or says no, to more than 65,536, or for want of memory.
+/// Adds the head of a list of so many members, and gives the scope of these; or says no, to more than 65,536, or for want of memory.
 #[inline]
-pub(crate) fn put_list_head(out: &mut Output, members: usize) -> Result<(), Unspelled>
+pub(crate) fn put_list_head(out: &mut Output, scope: Scope, members: usize) -> Spelled<Scope>
     ensures before { out.new.before ≡ out.old.before }
-    ensures ok { OnOk result (out.new.more ≡ out.old.more ++ head 0x90 0xD4 members) }
+    ensures opens { IfOk result (λ inner. Opens scope (head 0x90 0xD4 members) inner out.old out.new) }
 {
+    let inner = scope.inner()?;
     if members > MAX_SIZE {
         return Err(Unspelled);
     }
     put_head(out, 0x90, 0xD4, members as u32)?;
-    Ok(())
+    Ok(inner)
 }
 
 /// Adds the shortest spelling of a text; or says no, to one of more than 65,536 bytes, or for want of memory.
@@ -43,11 +49,30 @@ pub fn put_text(out: &mut Output, text: &str) -> Result<(), Unspelled>
     Ok(())
 }
 
-pub(crate) fn put_bytes(out: &mut Output, bytes: &[u8]) -> Result<(), Unspelled>
+/// Spells a text.
+#[inline]
+pub(crate) fn put_string(out: &mut Output, text: &String) -> Spelled<()>
     ensures before { out.new.before ≡ out.old.before }
-    ensures ok { OnOk result (out.new.more ≡ out.old.more
-        ++ (long_head 0xCC (length bytes.now) ++ bytes.now)) }
-    ensures plain { OnOk result (AreBytes bytes.now) }
+    ensures spelled { OnOk result (Adds (text_bytes (string_bytes text.now))
+        (IsUtf8 (string_bytes text.now)) out.old out.new) }
+{
+    put_text(out, text.as_str())
+}
+
+/// Spells an integer. It stands where it is asked for, so that no loop over integers has a call for each.
+#[inline(always)]
+pub(crate) fn put_number(out: &mut Output, n: i64) -> Spelled<()>
+    ensures before { out.new.before ≡ out.old.before }
+    ensures spelled { OnOk result (Adds (int_bytes n) (FitsSigned w64 n) out.old out.new) }
+{
+    Ok(put_int(out, n)?)
+}
+
+/// Spells bytes.
+pub(crate) fn put_bytes(out: &mut Output, bytes: &[u8]) -> Spelled<()>
+    ensures before { out.new.before ≡ out.old.before }
+    ensures spelled { OnOk result (Adds (long_head 0xCC (length bytes.now) ++ bytes.now)
+        (AreBytes bytes.now) out.old out.new) }
 {
     if bytes.len() > MAX_SIZE {
         return Err(Unspelled);

@@ -5,7 +5,7 @@ ghost use Rattle.cells.specs.Prelude.{shapes, entries, IsWritable};
 ghost use Rattle.structures.specs.Form.{form};
 
 use crate::fault::Unspelled;
-use crate::inside::Inside;
+use crate::scope::{Inside, Scope};
 use crate::spelling::{put_cells, put_entries};
 use cells::Cell;
 use packstream::writing::Output;
@@ -27,7 +27,12 @@ pub fn put_list(
     ensures deep { OnOk result (depth (form version (list (trees_of (shapes members.now)))) ≤ room) }
     ensures writable { OnOk result (IsWritable version (list (trees_of (shapes members.now)))) }
 {
-    put_cells(out, version, members, room, Inside::Unchecked)?;
+    let scope = Scope {
+        version,
+        room,
+        inside: Inside::Unchecked,
+    };
+    put_cells(out, scope, members)?;
     Ok(())
 }
 
@@ -46,6 +51,11 @@ pub fn put_dict(
     ensures deep { OnOk result (depth (form version (dict (entries_of (entries pairs.now)))) ≤ room) }
     ensures writable { OnOk result (IsWritable version (dict (entries_of (entries pairs.now)))) }
 {
-    put_entries(out, version, pairs, room, Inside::Unchecked)?;
+    let scope = Scope {
+        version,
+        room,
+        inside: Inside::Unchecked,
+    };
+    put_entries(out, scope, pairs)?;
     Ok(())
 }

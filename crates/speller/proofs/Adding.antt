@@ -1,0 +1,115 @@
+-- How what is added comes together: one after the other, in a loop, and behind the head of a list, a dictionary or a structure.
+use Rattle.std.proofs.Common.{◌≡◌, ℕ, suc, ◌+◌, ◌≤◌, ◌<◌, List, [], ◌∷◌, ◌++◌, length, map, drop, get_or, sym, ap, subst, ◌∙◌, refl, append_assoc, true, arith}
+use Rattle.std.proofs.lemmas.List.{append-nil, drop_more, drop_all}
+use Rattle.packstream.specs.Prelude.{Tree, float, Trees, no_trees, tree_then, Entries, no_entries, entry_then, structure, count, entry_count, AreNewKeys, head, canon_all, trees_of, entries_of}
+use Rattle.packstream.specs.Writing.{Grown}
+use Rattle.wire.specs.declared.Version.{Version}
+use Rattle.cells.specs.declared.cell.Cell.{Cell}
+use Rattle.cells.specs.Prelude.{entries, text_of, shape, shapes, structures, structures_in, structures_under, all_fine, fault_of_structure}
+use Rattle.cells.proofs.Both.{both_true}
+use Rattle.cells.proofs.Fine.{fine_append}
+use Rattle.structures.specs.Prelude.{form, form_all, form_under}
+use Rattle.speller.specs.declared.scope.Scope.{Scope}
+use Rattle.speller.specs.declared.scope.Inside.TheVariants.{Unchecked}
+use Rattle.speller.specs.Ready.{AreReady}
+use Rattle.speller.specs.Adding.{Adds, AddsTree, Spells, SpellsAll, SpellsEach, SpellsPairs, IsPassed, Opens, list_of, dict_of}
+use Rattle.speller.proofs.Flat.{Pair}
+
+pub none : {o : Grown} → Adds [] (Unit {0}) o o
+none {o} = record { added = sym (append-nil o.more); ready = tt }
+
+pub then : {a b : List ℕ} {P Q : Type 0} {o m n : Grown} → Adds a P o m → Adds b Q m n → Adds (a ++ b) (P × Q) o n
+then {a} {b} {P} {Q} {o} p q = record { added = q.added ∙ ap (λ (x : List ℕ). x ++ b) p.added ∙ append_assoc o.more a b; ready = (p.ready, q.ready) }
+
+-- ---- the loops
+
+-- with what is left from here on, all is added
+pub record Left {A : Type 0} (P : List A → Grown → Grown → Type 0) (xs : List A) (i : ℕ) (o n : Grown) : Type 0 where
+  pub rest : (e : Grown) → P (drop i xs) n e → P xs o e
+
+pub begun : {A : Type 0} {P : List A → Grown → Grown → Type 0} {xs : List A} {o : Grown} → Left P xs 0 o o
+begun = record { rest = λ e p. p }
+
+pub one_more : {A : Type 0} {P : List A → Grown → Grown → Type 0} {xs : List A} {i : ℕ} {o m n : Grown} {x : A} → Left P xs i o m → i < length xs → x ≡ get_or xs i x
+    → ((ys : List A) (e : Grown) → P ys n e → P (x ∷ ys) m e) → Left P xs (i + 1) o n
+one_more {A} {P} {xs} {i} {o} {m} {n} {x} left h is step = record {
+  rest = λ e q.
+      left.rest e (subst (λ (ys : List A). P ys m e) (sym (drop_more xs i x h ∙ ap (λ (y : A). y ∷ drop (i + 1) xs) (sym is))) (step (drop (i + 1) xs) e q));
+}
+
+pub all_of : {A : Type 0} {P : List A → Grown → Grown → Type 0} {xs : List A} {i : ℕ} {o n : Grown} → Left P xs i o n → length xs ≤ i → P [] n n → P xs o n
+all_of {A} {P} {xs} {i} {o} {n} left h p = left.rest n (subst (λ (ys : List A). P ys n n) (sym (drop_all i xs h)) p)
+
+-- members of a list, and entries, whose structures passed
+abbrev pub Members : Scope → List Cell → Grown → Grown → Type 0
+Members s xs o n = SpellsEach s shape xs o n × IsPassed s (list_of shape xs)
+
+abbrev pub Pairs : Scope → List Pair → Grown → Grown → Type 0
+Pairs s es o n = SpellsPairs s es o n × IsPassed s (dict_of es)
+
+pub passed_then : (s : Scope) (x y : List (ℕ × Trees)) → (s.inside ≡ Unchecked → all_fine (fault_of_structure s.version) x ≡ true)
+    → (s.inside ≡ Unchecked → all_fine (fault_of_structure s.version) y ≡ true) → s.inside ≡ Unchecked → all_fine (fault_of_structure s.version) (x ++ y) ≡ true
+passed_then s x y p q u = fine_append (fault_of_structure s.version) x y ∙ both_true _ _ (p u) (q u)
+
+pub one_member : {s : Scope} {xs : List Cell} {i : ℕ} {o m n : Grown} {x : Cell} → Left (Members s) xs i o m → i < length xs → x ≡ get_or xs i x
+    → Spells s (shape x) m n → IsPassed s (shape x) → Left (Members s) xs (i + 1) o n
+one_member {s} {x = x} left h is p f = one_more left h is (λ ys e q. (then p q.0, passed_then s (structures (shape x)) (structures_in (trees_of (shapes ys))) f q.1))
+
+pub one_pair : {s : Scope} {es : List Pair} {i : ℕ} {o k m n : Grown} {x : Pair} → Left (Pairs s) es i o k → i < length es → x ≡ get_or es i x
+    → Spells s (text_of x.0) k m → Spells s (shape x.1) m n → IsPassed s (shape x.1) → Left (Pairs s) es (i + 1) o n
+one_pair {s} {m = m} {x = x} left h is key p f = one_more left h is (λ ys e q.
+    let both = then key (then p q.0) in (record { added = both.added; ready = both.ready }, passed_then s (structures (shape x.1)) (structures_under (entries_of (entries ys))) f q.1))
+
+-- ---- behind a head
+
+count_form : (v : Version) (ts : Trees) → count (form_all v ts) ≡ count ts
+count_form v no_trees = refl
+count_form v (tree_then t ts) = ap suc (count_form v ts)
+
+entry_count_form : (v : Version) (es : Entries) → entry_count (form_under v es) ≡ entry_count es
+entry_count_form v no_entries = refl
+entry_count_form v (entry_then k t es) = ap suc (entry_count_form v es)
+
+-- the keys in the form of a version are those that stood there
+new_form : (v : Version) (before : List (List ℕ)) (es : Entries) → AreNewKeys before es → AreNewKeys before (form_under v es)
+new_form v before no_entries h = tt
+new_form v before (entry_then k t es) h = (h.0, new_form v (before ++ k ∷ []) es h.1)
+
+pub form_floats : (v : Version) (ns : List ℕ) → form_all v (trees_of (map float ns)) ≡ trees_of (map float ns)
+form_floats v [] = refl
+form_floats v (n ∷ ns) = ap (λ x. tree_then (float n) x) (form_floats v ns)
+
+pub count_each : {A : Type 0} (f : A → Tree) (xs : List A) → count (trees_of (map f xs)) ≡ length xs
+count_each f [] = refl
+count_each f (x ∷ xs) = ap suc (count_each f xs)
+
+count_pairs : (es : List Pair) → entry_count (entries_of (entries es)) ≡ length es
+count_pairs [] = refl
+count_pairs (e ∷ es) = ap suc (count_pairs es)
+
+head_then : {s i : Scope} {a b : List ℕ} {P : Type 0} {o m n : Grown} → Opens s a i o m → Adds b P m n → n.more ≡ o.more ++ (a ++ b)
+head_then {a = a} {b = b} {o = o} h q = q.added ∙ ap (λ (x : List ℕ). x ++ b) h.added ∙ append_assoc o.more a b
+
+pub list_put : {A : Type 0} (f : A → Tree) (xs : List A) {s i : Scope} {o m n : Grown} → Opens s (head 0x90 0xD4 (length xs)) i o m → SpellsEach i f xs m n → Spells s (list_of f xs) o n
+list_put f xs {s} h p =
+    let q = rw h.inner.is at p in
+    record { added = rw (count_form s.version (trees_of (map f xs)), count_each f xs) (head_then h q); ready = (omega (arith, h.inner.room), q.ready) }
+
+pub dict_put : (es : List Pair) {s i : Scope} {o m n : Grown} → Opens s (head 0xA0 0xD8 (length es)) i o m → AreNewKeys [] (entries_of (entries es)) → SpellsPairs i es m n → Spells s (dict_of es) o n
+dict_put es {s} h new p =
+    let q = rw h.inner.is at p in
+    record { added = rw (entry_count_form s.version (entries_of (entries es)), count_pairs es) (head_then h q); ready = (omega (arith, h.inner.room), new_form s.version [] (entries_of (entries es)) new, q.ready) }
+
+-- a structure as it stands
+pub structure_added : (ts : Trees) {s i : Scope} {tag k : ℕ} {o m n : Grown} → Opens s ((0xB0 + k) ∷ tag ∷ []) i o m → tag < 256 → k ≤ 15 → k ≡ count ts
+    → Adds (canon_all ts) (AreReady i.room ts) m n → AddsTree s (structure tag ts) o n
+structure_added ts h lt le c p =
+    let q = rw h.inner.is at p in
+    record { added = rw (← c) (head_then h q); ready = (omega (arith, h.inner.room), lt, rw (← c) le, q.ready) }
+
+-- one in the form of the version
+pub structure_put : (ts : Trees) {s i : Scope} {tag k : ℕ} {u : Tree} {o m n : Grown} → Opens s ((0xB0 + k) ∷ tag ∷ []) i o m → u ≡ structure tag ts
+    → form s.version (structure tag ts) ≡ structure tag (form_all s.version ts) → tag < 256 → k ≤ 15 → k ≡ count ts → SpellsAll i ts m n → Spells s u o n
+structure_put ts {s} {i} h e f lt le c p =
+    let same : i.version ≡ s.version = ap (λ (x : Scope). x.version) h.inner.is in
+    rw (e, f) (structure_added (form_all s.version ts) h lt le (c ∙ sym (count_form s.version ts)) (rw same at p))
