@@ -87,28 +87,28 @@ count_pairs : (es : List Pair) → entry_count (entries_of (entries es)) ≡ len
 count_pairs [] = refl
 count_pairs (e ∷ es) = ap suc (count_pairs es)
 
-head_then : {s i : Scope} {a b : List ℕ} {P : Type 0} {o m n : Grown} → Opens s a i o m → Adds b P m n → n.more ≡ o.more ++ (a ++ b)
+head_then : {s i : Scope} {a b : List ℕ} {P : Type 0} {o m n : Grown} → Opens s a o m i → Adds b P m n → n.more ≡ o.more ++ (a ++ b)
 head_then {a = a} {b = b} {o = o} h q = q.added ∙ ap (λ (x : List ℕ). x ++ b) h.added ∙ append_assoc o.more a b
 
-pub list_put : {A : Type 0} (f : A → Tree) (xs : List A) {s i : Scope} {o m n : Grown} → Opens s (head 0x90 0xD4 (length xs)) i o m → SpellsEach i f xs m n → Spells s (list_of f xs) o n
+pub list_put : {A : Type 0} (f : A → Tree) (xs : List A) {s i : Scope} {o m n : Grown} → Opens s (head 0x90 0xD4 (length xs)) o m i → SpellsEach i f xs m n → Spells s (list_of f xs) o n
 list_put f xs {s} h p =
     let q = rw h.inner.is at p in
     record { added = rw (count_form s.version (trees_of (map f xs)), count_each f xs) (head_then h q); ready = (omega (arith, h.inner.room), q.ready) }
 
-pub dict_put : (es : List Pair) {s i : Scope} {o m n : Grown} → Opens s (head 0xA0 0xD8 (length es)) i o m → AreNewKeys [] (entries_of (entries es)) → SpellsPairs i es m n → Spells s (dict_of es) o n
+pub dict_put : (es : List Pair) {s i : Scope} {o m n : Grown} → Opens s (head 0xA0 0xD8 (length es)) o m i → AreNewKeys [] (entries_of (entries es)) → SpellsPairs i es m n → Spells s (dict_of es) o n
 dict_put es {s} h new p =
     let q = rw h.inner.is at p in
     record { added = rw (entry_count_form s.version (entries_of (entries es)), count_pairs es) (head_then h q); ready = (omega (arith, h.inner.room), new_form s.version [] (entries_of (entries es)) new, q.ready) }
 
 -- a structure as it stands
-pub structure_added : (ts : Trees) {s i : Scope} {tag k : ℕ} {o m n : Grown} → Opens s ((0xB0 + k) ∷ tag ∷ []) i o m → tag < 256 → k ≤ 15 → k ≡ count ts
+pub structure_added : (ts : Trees) {s i : Scope} {tag k : ℕ} {o m n : Grown} → Opens s ((0xB0 + k) ∷ tag ∷ []) o m i → tag < 256 → k ≤ 15 → k ≡ count ts
     → Adds (canon_all ts) (AreReady i.room ts) m n → AddsTree s (structure tag ts) o n
 structure_added ts h lt le c p =
     let q = rw h.inner.is at p in
     record { added = rw (← c) (head_then h q); ready = (omega (arith, h.inner.room), lt, rw (← c) le, q.ready) }
 
 -- one in the form of the version
-pub structure_put : (ts : Trees) {s i : Scope} {tag k : ℕ} {u : Tree} {o m n : Grown} → Opens s ((0xB0 + k) ∷ tag ∷ []) i o m → u ≡ structure tag ts
+pub structure_put : (ts : Trees) {s i : Scope} {tag k : ℕ} {u : Tree} {o m n : Grown} → Opens s ((0xB0 + k) ∷ tag ∷ []) o m i → u ≡ structure tag ts
     → form s.version (structure tag ts) ≡ structure tag (form_all s.version ts) → tag < 256 → k ≤ 15 → k ≡ count ts → SpellsAll i ts m n → Spells s u o n
 structure_put ts {s} {i} h e f lt le c p =
     let same : i.version ≡ s.version = ap (λ (x : Scope). x.version) h.inner.is in

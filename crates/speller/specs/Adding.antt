@@ -1,5 +1,5 @@
 -- What is added to an output. Private functions and proofs alone need it.
-use Rattle.std.specs.Prelude.{◌≡◌, ◌+◌, ◌-◌, ◌++◌, ℕ, List, map, true, String}
+use Rattle.std.specs.Prelude.{◌≡◌, ◌+◌, ◌-◌, ◌++◌, ℕ, List, map, true, String, Result, OnOk}
 use Rattle.std.specs.declared.alloc.Global.{Global}
 use Rattle.packstream.specs.Prelude.{Tree, list, dict, Trees, canon, canon_all, canon_entries, trees_of, entries_of}
 use Rattle.packstream.specs.Writing.{Grown}
@@ -15,6 +15,11 @@ pub record Adds (bytes : List ℕ) (Ready : Type 0) (old new : Grown) : Type 0 w
   pub added : new.more ≡ old.more ++ bytes
   pub ready : Ready
 
+-- what was there before the mark stays, and this is added if the answer is yes
+pub record Puts {T E : Type 0} (Added : Grown → Grown → Type 0) (old new : Grown) (result : Result T E) : Type 0 where
+  pub before : new.before ≡ old.before
+  pub put : OnOk result (Added old new)
+
 -- a tree as it stands
 abbrev pub AddsTree : Scope → Tree → Grown → Grown → Type 0
 AddsTree s t = Adds (canon t) (IsReady s.room t)
@@ -26,6 +31,10 @@ Spells s t = AddsTree s (form s.version t)
 -- trees in that form, one after the other
 abbrev pub SpellsAll : Scope → Trees → Grown → Grown → Type 0
 SpellsAll s ts = Adds (canon_all (form_all s.version ts)) (AreReady s.room (form_all s.version ts))
+
+-- the same in whatever scope
+abbrev pub SpellsAnywhere : Trees → Grown → Grown → Type 0
+SpellsAnywhere ts old new = (s : Scope) → SpellsAll s ts old new
 
 -- what is each seen as a tree, in that form
 abbrev pub SpellsEach : {A : Type 0} → Scope → (A → Tree) → List A → Grown → Grown → Type 0
@@ -55,6 +64,6 @@ pub record IsInner (s i : Scope) : Type 0 where
   pub room : s.room ≡ i.room + 1
 
 -- these bytes are added in front of what is one level deeper
-pub record Opens (s : Scope) (bytes : List ℕ) (i : Scope) (old new : Grown) : Type 0 where
+pub record Opens (s : Scope) (bytes : List ℕ) (old new : Grown) (i : Scope) : Type 0 where
   pub inner : IsInner s i
   pub added : new.more ≡ old.more ++ bytes

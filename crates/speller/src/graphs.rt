@@ -2,8 +2,7 @@
 ghost use Rattle.std.specs.Prelude.{◌≡◌, ◌≤◌, true, OnOk};
 ghost use Rattle.packstream.specs.Prelude.{count, int};
 ghost use Rattle.cells.specs.Prelude.{shape, text_of, element_of, elements_of, node_shape, unbound_shape, relationship_shape, path_shape};
-ghost use Rattle.speller.specs.declared.scope.Scope.{Scope};
-ghost use Rattle.speller.specs.Adding.{Spells, SpellsAll, IsPassed, list_of};
+ghost use Rattle.speller.specs.Adding.{Spells, SpellsAnywhere, Puts, IsPassed, list_of};
 
 use crate::fault::{Spelled, Unspelled};
 use crate::moments::{put_ints, put_moment};
@@ -15,8 +14,7 @@ use packstream::writing::Output;
 
 /// Spells a list of texts.
 fn put_texts(out: &mut Output, scope: Scope, texts: &[String]) -> Spelled<()>
-    ensures before { out.new.before ≡ out.old.before }
-    ensures spelled { OnOk result (Spells scope (list_of text_of texts.now) out.old out.new) }
+    ensures { Puts (Spells scope (list_of text_of texts.now)) out.old out.new result }
 {
     put_list_head(out, scope, texts.len())?;
     for text in texts {
@@ -27,8 +25,7 @@ fn put_texts(out: &mut Output, scope: Scope, texts: &[String]) -> Spelled<()>
 
 /// Spells a list of integers.
 fn put_number_list(out: &mut Output, scope: Scope, numbers: &[i64]) -> Spelled<()>
-    ensures before { out.new.before ≡ out.old.before }
-    ensures spelled { OnOk result (Spells scope (list_of int numbers.now) out.old out.new) }
+    ensures { Puts (Spells scope (list_of int numbers.now)) out.old out.new result }
 {
     put_list_head(out, scope, numbers.len())?;
     put_ints(out, numbers)
@@ -46,8 +43,7 @@ fn element_count(id: &Option<String>) -> u8
 
 /// Spells the element id if it is there.
 fn put_element(out: &mut Output, id: &Option<String>) -> Spelled<()>
-    ensures before { out.new.before ≡ out.old.before }
-    ensures spelled { OnOk result ((s : Scope) → SpellsAll s (element_of id.now) out.old out.new) }
+    ensures { Puts (SpellsAnywhere (element_of id.now)) out.old out.new result }
 {
     match id {
         None => Ok(()),
@@ -67,8 +63,7 @@ fn elements_count(ids: &Option<ElementIds>) -> u8
 
 /// Spells the element ids of a relationship and its ends if they are there.
 fn put_elements(out: &mut Output, ids: &Option<ElementIds>) -> Spelled<()>
-    ensures before { out.new.before ≡ out.old.before }
-    ensures spelled { OnOk result ((s : Scope) → SpellsAll s (elements_of ids.now) out.old out.new) }
+    ensures { Puts (SpellsAnywhere (elements_of ids.now)) out.old out.new result }
 {
     match ids {
         None => Ok(()),
@@ -94,8 +89,7 @@ fn is_fine(scope: Scope, cell: &Cell) -> bool
 #[cycle(speller)]
 #[inline(never)]
 pub(crate) fn put_structure(out: &mut Output, mut scope: Scope, cell: &Cell) -> Spelled<()>
-    ensures before { out.new.before ≡ out.old.before }
-    ensures spelled { OnOk result (Spells scope (shape cell.now) out.old out.new) }
+    ensures spelled { Puts (Spells scope (shape cell.now)) out.old out.new result }
     ensures fine { OnOk result (IsPassed scope (shape cell.now)) }
 {
     if !is_fine(scope, cell) {
@@ -114,8 +108,7 @@ pub(crate) fn put_structure(out: &mut Output, mut scope: Scope, cell: &Cell) -> 
 /// Spells a node.
 #[cycle(speller)]
 fn put_node(out: &mut Output, scope: Scope, node: &Node) -> Spelled<()>
-    ensures before { out.new.before ≡ out.old.before }
-    ensures spelled { OnOk result (Spells scope (node_shape node.now) out.old out.new) }
+    ensures { Puts (Spells scope (node_shape node.now)) out.old out.new result }
 {
     let fields = 3 + element_count(&node.element_id);
     let inner = put_opening(out, scope, fields, tags::NODE)?;
@@ -128,8 +121,7 @@ fn put_node(out: &mut Output, scope: Scope, node: &Node) -> Spelled<()>
 /// Spells a relationship as a path has it.
 #[cycle(speller)]
 fn put_unbound(out: &mut Output, scope: Scope, unbound: &UnboundRelationship) -> Spelled<()>
-    ensures before { out.new.before ≡ out.old.before }
-    ensures spelled { OnOk result (Spells scope (unbound_shape unbound.now) out.old out.new) }
+    ensures { Puts (Spells scope (unbound_shape unbound.now)) out.old out.new result }
 {
     let fields = 3 + element_count(&unbound.element_id);
     let inner = put_opening(out, scope, fields, tags::UNBOUND_RELATIONSHIP)?;
@@ -142,8 +134,7 @@ fn put_unbound(out: &mut Output, scope: Scope, unbound: &UnboundRelationship) ->
 /// Spells a relationship.
 #[cycle(speller)]
 fn put_relationship(out: &mut Output, scope: Scope, relationship: &Relationship) -> Spelled<()>
-    ensures before { out.new.before ≡ out.old.before }
-    ensures spelled { OnOk result (Spells scope (relationship_shape relationship.now) out.old out.new) }
+    ensures { Puts (Spells scope (relationship_shape relationship.now)) out.old out.new result }
 {
     let fields = 5 + elements_count(&relationship.element_ids);
     let inner = put_opening(out, scope, fields, tags::RELATIONSHIP)?;
@@ -158,8 +149,7 @@ fn put_relationship(out: &mut Output, scope: Scope, relationship: &Relationship)
 /// Spells a path.
 #[cycle(speller)]
 fn put_path(out: &mut Output, scope: Scope, path: &Path) -> Spelled<()>
-    ensures before { out.new.before ≡ out.old.before }
-    ensures spelled { OnOk result (Spells scope (path_shape path.now) out.old out.new) }
+    ensures { Puts (Spells scope (path_shape path.now)) out.old out.new result }
 {
     let inner = put_opening(out, scope, 3, tags::PATH)?;
     put_nodes(out, inner, &path.nodes)?;
@@ -170,8 +160,7 @@ fn put_path(out: &mut Output, scope: Scope, path: &Path) -> Spelled<()>
 /// Spells a list of nodes.
 #[cycle(speller)]
 fn put_nodes(out: &mut Output, scope: Scope, nodes: &[Node]) -> Spelled<()>
-    ensures before { out.new.before ≡ out.old.before }
-    ensures spelled { OnOk result (Spells scope (list_of node_shape nodes.now) out.old out.new) }
+    ensures { Puts (Spells scope (list_of node_shape nodes.now)) out.old out.new result }
 {
     let inner = put_list_head(out, scope, nodes.len())?;
     for node in nodes {
@@ -183,8 +172,7 @@ fn put_nodes(out: &mut Output, scope: Scope, nodes: &[Node]) -> Spelled<()>
 /// Spells a list of relationships as a path has them.
 #[cycle(speller)]
 fn put_unbounds(out: &mut Output, scope: Scope, unbounds: &[UnboundRelationship]) -> Spelled<()>
-    ensures before { out.new.before ≡ out.old.before }
-    ensures spelled { OnOk result (Spells scope (list_of unbound_shape unbounds.now) out.old out.new) }
+    ensures { Puts (Spells scope (list_of unbound_shape unbounds.now)) out.old out.new result }
 {
     let inner = put_list_head(out, scope, unbounds.len())?;
     for unbound in unbounds {

@@ -1,9 +1,8 @@
 //! Times, durations and points.
-ghost use Rattle.std.specs.Prelude.{◌≡◌, ◌≤◌, length, map, OnOk};
+ghost use Rattle.std.specs.Prelude.{◌≤◌, length, map};
 ghost use Rattle.packstream.specs.Prelude.{int, float, structure, no_trees, tree_then, trees_of};
 ghost use Rattle.cells.specs.Prelude.{shape, text_of, date_time_tag};
-ghost use Rattle.speller.specs.declared.scope.Scope.{Scope};
-ghost use Rattle.speller.specs.Adding.{AddsTree, Spells, SpellsEach};
+ghost use Rattle.speller.specs.Adding.{AddsTree, Spells, SpellsAnywhere, Puts};
 
 use crate::fault::{Spelled, Unspelled};
 use crate::scope::Scope;
@@ -13,8 +12,7 @@ use packstream::writing::{Output, put_float};
 
 /// Spells integers, one after the other.
 pub(crate) fn put_ints(out: &mut Output, numbers: &[i64]) -> Spelled<()>
-    ensures before { out.new.before ≡ out.old.before }
-    ensures spelled { OnOk result ((s : Scope) → SpellsEach s int numbers.now out.old out.new) }
+    ensures { Puts (SpellsAnywhere (trees_of (map int numbers.now))) out.old out.new result }
 {
     for number in numbers {
         put_number(out, *number)?;
@@ -24,8 +22,7 @@ pub(crate) fn put_ints(out: &mut Output, numbers: &[i64]) -> Spelled<()>
 
 /// Spells floats, one after the other.
 fn put_floats(out: &mut Output, floats: &[u64]) -> Spelled<()>
-    ensures before { out.new.before ≡ out.old.before }
-    ensures spelled { OnOk result ((s : Scope) → SpellsEach s float floats.now out.old out.new) }
+    ensures { Puts (SpellsAnywhere (trees_of (map float floats.now))) out.old out.new result }
 {
     for bits in floats {
         put_float(out, *bits)?;
@@ -36,8 +33,8 @@ fn put_floats(out: &mut Output, floats: &[u64]) -> Spelled<()>
 /// Spells a structure of integers.
 fn put_numbers(out: &mut Output, scope: Scope, tag: u8, numbers: &[i64]) -> Spelled<()>
     requires { length numbers.now ≤ 15 }
-    ensures before { out.new.before ≡ out.old.before }
-    ensures added { OnOk result (AddsTree scope (structure tag (trees_of (map int numbers.now))) out.old out.new) }
+    ensures { Puts (AddsTree scope (structure tag (trees_of (map int numbers.now))))
+        out.old out.new result }
 {
     put_opening(out, scope, numbers.len() as u8, tag)?;
     put_ints(out, numbers)
@@ -46,9 +43,8 @@ fn put_numbers(out: &mut Output, scope: Scope, tag: u8, numbers: &[i64]) -> Spel
 /// Spells a structure of an integer and floats.
 fn put_point(out: &mut Output, scope: Scope, tag: u8, srid: i64, floats: &[u64]) -> Spelled<()>
     requires { length floats.now ≤ 14 }
-    ensures before { out.new.before ≡ out.old.before }
-    ensures added { OnOk result (AddsTree scope
-        (structure tag (tree_then (int srid) (trees_of (map float floats.now)))) out.old out.new) }
+    ensures { Puts (AddsTree scope (structure tag (tree_then (int srid)
+        (trees_of (map float floats.now))))) out.old out.new result }
 {
     put_opening(out, scope, 1 + floats.len() as u8, tag)?;
     put_number(out, srid)?;
@@ -64,9 +60,8 @@ fn put_zoned(
     nanos: i64,
     zone: &String,
 ) -> Spelled<()>
-    ensures before { out.new.before ≡ out.old.before }
-    ensures added { OnOk result (AddsTree scope (structure tag (tree_then (int seconds)
-        (tree_then (int nanos) (tree_then (text_of zone.now) no_trees)))) out.old out.new) }
+    ensures { Puts (AddsTree scope (structure tag (tree_then (int seconds)
+        (tree_then (int nanos) (tree_then (text_of zone.now) no_trees))))) out.old out.new result }
 {
     put_opening(out, scope, 3, tag)?;
     put_number(out, seconds)?;
@@ -76,9 +71,8 @@ fn put_zoned(
 
 /// Spells a DateTime, with local seconds if the version has no UTC times.
 fn put_date_time(out: &mut Output, scope: Scope, utc: i64, nanos: i64, offset: i64) -> Spelled<()>
-    ensures before { out.new.before ≡ out.old.before }
-    ensures spelled { OnOk result (Spells scope (structure date_time_tag (tree_then (int utc)
-        (tree_then (int nanos) (tree_then (int offset) no_trees)))) out.old out.new) }
+    ensures { Puts (Spells scope (structure date_time_tag (tree_then (int utc)
+        (tree_then (int nanos) (tree_then (int offset) no_trees))))) out.old out.new result }
 {
     if scope.version.has_utc_times() {
         return put_numbers(out, scope, tags::DATE_TIME, &[utc, nanos, offset]);
@@ -91,8 +85,7 @@ fn put_date_time(out: &mut Output, scope: Scope, utc: i64, nanos: i64, offset: i
 
 /// Spells a time, a duration or a point whose structure has no fault.
 pub(crate) fn put_moment(out: &mut Output, scope: Scope, cell: &Cell) -> Spelled<()>
-    ensures before { out.new.before ≡ out.old.before }
-    ensures spelled { OnOk result (Spells scope (shape cell.now) out.old out.new) }
+    ensures { Puts (Spells scope (shape cell.now)) out.old out.new result }
 {
     match cell {
         Cell::Date { days } => put_numbers(out, scope, tags::DATE, &[*days]),

@@ -26,7 +26,7 @@ impl Scope {
     /// The scope of what is one level deeper; or no, where there is no room for it.
     #[inline(always)]
     pub(crate) fn inner(mut self) -> Spelled<Scope>
-        ensures { IfOk result (λ inner. IsInner self inner) }
+        ensures { IfOk result (IsInner self) }
     {
         if self.room == 0 {
             return Err(Unspelled);

@@ -2,7 +2,7 @@
 ghost use Rattle.std.specs.Prelude.{◌≡◌, OnOk, true, []};
 ghost use Rattle.packstream.specs.Prelude.{AreNewKeys, entries_of};
 ghost use Rattle.cells.specs.Prelude.{shape, entries};
-ghost use Rattle.speller.specs.Adding.{Spells, IsPassed, list_of, dict_of};
+ghost use Rattle.speller.specs.Adding.{Spells, Puts, IsPassed, list_of, dict_of};
 
 use crate::fault::{Spelled, Unspelled};
 use crate::graphs::put_structure;
@@ -18,8 +18,7 @@ use std::alloc::Global;
 #[cycle(speller)]
 #[tactic(auto, using(crate::proofs::Flat::shape_of_dict))]
 fn put_cell(out: &mut Output, scope: Scope, cell: &Cell) -> Spelled<()>
-    ensures before { out.new.before ≡ out.old.before }
-    ensures spelled { OnOk result (Spells scope (shape cell.now) out.old out.new) }
+    ensures spelled { Puts (Spells scope (shape cell.now)) out.old out.new result }
     ensures fine { OnOk result (IsPassed scope (shape cell.now)) }
 {
     match cell {
@@ -39,8 +38,7 @@ fn put_cell(out: &mut Output, scope: Scope, cell: &Cell) -> Spelled<()>
 #[cycle(speller)]
 #[inline(always)]
 fn put_member(out: &mut Output, scope: Scope, member: &Cell) -> Spelled<()>
-    ensures before { out.new.before ≡ out.old.before }
-    ensures spelled { OnOk result (Spells scope (shape member.now) out.old out.new) }
+    ensures spelled { Puts (Spells scope (shape member.now)) out.old out.new result }
     ensures fine { OnOk result (IsPassed scope (shape member.now)) }
 {
     match member {
@@ -52,8 +50,7 @@ fn put_member(out: &mut Output, scope: Scope, member: &Cell) -> Spelled<()>
 /// Spells a list.
 #[cycle(speller)]
 pub(crate) fn put_cells(out: &mut Output, scope: Scope, members: &[Cell]) -> Spelled<()>
-    ensures before { out.new.before ≡ out.old.before }
-    ensures spelled { OnOk result (Spells scope (list_of shape members.now) out.old out.new) }
+    ensures spelled { Puts (Spells scope (list_of shape members.now)) out.old out.new result }
     ensures fine { OnOk result (IsPassed scope (list_of shape members.now)) }
 {
     let inner = put_list_head(out, scope, members.len())?;
@@ -66,8 +63,7 @@ pub(crate) fn put_cells(out: &mut Output, scope: Scope, members: &[Cell]) -> Spe
 /// Spells a dictionary.
 #[cycle(speller)]
 pub(crate) fn put_entries(out: &mut Output, scope: Scope, pairs: &[(String, Cell)]) -> Spelled<()>
-    ensures before { out.new.before ≡ out.old.before }
-    ensures spelled { OnOk result (Spells scope (dict_of pairs.now) out.old out.new) }
+    ensures spelled { Puts (Spells scope (dict_of pairs.now)) out.old out.new result }
     ensures fine { OnOk result (IsPassed scope (dict_of pairs.now)) }
 {
     let inner = scope.inner()?;

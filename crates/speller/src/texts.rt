@@ -3,7 +3,7 @@ ghost use Rattle.std.specs.Prelude.{◌≡◌, ◌≤◌, ◌+◌, ◌∷◌, []
 ghost use Rattle.std.specs.Int.{w64};
 ghost use Rattle.std.specs.Str.{IsUtf8};
 ghost use Rattle.packstream.specs.Prelude.{head, long_head, int_bytes, text_bytes, AreBytes};
-ghost use Rattle.speller.specs.Adding.{Adds, Opens};
+ghost use Rattle.speller.specs.Adding.{Adds, Puts, Opens};
 
 use crate::fault::{Spelled, Unspelled};
 use crate::scope::Scope;
@@ -15,7 +15,7 @@ use packstream::writing::{Output, put_head, put_int, put_short_bytes, put_short_
 pub(crate) fn put_opening(out: &mut Output, scope: Scope, fields: u8, tag: u8) -> Spelled<Scope>
     requires { fields ≤ 15 }
     ensures before { out.new.before ≡ out.old.before }
-    ensures opens { IfOk result (λ inner. Opens scope ((0xB0 + fields) ∷ tag ∷ []) inner out.old out.new) }
+    ensures opens { IfOk result (Opens scope ((0xB0 + fields) ∷ tag ∷ []) out.old out.new) }
 {
     let inner = scope.inner()?;
     out.extend_from_slice(&[0xB0 + fields, tag])?;
@@ -26,7 +26,7 @@ pub(crate) fn put_opening(out: &mut Output, scope: Scope, fields: u8, tag: u8) -
 #[inline]
 pub(crate) fn put_list_head(out: &mut Output, scope: Scope, members: usize) -> Spelled<Scope>
     ensures before { out.new.before ≡ out.old.before }
-    ensures opens { IfOk result (λ inner. Opens scope (head 0x90 0xD4 members) inner out.old out.new) }
+    ensures opens { IfOk result (Opens scope (head 0x90 0xD4 members) out.old out.new) }
 {
     let inner = scope.inner()?;
     if members > MAX_SIZE {
@@ -52,9 +52,8 @@ pub fn put_text(out: &mut Output, text: &str) -> Result<(), Unspelled>
 /// Spells a text.
 #[inline]
 pub(crate) fn put_string(out: &mut Output, text: &String) -> Spelled<()>
-    ensures before { out.new.before ≡ out.old.before }
-    ensures spelled { OnOk result (Adds (text_bytes (string_bytes text.now))
-        (IsUtf8 (string_bytes text.now)) out.old out.new) }
+    ensures { Puts (Adds (text_bytes (string_bytes text.now))
+        (IsUtf8 (string_bytes text.now))) out.old out.new result }
 {
     put_text(out, text.as_str())
 }
@@ -62,17 +61,16 @@ pub(crate) fn put_string(out: &mut Output, text: &String) -> Spelled<()>
 /// Spells an integer. It stands where it is asked for, so that no loop over integers has a call for each.
 #[inline(always)]
 pub(crate) fn put_number(out: &mut Output, n: i64) -> Spelled<()>
-    ensures before { out.new.before ≡ out.old.before }
-    ensures spelled { OnOk result (Adds (int_bytes n) (FitsSigned w64 n) out.old out.new) }
+    ensures { Puts (Adds (int_bytes n) (FitsSigned w64 n)) out.old out.new result }
 {
     Ok(put_int(out, n)?)
 }
 
 /// Spells bytes.
+#[tactic(auto, using(packstream::proofs::Ranges::bytes_from_each))]
 pub(crate) fn put_bytes(out: &mut Output, bytes: &[u8]) -> Spelled<()>
-    ensures before { out.new.before ≡ out.old.before }
-    ensures spelled { OnOk result (Adds (long_head 0xCC (length bytes.now) ++ bytes.now)
-        (AreBytes bytes.now) out.old out.new) }
+    ensures { Puts (Adds (long_head 0xCC (length bytes.now) ++ bytes.now)
+        (AreBytes bytes.now)) out.old out.new result }
 {
     if bytes.len() > MAX_SIZE {
         return Err(Unspelled);

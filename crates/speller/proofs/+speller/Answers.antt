@@ -9,68 +9,80 @@ use Rattle.speller.proofs.+speller.Goals as goal
 
 pub spelling::put_cells-loop-member-preserved : goal.spelling::put_cells-loop-member-preserved
 spelling::put_cells-loop-member-preserved t c =
-    (c.put_member.ensures.before ∙ c.loop-member.invariant.0, one_member c.loop-member.invariant.1 c.loop-member-test.true c.member-item.is c.in_ok-put_member.ensures.spelled c.in_ok-put_member.ensures.fine)
+    (c.put_member.ensures.spelled.before ∙ c.loop-member.invariant.0, one_member c.loop-member.invariant.1 c.loop-member-test.true c.member-item.is c.in_ok-put_member.ensures.spelled.put c.in_ok-put_member.ensures.fine)
 
 pub spelling::put_cells-returns : goal.spelling::put_cells-returns
 spelling::put_cells-returns t c =
     let all = all_of c.loop-member.invariant.1 (omega (arith, c.loop-member-test.false)) (none, λ u. refl) in
-    record { before = search rules; spelled = list_put shape c.args.members.now c.in_ok-inner.ensures.opens all.0; fine = rw c.in_ok-inner.ensures.opens.inner.is at all.1 }
+    record { spelled = record { before = search rules; put = list_put shape c.args.members.now c.in_ok-inner.ensures.opens all.0 }; fine = rw c.in_ok-inner.ensures.opens.inner.is at all.1 }
 
 pub spelling::put_entries-loop-pair-preserved : goal.spelling::put_entries-loop-pair-preserved
 spelling::put_entries-loop-pair-preserved t c =
-    (c.put_cell.ensures.before ∙ c.put_string.ensures.before ∙ c.loop-pair.invariant.0, one_pair c.loop-pair.invariant.1 c.loop-pair-test.true c.pair-item.is c.in_ok-put_string.ensures.spelled c.in_ok-put_cell.ensures.spelled c.in_ok-put_cell.ensures.fine)
+    (c.put_cell.ensures.spelled.before ∙ c.put_string.ensures.before ∙ c.loop-pair.invariant.0, one_pair c.loop-pair.invariant.1 c.loop-pair-test.true c.pair-item.is c.in_ok-put_string.ensures.put c.in_ok-put_cell.ensures.spelled.put c.in_ok-put_cell.ensures.fine)
 
 pub spelling::put_entries-returns : goal.spelling::put_entries-returns
 spelling::put_entries-returns t c =
     let yes : c.are_new.result ≡ true = search rules in
-    let h : Opens c.args.scope (head 0xA0 0xD8 (length c.args.pairs.now)) c.in_ok-inner.inner c.args.out.now c.put_head.new.out = record { inner = c.in_ok-inner.ensures; added = c.in_ok-put_head.ensures.ok } in
+    let h : Opens c.args.scope (head 0xA0 0xD8 (length c.args.pairs.now)) c.args.out.now c.put_head.new.out c.in_ok-inner.inner = record { inner = c.in_ok-inner.ensures; added = c.in_ok-put_head.ensures.ok } in
     let all = all_of c.loop-pair.invariant.1 (omega (arith, c.loop-pair-test.false)) (none, λ u. refl) in
-    record { before = search rules; spelled = dict_put c.args.pairs.now h (c.are_new.ensures yes) all.0; fine = rw c.in_ok-inner.ensures.is at all.1 }
+    record { spelled = record { before = search rules; put = dict_put c.args.pairs.now h (c.are_new.ensures yes) all.0 }; fine = rw c.in_ok-inner.ensures.is at all.1 }
 
 pub graphs::put_nodes-loop-node-preserved : goal.graphs::put_nodes-loop-node-preserved
 graphs::put_nodes-loop-node-preserved t c =
-    (c.put_node.ensures.before ∙ c.loop-node.invariant.0, one_more c.loop-node.invariant.1 c.loop-node-test.true c.node-item.is (λ ys e q. then c.in_ok-put_node.ensures.spelled q))
+    (c.put_node.ensures.before ∙ c.loop-node.invariant.0, one_more c.loop-node.invariant.1 c.loop-node-test.true c.node-item.is (λ ys e q. then c.in_ok-put_node.ensures.put q))
 
-pub graphs::put_nodes-returns-clause-spelled : goal.graphs::put_nodes-returns-clause-spelled
-graphs::put_nodes-returns-clause-spelled t c =
-    list_put node_shape c.args.nodes.now c.in_ok-inner.ensures.opens (all_of c.loop-node.invariant.1 (omega (arith, c.loop-node-test.false)) none)
+pub graphs::put_nodes-returns : goal.graphs::put_nodes-returns
+graphs::put_nodes-returns t c =
+    record { before = search rules; put = list_put node_shape c.args.nodes.now c.in_ok-inner.ensures.opens (all_of c.loop-node.invariant.1 (omega (arith, c.loop-node-test.false)) none) }
 
 pub graphs::put_unbounds-loop-unbound-preserved : goal.graphs::put_unbounds-loop-unbound-preserved
 graphs::put_unbounds-loop-unbound-preserved t c =
-    (c.put_unbound.ensures.before ∙ c.loop-unbound.invariant.0, one_more c.loop-unbound.invariant.1 c.loop-unbound-test.true c.unbound-item.is (λ ys e q. then c.in_ok-put_unbound.ensures.spelled q))
+    (c.put_unbound.ensures.before ∙ c.loop-unbound.invariant.0, one_more c.loop-unbound.invariant.1 c.loop-unbound-test.true c.unbound-item.is (λ ys e q. then c.in_ok-put_unbound.ensures.put q))
 
-pub graphs::put_unbounds-returns-clause-spelled : goal.graphs::put_unbounds-returns-clause-spelled
-graphs::put_unbounds-returns-clause-spelled t c =
-    list_put unbound_shape c.args.unbounds.now c.in_ok-inner.ensures.opens (all_of c.loop-unbound.invariant.1 (omega (arith, c.loop-unbound-test.false)) none)
+pub graphs::put_unbounds-returns : goal.graphs::put_unbounds-returns
+graphs::put_unbounds-returns t c =
+    record { before = search rules; put = list_put unbound_shape c.args.unbounds.now c.in_ok-inner.ensures.opens (all_of c.loop-unbound.invariant.1 (omega (arith, c.loop-unbound-test.false)) none) }
 
-pub graphs::put_node-returns-clause-spelled : goal.graphs::put_node-returns-clause-spelled
-graphs::put_node-returns-clause-spelled t c =
+pub graphs::put_node-returns : goal.graphs::put_node-returns
+graphs::put_node-returns t c =
     let n = c.args.node.now in
     let i = c.in_ok-inner.inner in
     let id : to_z w64 (of_z w64 n.id) ≡ n.id = search rules in
-    on_ok_weaker c.put_element.result (λ p. structure_put _ c.in_ok-inner.ensures.opens (node-out n) refl (lit< tt) (omega arith) (omega arith)
-    (then (rw id at c.in_ok-put_number.ensures.spelled) (then (rw c.deref.ensures.value at c.in_ok-put_texts.ensures.spelled) (then (rw c.deref-2.ensures.value at c.in_ok-put_entries.ensures.spelled) (p i))))) c.put_element.ensures.spelled
+    record {
+      before = search rules;
+      put = on_ok_weaker c.put_element.result (λ p. structure_put _ c.in_ok-inner.ensures.opens (node-out n) refl (lit< tt) (omega arith) (omega arith)
+          (then (rw id at c.in_ok-put_number.ensures.put) (then (rw c.deref.ensures.value at c.in_ok-put_texts.ensures.put) (then (rw c.deref-2.ensures.value at c.in_ok-put_entries.ensures.spelled.put) (p i))))) c.put_element.ensures.put;
+    }
 
-pub graphs::put_unbound-returns-clause-spelled : goal.graphs::put_unbound-returns-clause-spelled
-graphs::put_unbound-returns-clause-spelled t c =
+pub graphs::put_unbound-returns : goal.graphs::put_unbound-returns
+graphs::put_unbound-returns t c =
     let n = c.args.unbound.now in
     let i = c.in_ok-inner.inner in
     let id : to_z w64 (of_z w64 n.id) ≡ n.id = search rules in
-    on_ok_weaker c.put_element.result (λ p. structure_put _ c.in_ok-inner.ensures.opens (unbound-out n) refl (lit< tt) (omega arith) (omega arith)
-    (then (rw id at c.in_ok-put_number.ensures.spelled) (then c.in_ok-put_string.ensures.spelled (then (rw c.deref.ensures.value at c.in_ok-put_entries.ensures.spelled) (p i))))) c.put_element.ensures.spelled
+    record {
+      before = search rules;
+      put = on_ok_weaker c.put_element.result (λ p. structure_put _ c.in_ok-inner.ensures.opens (unbound-out n) refl (lit< tt) (omega arith) (omega arith)
+          (then (rw id at c.in_ok-put_number.ensures.put) (then c.in_ok-put_string.ensures.put (then (rw c.deref.ensures.value at c.in_ok-put_entries.ensures.spelled.put) (p i))))) c.put_element.ensures.put;
+    }
 
-pub graphs::put_relationship-returns-clause-spelled : goal.graphs::put_relationship-returns-clause-spelled
-graphs::put_relationship-returns-clause-spelled t c =
+pub graphs::put_relationship-returns : goal.graphs::put_relationship-returns
+graphs::put_relationship-returns t c =
     let n = c.args.relationship.now in
     let i = c.in_ok-inner.inner in
     let id : to_z w64 (of_z w64 n.id) ≡ n.id = search rules in
     let start : to_z w64 (of_z w64 n.start) ≡ n.start = search rules in
     let end : to_z w64 (of_z w64 n.end) ≡ n.end = search rules in
-    on_ok_weaker c.put_elements.result (λ p. structure_put _ c.in_ok-inner.ensures.opens (relationship-out n) refl (lit< tt) (omega arith) (omega arith)
-    (then (rw id at c.in_ok-put_number.ensures.spelled) (then (rw start at c.in_ok-put_number-2.ensures.spelled) (then (rw end at c.in_ok-put_number-3.ensures.spelled)
-    (then c.in_ok-put_string.ensures.spelled (then (rw c.deref.ensures.value at c.in_ok-put_entries.ensures.spelled) (p i))))))) c.put_elements.ensures.spelled
+    record {
+      before = search rules;
+      put = on_ok_weaker c.put_elements.result (λ p. structure_put _ c.in_ok-inner.ensures.opens (relationship-out n) refl (lit< tt) (omega arith) (omega arith)
+          (then (rw id at c.in_ok-put_number.ensures.put) (then (rw start at c.in_ok-put_number-2.ensures.put) (then (rw end at c.in_ok-put_number-3.ensures.put)
+          (then c.in_ok-put_string.ensures.put (then (rw c.deref.ensures.value at c.in_ok-put_entries.ensures.spelled.put) (p i))))))) c.put_elements.ensures.put;
+    }
 
-pub graphs::put_path-returns-clause-spelled : goal.graphs::put_path-returns-clause-spelled
-graphs::put_path-returns-clause-spelled t c =
-    on_ok_weaker c.put_number_list.result (λ p. structure_put _ c.in_ok-inner.ensures.opens (path-out c.args.path.now) refl (lit< tt) (omega arith) refl
-    (then (rw c.deref.ensures.value at c.in_ok-put_nodes.ensures.spelled) (then (rw c.deref-2.ensures.value at c.in_ok-put_unbounds.ensures.spelled) (then (rw c.deref-3.ensures.value at p) none)))) c.put_number_list.ensures.spelled
+pub graphs::put_path-returns : goal.graphs::put_path-returns
+graphs::put_path-returns t c =
+    record {
+      before = search rules;
+      put = on_ok_weaker c.put_number_list.result (λ p. structure_put _ c.in_ok-inner.ensures.opens (path-out c.args.path.now) refl (lit< tt) (omega arith) refl
+          (then (rw c.deref.ensures.value at c.in_ok-put_nodes.ensures.put) (then (rw c.deref-2.ensures.value at c.in_ok-put_unbounds.ensures.put) (then (rw c.deref-3.ensures.value at p) none)))) c.put_number_list.ensures.put;
+    }

@@ -1,4 +1,4 @@
-use Rattle.std.proofs.Common.{◌∙◌, ℕ, get_or, arith}
+use Rattle.std.proofs.Common.{rules, ◌∙◌, ℕ, get_or, arith}
 use Rattle.std.proofs.lemmas.List.{get_or_default}
 use Rattle.speller.proofs.Adding.{none, then, one_more, all_of}
 use Rattle.speller.proofs.moments.put_floats.Goals as goal
@@ -12,5 +12,5 @@ loop-bits-preserved c =
           (λ ys e q. then (record { added = c.in_ok-put_float.ensures.ok; ready = omega (arith, c.type_inv.floats i) }) q),
     )
 
-pub returns-clause-spelled : goal.returns-clause-spelled
-returns-clause-spelled c = λ s. all_of (c.loop-bits.invariant.1 s) (omega (arith, c.loop-bits-test.false)) none
+pub returns : goal.returns
+returns c = record { before = search rules; put = λ s. all_of (c.loop-bits.invariant.1 s) (omega (arith, c.loop-bits-test.false)) none }

@@ -8,7 +8,7 @@ use Rattle.speller.proofs.whole.put_list.Goals as goal
 
 pub returns : goal.returns
 returns c =
-    let p = c.in_ok-put_cells.ensures.spelled in
+    let p = c.in_ok-put_cells.ensures.spelled.put in
     let u = list_of shape c.args.members.now in
     let t = form c.args.version u in
-    record { before = c.put_cells.ensures.before; spelled = p.added; good = good_by t c.args.room c.requires p.ready; deep = (sure t c.args.room p.ready).0; writable = scan_fine (fault_of_structure c.args.version) 0 (structures u) (c.in_ok-put_cells.ensures.fine refl) }
+    record { before = c.put_cells.ensures.spelled.before; spelled = p.added; good = good_by t c.args.room c.requires p.ready; deep = (sure t c.args.room p.ready).0; writable = scan_fine (fault_of_structure c.args.version) 0 (structures u) (c.in_ok-put_cells.ensures.fine refl) }
