@@ -27,9 +27,6 @@ then {a} {b} {P} {Q} {o} p q = record { added = q.added ∙ ap (λ (x : List ℕ
 pub record Left {A : Type 0} (P : List A → Grown → Grown → Type 0) (xs : List A) (i : ℕ) (o n : Grown) : Type 0 where
   pub rest : (e : Grown) → P (drop i xs) n e → P xs o e
 
-pub begun : {A : Type 0} {P : List A → Grown → Grown → Type 0} {xs : List A} {o : Grown} → Left P xs 0 o o
-begun = record { rest = λ e p. p }
-
 pub one_more : {A : Type 0} {P : List A → Grown → Grown → Type 0} {xs : List A} {i : ℕ} {o m n : Grown} {x : A} → Left P xs i o m → i < length xs → x ≡ get_or xs i x
     → ((ys : List A) (e : Grown) → P ys n e → P (x ∷ ys) m e) → Left P xs (i + 1) o n
 one_more {A} {P} {xs} {i} {o} {m} {n} {x} left h is step = record {

@@ -42,6 +42,7 @@ fn element_count(id: &Option<String>) -> u8
 }
 
 /// Spells the element id if it is there.
+#[tactic(auto, using(crate::proofs::Adding::none, crate::proofs::Adding::then))]
 fn put_element(out: &mut Output, id: &Option<String>) -> Spelled<()>
     ensures { Puts (SpellsAnywhere (element_of id.now)) out.old out.new result }
 {
@@ -62,6 +63,7 @@ fn elements_count(ids: &Option<ElementIds>) -> u8
 }
 
 /// Spells the element ids of a relationship and its ends if they are there.
+#[tactic(auto, using(crate::proofs::Adding::none, crate::proofs::Adding::then))]
 fn put_elements(out: &mut Output, ids: &Option<ElementIds>) -> Spelled<()>
     ensures { Puts (SpellsAnywhere (elements_of ids.now)) out.old out.new result }
 {

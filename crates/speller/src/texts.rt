@@ -50,6 +50,7 @@ pub fn put_text(out: &mut Output, text: &str) -> Result<(), Unspelled>
 }
 
 /// Spells a text.
+#[tactic(auto, using(crate::proofs::Flat::texts))]
 #[inline]
 pub(crate) fn put_string(out: &mut Output, text: &String) -> Spelled<()>
     ensures { Puts (Adds (text_bytes (string_bytes text.now))
