@@ -1,6 +1,7 @@
 -- How what is added comes together: one after the other, in a loop, and behind the head of a list, a dictionary or a structure.
-use Rattle.std.proofs.Common.{◌≡◌, ℕ, suc, ◌+◌, ◌≤◌, ◌<◌, List, [], ◌∷◌, ◌++◌, length, map, drop, get_or, sym, ap, subst, ◌∙◌, refl, append_assoc, true, arith}
+use Rattle.std.proofs.Common.{◌≡◌, ℕ, suc, ◌+◌, ◌≤◌, ◌<◌, List, [], ◌∷◌, ◌++◌, length, map, drop, get_or, sym, ap, subst, ◌∙◌, refl, append_assoc, true, Result, arith}
 use Rattle.std.proofs.lemmas.List.{append-nil, drop_more, drop_all}
+use Rattle.std.proofs.lemmas.Result.{on_ok_weaker}
 use Rattle.packstream.specs.Prelude.{Tree, float, Trees, no_trees, tree_then, Entries, no_entries, entry_then, structure, count, entry_count, AreNewKeys, head, canon_all, trees_of, entries_of}
 use Rattle.packstream.specs.Writing.{Grown}
 use Rattle.wire.specs.declared.Version.{Version}
@@ -12,7 +13,7 @@ use Rattle.structures.specs.Prelude.{form, form_all, form_under}
 use Rattle.speller.specs.declared.scope.Scope.{Scope}
 use Rattle.speller.specs.declared.scope.Inside.TheVariants.{Unchecked}
 use Rattle.speller.specs.Ready.{AreReady}
-use Rattle.speller.specs.Adding.{Adds, AddsTree, Spells, SpellsAll, SpellsEach, SpellsPairs, IsPassed, Opens, list_of, dict_of}
+use Rattle.speller.specs.Adding.{Adds, AddsTree, Spells, SpellsAll, SpellsEach, SpellsPairs, Puts, IsPassed, Opens, list_of, dict_of}
 use Rattle.speller.proofs.Flat.{Pair}
 
 pub none : {o : Grown} → Adds [] (Unit {0}) o o
@@ -20,6 +21,10 @@ none {o} = record { added = sym (append-nil o.more); ready = tt }
 
 pub then : {a b : List ℕ} {P Q : Type 0} {o m n : Grown} → Adds a P o m → Adds b Q m n → Adds (a ++ b) (P × Q) o n
 then {a} {b} {P} {Q} {o} p q = record { added = q.added ∙ ap (λ (x : List ℕ). x ++ b) p.added ∙ append_assoc o.more a b; ready = (p.ready, q.ready) }
+
+-- what a last call puts, seen with what was put before it
+pub last : {T E : Type 0} {P Q : Grown → Grown → Type 0} {o m n : Grown} {r : Result T E} → Puts P m n r → m.before ≡ o.before → (P m n → Q o n) → Puts Q o n r
+last {r = r} p b f = record { before = p.before ∙ b; put = on_ok_weaker r f p.put }
 
 -- ---- the loops
 

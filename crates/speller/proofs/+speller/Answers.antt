@@ -1,10 +1,9 @@
 use Rattle.std.proofs.Common.{◌≡◌, ◌∙◌, true, w64, to_z, of_z, refl, length, rules, arith, lit<}
-use Rattle.std.proofs.lemmas.Result.{on_ok_weaker}
 use Rattle.packstream.specs.Prelude.{head}
 use Rattle.cells.specs.Prelude.{shape, node_shape, unbound_shape}
 use Rattle.cells.proofs.Views.{node-out, unbound-out, relationship-out, path-out}
 use Rattle.speller.specs.Adding.{Opens}
-use Rattle.speller.proofs.Adding.{none, then, one_more, one_member, one_pair, all_of, list_put, dict_put, structure_put}
+use Rattle.speller.proofs.Adding.{last, none, then, one_more, one_member, one_pair, all_of, list_put, dict_put, structure_put}
 use Rattle.speller.proofs.+speller.Goals as goal
 
 pub spelling::put_cells-loop-member-preserved : goal.spelling::put_cells-loop-member-preserved
@@ -48,22 +47,16 @@ graphs::put_node-returns t c =
     let n = c.args.node.now in
     let i = c.in_ok-inner.inner in
     let id : to_z w64 (of_z w64 n.id) ≡ n.id = search rules in
-    record {
-      before = search rules;
-      put = on_ok_weaker c.put_element.result (λ p. structure_put _ c.in_ok-inner.ensures.opens (node-out n) refl (lit< tt) (omega arith) (omega arith)
-          (then (rw id at c.in_ok-put_number.ensures.put) (then (rw c.deref.ensures.value at c.in_ok-put_texts.ensures.put) (then (rw c.deref-2.ensures.value at c.in_ok-put_entries.ensures.spelled.put) (p i))))) c.put_element.ensures.put;
-    }
+    last c.put_element.ensures (search rules) (λ p. structure_put _ c.in_ok-inner.ensures.opens (node-out n) refl (lit< tt) (omega arith) (omega arith)
+    (then (rw id at c.in_ok-put_number.ensures.put) (then (rw c.deref.ensures.value at c.in_ok-put_texts.ensures.put) (then (rw c.deref-2.ensures.value at c.in_ok-put_entries.ensures.spelled.put) (p i)))))
 
 pub graphs::put_unbound-returns : goal.graphs::put_unbound-returns
 graphs::put_unbound-returns t c =
     let n = c.args.unbound.now in
     let i = c.in_ok-inner.inner in
     let id : to_z w64 (of_z w64 n.id) ≡ n.id = search rules in
-    record {
-      before = search rules;
-      put = on_ok_weaker c.put_element.result (λ p. structure_put _ c.in_ok-inner.ensures.opens (unbound-out n) refl (lit< tt) (omega arith) (omega arith)
-          (then (rw id at c.in_ok-put_number.ensures.put) (then c.in_ok-put_string.ensures.put (then (rw c.deref.ensures.value at c.in_ok-put_entries.ensures.spelled.put) (p i))))) c.put_element.ensures.put;
-    }
+    last c.put_element.ensures (search rules) (λ p. structure_put _ c.in_ok-inner.ensures.opens (unbound-out n) refl (lit< tt) (omega arith) (omega arith)
+    (then (rw id at c.in_ok-put_number.ensures.put) (then c.in_ok-put_string.ensures.put (then (rw c.deref.ensures.value at c.in_ok-put_entries.ensures.spelled.put) (p i)))))
 
 pub graphs::put_relationship-returns : goal.graphs::put_relationship-returns
 graphs::put_relationship-returns t c =
@@ -72,17 +65,11 @@ graphs::put_relationship-returns t c =
     let id : to_z w64 (of_z w64 n.id) ≡ n.id = search rules in
     let start : to_z w64 (of_z w64 n.start) ≡ n.start = search rules in
     let end : to_z w64 (of_z w64 n.end) ≡ n.end = search rules in
-    record {
-      before = search rules;
-      put = on_ok_weaker c.put_elements.result (λ p. structure_put _ c.in_ok-inner.ensures.opens (relationship-out n) refl (lit< tt) (omega arith) (omega arith)
-          (then (rw id at c.in_ok-put_number.ensures.put) (then (rw start at c.in_ok-put_number-2.ensures.put) (then (rw end at c.in_ok-put_number-3.ensures.put)
-          (then c.in_ok-put_string.ensures.put (then (rw c.deref.ensures.value at c.in_ok-put_entries.ensures.spelled.put) (p i))))))) c.put_elements.ensures.put;
-    }
+    last c.put_elements.ensures (search rules) (λ p. structure_put _ c.in_ok-inner.ensures.opens (relationship-out n) refl (lit< tt) (omega arith) (omega arith)
+    (then (rw id at c.in_ok-put_number.ensures.put) (then (rw start at c.in_ok-put_number-2.ensures.put) (then (rw end at c.in_ok-put_number-3.ensures.put)
+    (then c.in_ok-put_string.ensures.put (then (rw c.deref.ensures.value at c.in_ok-put_entries.ensures.spelled.put) (p i)))))))
 
 pub graphs::put_path-returns : goal.graphs::put_path-returns
 graphs::put_path-returns t c =
-    record {
-      before = search rules;
-      put = on_ok_weaker c.put_number_list.result (λ p. structure_put _ c.in_ok-inner.ensures.opens (path-out c.args.path.now) refl (lit< tt) (omega arith) refl
-          (then (rw c.deref.ensures.value at c.in_ok-put_nodes.ensures.put) (then (rw c.deref-2.ensures.value at c.in_ok-put_unbounds.ensures.put) (then (rw c.deref-3.ensures.value at p) none)))) c.put_number_list.ensures.put;
-    }
+    last c.put_number_list.ensures (search rules) (λ p. structure_put _ c.in_ok-inner.ensures.opens (path-out c.args.path.now) refl (lit< tt) (omega arith) refl
+    (then (rw c.deref.ensures.value at c.in_ok-put_nodes.ensures.put) (then (rw c.deref-2.ensures.value at c.in_ok-put_unbounds.ensures.put) (then (rw c.deref-3.ensures.value at p) none))))
