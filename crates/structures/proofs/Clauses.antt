@@ -1,26 +1,11 @@
 -- What was read can be written. A value is read and a cell is written in one way, or refused for one fault; so what is answered, clause by clause, is one.
 use Rattle.std.proofs.Common.{◌≡◌, ℕ, List, [], ◌∷◌, length, Bool, true, false, cond, ◌&&◌, ◌==◌, None, is_none, Ok, Err, refl, sym, ap, ◌∙◌, eqb-true, eq-eqb, subst, inl, inr, ◌↔◌, Result, map, Vec, Global, String}
-use Rattle.packstream.specs.Prelude.{Tree, list, dict, structure, Trees, no_trees, tree_then, Entries, no_entries, entry_then, count, IsGood, tree, trees, trees_of, entries_of, entries as seen_entries}
-use Rattle.packstream.specs.declared.value.Value.{Value, List as ListCase, Dict as DictCase}
-use Rattle.packstream.proofs.Views.{tree-List, tree-Dict}
-use Rattle.wire.specs.declared.Version.{Version}
-use Rattle.wire.specs.declared.Version.TheVariants.{V44}
-use Rattle.cells.specs.declared.table.Field.{Field}
-use Rattle.cells.specs.declared.fault.Reason.{Reason}
-use Rattle.cells.specs.declared.fault.Reason.TheVariants.{NotInVersion, Range, PathShape}
-use Rattle.cells.specs.Prelude.{kinds, first_failed, to_utc, are_in_range, is_path, fault, structures, structures_in, structures_under, scan, IsBad, IsFine, all_fine, moment_tag, fault_of_structure, fault_of_structure_by, IsWritable, IsUnwritable, shape, shapes, entries}
+use Rattle.structures.proofs.Prelude.{Tree, list, dict, structure, Trees, no_trees, tree_then, Entries, no_entries, entry_then, count, IsGood, tree, trees, trees_of, entries_of, seen_entries, Value, ListValue, DictValue, tree-List, tree-Dict, Version, V44, Field, Reason, NotInVersion, Range, PathShape, kinds, first_failed, to_utc, are_in_range, is_path, fault, structures, structures_in, structures_under, scan, IsBad, IsFine, all_fine, moment_tag, fault_of_structure, fault_of_structure_by, IsWritable, IsUnwritable, shape, shapes, entries, both_true, scan_fine, fine_scan, fine_append, fine_itself, fine_within, fine_left, fine_right, Form, typed, typed_all, typed_under, form, HasOneReading, HasOneWriting, Reads, Writes, HasGoodForm, HasBadForm, Gave, UnlessMemory, IsUnpacked, Packs, form_entry, typed_shape, shapes_typed, pairs_typed, Cell, PackReason, CellFault}
 use Rattle.cells.proofs.Scanning.{Found}
-use Rattle.cells.proofs.Both.{both_true}
-use Rattle.cells.proofs.Fine.{scan_fine, fine_scan, fine_append, fine_itself, fine_within, fine_left, fine_right}
-use Rattle.structures.specs.Prelude.{Form, typed, typed_all, typed_under, form, HasOneReading, HasOneWriting, Reads, Writes, HasGoodForm, HasBadForm, Gave, UnlessMemory, IsUnpacked, Packs, form_entry}
 use Rattle.structures.proofs.Got.{passed, fine_at, row_of, of_local}
 use Rattle.structures.proofs.Formed.{ranges_typed, count_typed, path_typed, again, form_is, packed_is}
 use Rattle.structures.proofs.Fitted.{form_list, form_pairs}
-use Rattle.cells.proofs.Typed.{typed_shape, shapes_typed, pairs_typed}
-use Rattle.cells.specs.declared.cell.Cell.{Cell}
-use Rattle.packstream.specs.declared.fault.Reason.{Reason as PackReason}
 use Rattle.packstream.proofs.Checking.{bad_when}
-use Rattle.structures.specs.declared.fault.CellFault.{CellFault}
 use Rattle.structures.specs.declared.fault.CellFault.TheVariants as told
 
 -- the tag that reading gave is written as it was
@@ -194,8 +179,8 @@ module _ (v : Version) (r : Result Tree CellFault) where
   pub cell_packed : (c : Cell) (t : Tree) → IsWritable v (shape c) → t ≡ form v (shape c) → Packs t r → Writes v (shape c) r
   cell_packed c t = packed_is v (shape c) t r (typed_shape c)
 
-  pub list_packed : (cs : List Cell) (x : Vec Value Global) → IsWritable v (list (trees_of (shapes cs))) → trees x.items ≡ map (form v) (shapes cs) → Packs (tree (ListCase x)) r → Writes v (list (trees_of (shapes cs))) r
-  list_packed cs x w e = packed_is v (list (trees_of (shapes cs))) (tree (ListCase x)) r (shapes_typed cs) w (tree-List x ∙ ap list (ap trees_of e ∙ sym (form_list v (shapes cs))))
+  pub list_packed : (cs : List Cell) (x : Vec Value Global) → IsWritable v (list (trees_of (shapes cs))) → trees x.items ≡ map (form v) (shapes cs) → Packs (tree (ListValue x)) r → Writes v (list (trees_of (shapes cs))) r
+  list_packed cs x w e = packed_is v (list (trees_of (shapes cs))) (tree (ListValue x)) r (shapes_typed cs) w (tree-List x ∙ ap list (ap trees_of e ∙ sym (form_list v (shapes cs))))
 
-  pub dict_packed : (es : List (String Global × Cell)) (x : Vec (String Global × Value) Global) → IsWritable v (dict (entries_of (entries es))) → seen_entries x.items ≡ map (form_entry v) (entries es) → Packs (tree (DictCase x)) r → Writes v (dict (entries_of (entries es))) r
-  dict_packed es x w e = packed_is v (dict (entries_of (entries es))) (tree (DictCase x)) r (pairs_typed es) w (tree-Dict x ∙ ap dict (ap entries_of e ∙ sym (form_pairs v (entries es))))
+  pub dict_packed : (es : List (String Global × Cell)) (x : Vec (String Global × Value) Global) → IsWritable v (dict (entries_of (entries es))) → seen_entries x.items ≡ map (form_entry v) (entries es) → Packs (tree (DictValue x)) r → Writes v (dict (entries_of (entries es))) r
+  dict_packed es x w e = packed_is v (dict (entries_of (entries es))) (tree (DictValue x)) r (pairs_typed es) w (tree-Dict x ∙ ap dict (ap entries_of e ∙ sym (form_pairs v (entries es))))

@@ -1,25 +1,14 @@
 -- What is written of a cell, and a cell in the form of a version, one level at a time.
 use Rattle.std.proofs.Common.{◌≡◌, ℕ, ℤ, List, [], ◌∷◌, map, Option, Some, None, String, Global, refl, ap, rules, Vec, Box, string_bytes, sym, ◌∙◌}
-use Rattle.packstream.specs.Prelude.{Tree, int, list, dict, structure, no_trees, tree_then, entry_then, tree, trees_of, entries_of}
-use Rattle.packstream.specs.declared.value.Value.{Int as IntCase, the_lemmas as value_lemmas}
-use Rattle.wire.specs.declared.Version.{Version}
+use Rattle.structures.proofs.Prelude.{Tree, int, list, dict, structure, no_trees, tree_then, entry_then, tree, trees_of, entries_of, IntValue, value_lemmas, Version, text_of, texts_of, element_of, elements_of, numbers_of, entries, shape, shapes, node_shape, unbound_shape, relationship_shape, path_shape, path_of, row, row_in, table, Pair, node_parts, unbound_parts, relationship_parts, node-out, node-roll, unbound-out, unbound-roll, relationship-out, relationship-roll, path-out, path-roll, shape-List, shape-Dict, form, form_all, form_under, form_entry, fitted, fitted_all, fitted_under, fitted_by, fitted_entry, element_at, elements_at, V50, V51, Cell, ListCase, DictCase, NodeCase, RelationshipCase, UnboundCase, PathCase, the_lemmas, Path, out-Path, roll-Path, every_version, Field, Integer, Text, Labels, Properties}
 use Rattle.cells.specs.declared.cell.ElementIds.{ElementIds}
-use Rattle.cells.specs.Prelude.{text_of, texts_of, element_of, elements_of, numbers_of, entries, shape, shapes, node_shape, unbound_shape, relationship_shape, path_shape, path_of, row, row_in, table}
-use Rattle.cells.proofs.Views.{Pair, node_parts, unbound_parts, relationship_parts, node-out, node-roll, unbound-out, unbound-roll, relationship-out, relationship-roll, path-out, path-roll, shape-List, shape-Dict}
-use Rattle.structures.specs.Prelude.{form, form_all, form_under, form_entry, fitted, fitted_all, fitted_under, fitted_by, fitted_entry, element_at, elements_at}
-use Rattle.wire.specs.declared.Version.TheVariants.{V50, V51}
-use Rattle.cells.specs.declared.cell.Cell.{Cell, List as ListCase, Dict as DictCase, Node as NodeCase, Relationship as RelationshipCase, UnboundRelationship as UnboundCase, Path as PathCase, the_lemmas}
 use Rattle.cells.specs.declared.cell.Cell.TheViews.{out-roll-Path}
 use Rattle.cells.specs.declared.cell.Cell.TheOpen.{Node-F, UnboundRelationship-F, Relationship-F, Path-F}
 use Rattle.cells.specs.declared.cell.Node.{Node, roll-Node}
-use Rattle.cells.specs.declared.cell.Path.{Path, out-Path, roll-Path}
 use Rattle.cells.specs.declared.cell.Relationship.{Relationship, roll-Relationship}
 use Rattle.cells.specs.declared.cell.UnboundRelationship.{UnboundRelationship, roll-UnboundRelationship}
-use Rattle.wire.specs.Prelude.{every_version}
-use Rattle.cells.specs.declared.table.Field.{Field}
-use Rattle.cells.specs.declared.table.Field.TheVariants.{Integer, Text, Labels, Properties}
 
-pub tree-Int : (z : ℤ) → tree (IntCase z) ≡ int z
+pub tree-Int : (z : ℤ) → tree (IntValue z) ≡ int z
 tree-Int z = search (rules, value_lemmas)
 
 pub form_list : (v : Version) (ts : List Tree) → form_all v (trees_of ts) ≡ trees_of (map (form v) ts)

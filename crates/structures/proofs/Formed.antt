@@ -2,24 +2,8 @@
 use Rattle.std.proofs.Common.{◌≡◌, ℕ, ℤ, ◌+ℤ◌, ◌-ℤ◌, Bool, true, false, not, cond, ◌==◌, None, refl, sym, ap, ◌∙◌, arith, eqb-true, subst, suc, pos, neg_ℤ, ◌≤ℤ◌, List, [], ◌∷◌, ◌++◌, length, ◌&&◌, ◌||◌, Option, Some, is_none, Result, Ok, Err}
 use Rattle.std.proofs.lemmas.Int.{ints}
 use Rattle.std.proofs.lemmas.Bool.{not-true}
-use Rattle.packstream.specs.Prelude.{Tree, int, list, dict, structure, Trees, no_trees, tree_then, Entries, no_entries, entry_then, text, IsGood, count}
-use Rattle.wire.specs.declared.Version.{Version}
-use Rattle.wire.specs.declared.Version.TheVariants.{V44}
-use Rattle.cells.specs.Prelude.{row_in, table, Row, fields_of, kinds, scan, to_utc, fault, structures, structures_in, structures_under, first_failed, moment_fields, is_int, is_text, has_tag, each, is_list_of, is_kind, are_kinds, in_range, are_in_range, is_relationship, is_walk, is_path, all_fine, is_typed, are_typed, have_typed, is_row, has_count, shape, moment_tag, fault_of_structure, fault_of_structure_by, IsWritable}
-use Rattle.cells.specs.Faults.{is_place}
-use Rattle.cells.proofs.Both.{and_left, and_right, both_true}
-use Rattle.cells.proofs.Fine.{fine_itself, fine_within, fine_left, fine_right, scan_fine, fine_scan, fine_append}
-use Rattle.structures.specs.Prelude.{typed, typed_all, typed_under, form, form_all, form_under, moment, to_local, Form, date_time_fields as three, Writes, Packs}
+use Rattle.structures.proofs.Prelude.{Tree, int, list, dict, structure, Trees, no_trees, tree_then, Entries, no_entries, entry_then, text, IsGood, count, Version, V44, row_in, table, Row, fields_of, kinds, scan, to_utc, fault, structures, structures_in, structures_under, first_failed, moment_fields, is_int, is_text, has_tag, each, is_list_of, is_kind, are_kinds, in_range, are_in_range, is_relationship, is_walk, is_path, all_fine, is_typed, are_typed, have_typed, is_row, has_count, shape, moment_tag, fault_of_structure, fault_of_structure_by, IsWritable, is_place, and_left, and_right, both_true, fine_itself, fine_within, fine_left, fine_right, scan_fine, fine_scan, fine_append, typed, typed_all, typed_under, form, form_all, form_under, moment, to_local, Form, three, Writes, Packs, Field, Nanosecond, Offset, UtcSecond, Text, Labels, Nodes, Relationships, Indices, Reason, FieldCount, FieldKind, Range, PathShape, Cell, typed_shape, fault_is, wrong_is, has_element_ids, CellFault}
 use Rattle.structures.proofs.Got.{of_local, stood, first_none, between, of_three}
-use Rattle.cells.specs.declared.table.Field.{Field}
-use Rattle.cells.specs.declared.table.Field.TheVariants.{Nanosecond, Offset, UtcSecond, Text, Labels, Nodes, Relationships, Indices}
-use Rattle.cells.specs.declared.fault.Reason.{Reason}
-use Rattle.cells.specs.declared.fault.Reason.TheVariants.{FieldCount, FieldKind, Range, PathShape}
-use Rattle.cells.specs.declared.cell.Cell.{Cell}
-use Rattle.cells.proofs.Typed.{typed_shape}
-use Rattle.cells.proofs.Faulty.{fault_is, wrong_is}
-use Rattle.wire.specs.Prelude.{has_element_ids}
-use Rattle.structures.specs.declared.fault.CellFault.{CellFault}
 use Rattle.structures.specs.declared.fault.CellFault.TheVariants as told
 
 pub there_and_back : (u o : ℤ) → (u +ℤ o) -ℤ o ≡ u

@@ -1,23 +1,9 @@
 -- The fields of a structure, and the row that it has where it has no fault.
-use Rattle.std.proofs.Common.{◌≡◌, ◌++◌, take, ℤ, pos, neg_ℤ, ◌-ℤ◌, ◌≤ℤ◌, int_le, ℕ, suc, zero, ◌+◌, ◌<◌, ◌≤◌, List, [], ◌∷◌, map, length, get_or, append-nil, Bool, true, false, ◌&&◌, ◌==◌, cond, Option, Some, None, Result, Ok, Err, refl, sym, ap, ◌∙◌, arith, eqb-true, subst, Vec, Global}
+use Rattle.std.proofs.Common.{◌≡◌, ◌++◌, take, ℤ, pos, neg_ℤ, ◌-ℤ◌, ◌≤ℤ◌, int_le, ℕ, suc, zero, ◌+◌, ◌<◌, ◌≤◌, List, [], ◌∷◌, map, length, get_or, append-nil, length-append, add-one, Bool, true, false, ◌&&◌, ◌==◌, cond, Option, Some, None, Result, Ok, Err, refl, sym, ap, ◌∙◌, arith, eqb-true, subst, Vec, Global, String}
 use Rattle.std.proofs.lemmas.Int.{ints}
-use Rattle.std.proofs.lemmas.List.{map_more, map_push, take_all}
-use Rattle.packstream.specs.Prelude.{Tree, null, int, list, structure, Trees, no_trees, tree_then, entry_then, count, tree, trees, trees_of, entries_of}
-use Rattle.packstream.specs.declared.value.Value.{Value, List as ListCase, Struct as StructCase}
-use Rattle.packstream.proofs.Putting.{len_trees}
-use Rattle.packstream.proofs.Views.{tree-List, tree-Struct}
-use Rattle.wire.specs.declared.Version.{Version}
-use Rattle.wire.specs.declared.Version.TheVariants.{V44}
-use Rattle.wire.specs.Prelude.{has_element_ids, every_version}
-use Rattle.cells.specs.declared.table.Field.{Field}
-use Rattle.cells.specs.declared.table.Field.TheVariants.{Integer, Text, Properties, Nodes, Relationships, Indices}
-use Rattle.cells.specs.declared.fault.Reason.{Reason}
-use Rattle.cells.specs.declared.fault.Reason.TheVariants.{NotInVersion}
-use Rattle.cells.specs.Prelude.{row, row_in, table, fields_in, fields_at, fields_of, kinds, moment_fields, to_utc, each, is_kind, are_kinds, are_in_range, utc_fields, is_path, wrong, fault, fault_by, FaultOf, structures, structures_in, all_fine, has_tag, is_list_of}
-use Rattle.cells.proofs.Both.{and_left, and_right}
-use Rattle.cells.proofs.Views.{shape-Date, shape-Time, shape-LocalTime, shape-LocalDateTime, shape-DateTime}
-use Rattle.cells.proofs.Fine.{fine_itself, fine_within, fine_member}
-use Rattle.structures.specs.Prelude.{typed, typed_all, typed_under, date_time_fields as three, tree_at, ReadElements, typed_entry}
+use Rattle.std.proofs.lemmas.List.{map_push, take_all}
+use Rattle.structures.proofs.Prelude.{Nodes, Relationships, Indices, Tree, null, int, list, dict, structure, Trees, no_trees, tree_then, entry_then, count, tree, trees, trees_of, entries_of, seen_entries, Value, ListValue, DictValue, StructValue, len_trees, tree-List, tree-Dict, tree-Struct, Version, V44, has_element_ids, every_version, Field, Reason, NotInVersion, row, row_in, table, fields_in, fields_at, fields_of, kinds, moment_fields, to_utc, each, is_kind, are_kinds, are_in_range, utc_fields, is_path, wrong, fault, fault_by, has_tag, is_list_of, and_left, and_right, shape-Date, shape-Time, shape-LocalTime, shape-LocalDateTime, shape-DateTime, fine_itself, fine_within, fine_member, typed, typed_all, typed_under, three, tree_at, Got, Follows, typed_entry, IsSound, AreSound, with_fields}
+use Rattle.structures.specs.Fitting.{trees_in_order}
 
 pub at_some : (xs : List Value) (i : ℕ) (d : Value) → i < length xs → d ≡ get_or xs i d → tree_at i (trees_of (trees xs)) ≡ tree d
 at_some [] i d h e = absurd (omega arith)
@@ -28,12 +14,6 @@ pub at_none : (xs : List Value) (i : ℕ) → length xs ≤ i → tree_at i (tre
 at_none [] i h = refl
 at_none (x ∷ xs) zero h = absurd (omega arith)
 at_none (x ∷ xs) (suc i) h = at_none xs i (omega arith)
-
--- each field of us, where it is there, is what was read at its place
-abbrev pub Got : ℕ → List Field → Trees → Trees → Type 0
-Got i [] us ts = Unit {0}
-Got i (k ∷ ks) no_trees ts = Unit {0}
-Got i (k ∷ ks) (tree_then u us) ts = (is_kind k (tree_at i ts) ≡ true → u ≡ typed (tree_at i ts)) × Got (suc i) ks us ts
 
 got_tail : (i : ℕ) (ks : List Field) (us : Trees) (t : Tree) (ts : Trees) → Got (suc i) ks us (tree_then t ts) → Got i ks us ts
 got_tail i [] us t ts h = h
@@ -103,6 +83,25 @@ at_both v tag fs e = at_row v tag every_version fs e refl
 pub fine_at : (v : Version) (tag k : ℕ) (ts : Trees) → tag ≡ k → fault v tag ts ≡ None → fault v k ts ≡ None
 fine_at v tag k ts is h = subst (λ m. fault v m ts ≡ None) is h
 
+-- a structure without a fault, and each value inside it
+pub sound_itself : (tag : ℕ) (ts : Trees) (s : IsSound (structure tag ts)) → fault s.version tag ts ≡ None
+sound_itself tag ts s = fine_itself (fault s.version) tag ts s.fine
+
+pub sound_within : (tag : ℕ) (ts : Trees) → IsSound (structure tag ts) → IsSound (list ts)
+sound_within tag ts s = record { version = s.version; fine = fine_within (fault s.version) tag ts s.fine }
+
+pub sound_member : (xs : List Value) (i : ℕ) (d : Value) → i < length xs → d ≡ get_or xs i d → AreSound xs → IsSound (tree d)
+sound_member xs i d h e s = record { version = s.version; fine = fine_member tree (fault s.version) xs i d h e s.fine }
+
+pub sound_list : (d : Value) (xs : Vec Value Global) → d ≡ ListValue xs → IsSound (tree d) → AreSound xs.items
+sound_list d xs is s = subst IsSound (ap tree is ∙ tree-List xs) s
+
+pub sound_dict : (d : Value) (xs : Vec (String Global × Value) Global) → d ≡ DictValue xs → IsSound (tree d) → IsSound (dict (entries_of (seen_entries xs.items)))
+sound_dict d xs is s = subst IsSound (ap tree is ∙ tree-Dict xs) s
+
+pub sound_struct : (d : Value) (tag : ℕ) (xs : Vec Value Global) → d ≡ StructValue tag xs → IsSound (tree d) → IsSound (with_fields tag xs.items)
+sound_struct d tag xs is s = subst IsSound (ap tree is ∙ tree-Struct tag xs) s
+
 -- a row stands where a structure of its tag has no fault
 pub at_fine : (v : Version) (tag : ℕ) (stands : Version → Bool) (fs : List Field) (ts : Trees) → row_in tag table ≡ Some (row tag stands fs []) → fault v tag ts ≡ None → kinds v tag ≡ Ok fs
 at_fine v tag stands fs ts e h = let k = row_of v tag ts h in at_row v tag stands fs e (stood v stands fs [] k.0 (sym (ap (fields_of v) e) ∙ k.1)).0
@@ -132,20 +131,20 @@ abbrev pub IsUtc : ℤ → ℤ → Type 0
 IsUtc s o = (neg_ℤ (pos 100000000000000000) ≤ℤ (s -ℤ o)) × ((s -ℤ o) ≤ℤ pos 100000000000000000)
 
 -- a structure without local seconds, by its fields
-pub plain_is : (v : Version) (tag k : ℕ) (ks : List Field) (stands : Version → Bool) (ts us : Trees) → tag ≡ k → row_in k table ≡ Some (row k stands ks []) → (k == 0x46) ≡ false → fault v tag ts ≡ None → count us ≡ length ks → Got 0 ks us ts → structure k us ≡ typed (structure tag ts)
-plain_is v tag k ks stands ts us is e other h n g =
-    let f = fine_at v tag k ts is h in
+pub plain_is : (tag k : ℕ) (ks : List Field) (stands : Version → Bool) (ts us : Trees) → tag ≡ k → row_in k table ≡ Some (row k stands ks []) → (k == 0x46) ≡ false → IsSound (structure tag ts) → count us ≡ length ks → Got 0 ks us ts → structure k us ≡ typed (structure tag ts)
+plain_is tag k ks stands ts us is e other s n g =
+    let f = fine_at s.version tag k ts is (sound_itself tag ts s) in
     let same : structure k (typed_all ts) ≡ typed (structure k ts) = rw other refl in
-    ap (λ (x : Trees). structure k x) (read_by v k ts us ks (at_fine v k stands ks ts e f) f n g) ∙ same ∙ ap (λ (m : ℕ). typed (structure m ts)) (sym is)
+    ap (λ (x : Trees). structure k x) (read_by s.version k ts us ks (at_fine s.version k stands ks ts e f) f n g) ∙ same ∙ ap (λ (m : ℕ). typed (structure m ts)) (sym is)
 
 pub ruleset shapes = (shape-Date, shape-Time, shape-LocalTime, shape-LocalDateTime, shape-DateTime)
 
 -- local seconds, nanoseconds and offset, by the fields
-pub local_is : (v : Version) (tag : ℕ) (ts : Trees) (s n o : ℤ) → tag ≡ 0x46 → fault v tag ts ≡ None → Got 0 moment_fields (three s n o) ts → (structure 0x49 (three (s -ℤ o) n o) ≡ typed (structure tag ts)) × IsUtc s o
-local_is v tag ts s n o is h g =
+pub local_is : (tag : ℕ) (ts : Trees) (s n o : ℤ) → tag ≡ 0x46 → IsSound (structure tag ts) → Got 0 moment_fields (three s n o) ts → (structure 0x49 (three (s -ℤ o) n o) ≡ typed (structure tag ts)) × IsUtc s o
+local_is tag ts s n o is h g =
     let e = of_local (λ w us. Got 0 moment_fields (three s n o) us → (structure 0x49 (three (s -ℤ o) n o) ≡ typed (structure 0x46 us)) × IsUtc s o) (λ a b d r k.
     let same : three s n o ≡ three a b d = rw (k.0 refl, k.1.0 refl, k.1.1.0 refl) refl in
-    (ap (λ (us : Trees). structure 0x49 (to_utc us)) same, between (neg_ℤ (pos 100000000000000000)) (pos 100000000000000000) (s -ℤ o) (and_left _ _ (ap (λ (us : Trees). are_in_range moment_fields (to_utc us)) same ∙ r)))) v ts (fine_at v tag 0x46 ts is h) g in
+    (ap (λ (us : Trees). structure 0x49 (to_utc us)) same, between (neg_ℤ (pos 100000000000000000)) (pos 100000000000000000) (s -ℤ o) (and_left _ _ (ap (λ (us : Trees). are_in_range moment_fields (to_utc us)) same ∙ r)))) h.version ts (fine_at h.version tag 0x46 ts is (sound_itself tag ts h)) g in
     (e.0 ∙ ap (λ (m : ℕ). typed (structure m ts)) (sym is), e.1)
 
 pub typed_list : (ts : List Tree) → typed_all (trees_of ts) ≡ trees_of (map typed ts)
@@ -157,95 +156,89 @@ typed_pairs [] = refl
 typed_pairs (e ∷ es) = ap (λ r. entry_then e.0 (typed e.1) r) (typed_pairs es)
 
 -- a test of each member, at one of them
-pub each_at : (p : Tree → Bool) (xs : List Value) (i : ℕ) (d : Value) → i < length xs → d ≡ get_or xs i d → each p (trees_of (trees xs)) ≡ true → p (tree d) ≡ true
-each_at p [] i d h e a = absurd (omega arith)
-each_at p (x ∷ xs) zero d h e a = ap (λ v. p (tree v)) e ∙ and_left _ _ a
-each_at p (x ∷ xs) (suc i) d h e a = each_at p xs i d (omega arith) e (and_right _ _ a)
+pub each_at : (p : Tree → Bool) (xs : List Value) (i : ℕ) → i < length xs → each p (trees_of (trees xs)) ≡ true → p (tree_at i (trees_of (trees xs))) ≡ true
+each_at p [] i h a = absurd (omega arith)
+each_at p (x ∷ xs) zero h a = and_left _ _ a
+each_at p (x ∷ xs) (suc i) h a = each_at p xs i (omega arith) (and_right _ _ a)
 
--- a member of a list of structures with one tag has that tag
-pub tag_at : (k : ℕ) (v d : Value) (xs : Vec Value Global) (zs : List Value) (i : ℕ) → v ≡ ListCase xs → zs ≡ xs.items → i < length zs → d ≡ get_or zs i d
-    → is_list_of (has_tag k) (tree v) ≡ true → has_tag k (tree d) ≡ true
-tag_at k v d xs zs i vi same lt at g =
-    let e = ap tree vi ∙ tree-List xs ∙ ap (λ (us : List Value). list (trees_of (trees us))) (sym same) in
-    each_at (has_tag k) zs i d lt at (sym (ap (is_list_of (has_tag k)) e) ∙ g)
+-- the members of a list that pass the test are read one by one, up to a place
+abbrev pub ReadTo : {A : Type 0} → (Tree → Bool) → (A → Tree) → List Value → ℕ → List A → Type 0
+ReadTo p see xs i ys = each p (trees_of (trees xs)) ≡ true → map see ys ≡ map typed (trees (take i xs))
 
--- and its fields have no fault
-pub tagged_at : (j : FaultOf) (k tag : ℕ) (v d : Value) (xs ys : Vec Value Global) (zs : List Value) (i : ℕ) → v ≡ ListCase xs → zs ≡ xs.items
-    → d ≡ StructCase tag ys → i < length zs → d ≡ get_or zs i d → all_fine j (structures (tree v)) ≡ true → is_list_of (has_tag k) (tree v) ≡ true
-    → (j k (trees_of (trees ys.items)) ≡ None) × (all_fine j (structures_in (trees_of (trees ys.items))) ≡ true) × (tree d ≡ structure k (trees_of (trees ys.items)))
-tagged_at j k tag v d xs ys zs i vi same di lt at f g =
-    let e = ap tree vi ∙ tree-List xs ∙ ap (λ (us : List Value). list (trees_of (trees us))) (sym same) in
-    let s = ap tree di ∙ tree-Struct tag ys in
-    let n : tag ≡ k = eqb-true _ _ (sym (ap (has_tag k) s) ∙ tag_at k v d xs zs i vi same lt at g) in
-    let m = fine_member tree j zs i d lt at (sym (ap (λ (u : Tree). all_fine j (structures u)) e) ∙ f) in
-    let w = sym (ap (λ (u : Tree). all_fine j (structures u)) s) ∙ m in
-    let is = ap (λ q. structure q (trees_of (trees ys.items))) n in
-    (subst (λ q. j q (trees_of (trees ys.items)) ≡ None) n (fine_itself j tag _ w), fine_within j tag _ w, s ∙ is)
+read_more : (xs : List Value) (i : ℕ) → i < length xs → map typed (trees (take (suc i) xs)) ≡ map typed (trees (take i xs)) ++ typed (tree_at i (trees_of (trees xs))) ∷ []
+read_more [] i h = absurd (omega arith)
+read_more (x ∷ xs) zero h = refl
+read_more (x ∷ xs) (suc i) h = ap (λ ts. typed (tree x) ∷ ts) (read_more xs i (omega arith))
 
 -- one more member read
-pub read_next : {A : Type 0} (see : A → Tree) (old new : List A) (x : A) (xs : List Value) (i : ℕ) (d : Value) → i < length xs → d ≡ get_or xs i d → new ≡ old ++ x ∷ [] → see x ≡ typed (tree d) → map see old ≡ map typed (trees (take i xs)) → map see new ≡ map typed (trees (take (i + 1) xs))
-read_next see old new x xs i d h e n x-is o =
-    let a : trees (take (i + 1) xs) ≡ trees (take i xs) ++ tree d ∷ [] = map_more tree xs i d h ∙ ap (λ (y : Value). trees (take i xs) ++ tree y ∷ []) (sym e) in
-    ap (map see) n ∙ map_push see old x ∙ ap (λ (r : List Tree). r ++ see x ∷ []) o ∙ ap (λ (u : Tree). map typed (trees (take i xs)) ++ u ∷ []) x-is ∙ sym (ap (map typed) a ∙ map_push typed (trees (take i xs)) (tree d))
+pub read_next : {A : Type 0} (p : Tree → Bool) (see : A → Tree) (old new : List A) (x : A) (xs : List Value) (i : ℕ) → i < length xs → new ≡ old ++ x ∷ [] → (p (tree_at i (trees_of (trees xs))) ≡ true → see x ≡ typed (tree_at i (trees_of (trees xs)))) → ReadTo p see xs i old → ReadTo p see xs (i + 1) new
+read_next p see old new x xs i h n is o all =
+    ap (map see) n ∙ map_push see old x ∙ rw (o all, is (each_at p xs i h all)) (sym (ap (λ m. map typed (trees (take m xs))) (add-one i) ∙ read_more xs i h))
 
--- the members of a list that are read one by one, when all are
-pub list_read : {A : Type 0} (see : A → Tree) (v : Value) (xs : Vec Value Global) (zs : List Value) (ys : List A) (i : ℕ) → v ≡ ListCase xs → zs ≡ xs.items
-    → length zs ≤ i → map see ys ≡ map typed (trees (take i zs)) → list (trees_of (map see ys)) ≡ typed (tree v)
-list_read see v xs zs ys i vi same h m =
-    let all = m ∙ ap (λ (us : List Value). map typed (trees us)) (take_all i zs h ∙ same) in
-    ap (λ (ts : List Tree). list (trees_of ts)) all ∙ ap list (sym (typed_list (trees xs.items))) ∙ ap typed (sym (ap tree vi ∙ tree-List xs))
+-- the members of a list, when all are read
+pub list_read : {A : Type 0} (p : Tree → Bool) (see : A → Tree) (v : Value) (xs : Vec Value Global) (zs : List Value) (ys : List A) (n : ℕ) → v ≡ ListValue xs → zs ≡ xs.items → length zs ≤ n
+    → ReadTo p see zs n ys → is_list_of p (tree v) ≡ true → list (trees_of (map see ys)) ≡ typed (tree v)
+list_read p see v xs zs ys n is same all r h =
+    let e = ap tree is ∙ tree-List xs ∙ ap (λ us. list (trees_of (trees us))) (sym same) in
+    let m = r (sym (ap (is_list_of p) e) ∙ h) ∙ ap (λ us. map typed (trees us)) (take_all n zs all) in
+    ap (λ ts. list (trees_of ts)) m ∙ ap list (sym (typed_list (trees zs))) ∙ ap typed (sym e)
 
-abbrev pub field_at : ℕ → List Field → Option Field
-field_at i [] = None
-field_at zero (k ∷ ks) = Some k
-field_at (suc i) (k ∷ ks) = field_at i ks
+-- a member of a list of structures with one tag has that tag
+pub tag_at : (k : ℕ) (v d : Value) (xs : Vec Value Global) (zs : List Value) (i : ℕ) → v ≡ ListValue xs → zs ≡ xs.items → i < length zs → d ≡ get_or zs i d
+    → is_list_of (has_tag k) (tree v) ≡ true → has_tag k (tree d) ≡ true
+tag_at k v d xs zs i is same lt at g =
+    let e = ap tree is ∙ tree-List xs ∙ ap (λ us. list (trees_of (trees us))) (sym same) in
+    sym (ap (has_tag k) (at_some zs i d lt at)) ∙ each_at (has_tag k) zs i lt (sym (ap (is_list_of (has_tag k)) e) ∙ g)
 
-pub kind_at : (i : ℕ) (k : Field) (ks : List Field) (ts : Trees) → count ts ≡ length ks → are_kinds ks ts ≡ true → field_at i ks ≡ Some k → is_kind k (tree_at i ts) ≡ true
-kind_at zero k (x ∷ ks) (tree_then t ts) n h e = let same : x ≡ k = cc in ap (λ y. is_kind y t) (sym same) ∙ and_left _ _ h
-kind_at (suc i) k (x ∷ ks) (tree_then t ts) n h e = kind_at i k ks ts (omega arith) (and_right _ _ h) e
-kind_at i k ks ts n h e = absurd cc
+-- and its fields, and no fault
+pub tagged_at : (k tag : ℕ) (v d : Value) (xs ys : Vec Value Global) (zs : List Value) (i : ℕ) → v ≡ ListValue xs → zs ≡ xs.items → d ≡ StructValue tag ys → i < length zs → d ≡ get_or zs i d → IsSound (tree v)
+    → is_list_of (has_tag k) (tree v) ≡ true → IsSound (with_fields k ys.items) × (tree_at i (trees_of (trees zs)) ≡ with_fields k ys.items)
+tagged_at k tag v d xs ys zs i is same di lt at s g =
+    let e = ap tree di ∙ tree-Struct tag ys in
+    let n : tag ≡ k = eqb-true _ _ (sym (ap (has_tag k) e) ∙ tag_at k v d xs zs i is same lt at g) in
+    let m = sound_struct d tag ys di (sound_member zs i d lt at (subst AreSound (sym same) (sound_list v xs is s))) in
+    (subst (λ q. IsSound (with_fields q ys.items)) n m, at_some zs i d lt at ∙ e ∙ ap (λ q. with_fields q ys.items) n)
 
--- three fields, and an element id where the version adds one
-pub named_by : (v : Version) (tag : ℕ) (ts : Trees) (k0 k1 k2 : Field) (u0 u1 u2 : Tree) (element : Trees) → row_in tag table ≡ Some (row tag every_version (k0 ∷ k1 ∷ k2 ∷ []) (Text ∷ [])) → fault v tag ts ≡ None
-    → Got 0 (k0 ∷ k1 ∷ k2 ∷ []) (tree_then u0 (tree_then u1 (tree_then u2 no_trees))) ts
-    → (count ts ≡ 3 → element ≡ no_trees) → (3 < count ts → is_kind Text (tree_at 3 ts) ≡ true → element ≡ tree_then (typed (tree_at 3 ts)) no_trees)
-    → tree_then u0 (tree_then u1 (tree_then u2 element)) ≡ typed_all ts
-named_by v tag ts k0 k1 k2 u0 u1 u2 element e h g absent there = go (has_element_ids v) (ap (fields_of v) e)
+-- what passes as the three fields of a path
+path_passed : (xs : List Value) (s : IsSound (with_fields 0x50 xs)) → Passed (Nodes ∷ Relationships ∷ Indices ∷ []) 0x50 (trees_of (trees xs))
+path_passed xs s = passed s.version 0x50 (trees_of (trees xs)) _ (at_both s.version 0x50 _ refl) (sound_itself 0x50 _ s)
+
+pub path_length : (xs : List Value) → IsSound (with_fields 0x50 xs) → length xs ≡ 3
+path_length xs s = sym (len_trees xs) ∙ (path_passed xs s).counted
+
+pub path_kinds : (xs : List Value) → IsSound (with_fields 0x50 xs) → (is_kind Nodes (tree_at 0 (trees_of (trees xs))) ≡ true) × (is_kind Relationships (tree_at 1 (trees_of (trees xs))) ≡ true) × (is_kind Indices (tree_at 2 (trees_of (trees xs))) ≡ true)
+path_kinds xs s = kinds_at (trees_of (trees xs)) (path_passed xs s).counted (path_passed xs s).kinded
   where
-    go : (b : Bool) → kinds v tag ≡ Ok (cond b (k0 ∷ k1 ∷ k2 ∷ Text ∷ []) (k0 ∷ k1 ∷ k2 ∷ [])) → tree_then u0 (tree_then u1 (tree_then u2 element)) ≡ typed_all ts
-    go false a =
-        let p = passed v tag ts (k0 ∷ k1 ∷ k2 ∷ []) a h in
-        ap (λ x. tree_then u0 (tree_then u1 (tree_then u2 x))) (absent p.counted) ∙ read_by v tag ts _ (k0 ∷ k1 ∷ k2 ∷ []) a h refl g
-    go true a =
-        let p = passed v tag ts (k0 ∷ k1 ∷ k2 ∷ Text ∷ []) a h in
-        let here : is_kind Text (tree_at 3 ts) ≡ true = kind_at 3 Text (k0 ∷ k1 ∷ k2 ∷ Text ∷ []) ts p.counted p.kinded refl in
-        ap (λ x. tree_then u0 (tree_then u1 (tree_then u2 x))) (there (omega (arith, p.counted)) here) ∙ read_by v tag ts _ (k0 ∷ k1 ∷ k2 ∷ Text ∷ []) a h refl (g.0, (g.1.0, (g.1.1.0, ((λ z. refl), tt))))
+    kinds_at : (ts : Trees) → count ts ≡ 3 → are_kinds (Nodes ∷ Relationships ∷ Indices ∷ []) ts ≡ true → (is_kind Nodes (tree_at 0 ts) ≡ true) × (is_kind Relationships (tree_at 1 ts) ≡ true) × (is_kind Indices (tree_at 2 ts) ≡ true)
+    kinds_at (tree_then a (tree_then b (tree_then d ts))) n h = (and_left _ _ h, and_left _ _ (and_right _ _ h), and_left _ _ (and_right _ _ (and_right _ _ h)))
+    kinds_at ts n h = absurd cc
 
-pub path_length : (v : Version) (xs : List Value) → fault v 0x50 (trees_of (trees xs)) ≡ None → length xs ≡ 3
-path_length v xs h =
-    let p = passed v 0x50 (trees_of (trees xs)) (Nodes ∷ Relationships ∷ Indices ∷ []) (at_both v 0x50 _ refl) h in
-    sym (len_trees xs) ∙ p.counted
+got_append : (i n : ℕ) (fs more : List Field) (us es ts : Trees) → n ≡ i + length fs → count us ≡ length fs → Got i fs us ts → Got n more es ts → Got i (fs ++ more) (trees_in_order us es) ts
+got_append i n [] more no_trees es ts e c g h = subst (λ m. Got m more es ts) (let same : n ≡ i = omega (arith, e) in same) h
+got_append i n (f ∷ fs) more (tree_then u us) es ts e c g h = (g.0, got_append (suc i) n fs more us es ts (omega (arith, e)) (omega (arith, c)) g.1 h)
+got_append i n fs more us es ts e c g h = absurd cc
 
-pub path_field : (v : Version) (xs : List Value) (i : ℕ) (d : Value) (k : Field) → fault v 0x50 (trees_of (trees xs)) ≡ None → d ≡ get_or xs i d → i < length xs → field_at i (Nodes ∷ Relationships ∷ Indices ∷ []) ≡ Some k → is_kind k (tree d) ≡ true
-path_field v xs i d k h e lt f =
-    let p = passed v 0x50 (trees_of (trees xs)) (Nodes ∷ Relationships ∷ Indices ∷ []) (at_both v 0x50 _ refl) h in
-    sym (ap (is_kind k) (at_some xs i d lt e)) ∙ kind_at i k (Nodes ∷ Relationships ∷ Indices ∷ []) (trees_of (trees xs)) p.counted p.kinded f
+count_order : (us es : Trees) → count (trees_in_order us es) ≡ count us + count es
+count_order no_trees es = omega arith
+count_order (tree_then u us) es = omega (arith, count_order us es)
 
--- the five fields of a relationship, and three element ids where the version adds them
-pub bound_by : (v : Version) (ts : Trees) (u0 u1 u2 u3 u4 : Tree) (es : Trees) → fault v 0x52 ts ≡ None
-    → Got 0 (Integer ∷ Integer ∷ Integer ∷ Text ∷ Properties ∷ []) (tree_then u0 (tree_then u1 (tree_then u2 (tree_then u3 (tree_then u4 no_trees))))) ts
-    → (count ts ≡ 5 → es ≡ no_trees) → (5 < count ts → ReadElements ts es)
-    → tree_then u0 (tree_then u1 (tree_then u2 (tree_then u3 (tree_then u4 es)))) ≡ typed_all ts
-bound_by v ts u0 u1 u2 u3 u4 es h g absent there = go (has_element_ids v) refl
+order_nil : (us : Trees) → trees_in_order us no_trees ≡ us
+order_nil no_trees = refl
+order_nil (tree_then u us) = ap (λ x. tree_then u x) (order_nil us)
+
+-- the fields of a structure, and those that come with element ids
+pub added_is : (tag : ℕ) (fs : List Field) (k : Field) (ks : List Field) (us es : Trees) (xs : List Value) → row_in tag table ≡ Some (row tag every_version fs (k ∷ ks)) → (tag == 0x46) ≡ false → count us ≡ length fs
+    → Got 0 fs us (trees_of (trees xs)) → Follows xs (length fs) (k ∷ ks) es → IsSound (with_fields tag xs) → structure tag (trees_in_order us es) ≡ typed (with_fields tag xs)
+added_is tag fs k ks us es xs e other n g f s = ap (structure tag) (go (has_element_ids s.version) (ap (fields_of s.version) e)) ∙ rw other refl
   where
-    go : (b : Bool) → kinds v 0x52 ≡ Ok (cond b (Integer ∷ Integer ∷ Integer ∷ Text ∷ Properties ∷ Text ∷ Text ∷ Text ∷ []) (Integer ∷ Integer ∷ Integer ∷ Text ∷ Properties ∷ [])) → tree_then u0 (tree_then u1 (tree_then u2 (tree_then u3 (tree_then u4 es)))) ≡ typed_all ts
+    go : (b : Bool) → kinds s.version tag ≡ Ok (cond b (fs ++ k ∷ ks) fs) → trees_in_order us es ≡ typed_all (trees_of (trees xs))
     go false a =
-        let p = passed v 0x52 ts (Integer ∷ Integer ∷ Integer ∷ Text ∷ Properties ∷ []) a h in
-        ap (λ x. tree_then u0 (tree_then u1 (tree_then u2 (tree_then u3 (tree_then u4 x))))) (absent p.counted) ∙ read_by v 0x52 ts _ (Integer ∷ Integer ∷ Integer ∷ Text ∷ Properties ∷ []) a h refl g
+        let h = sound_itself tag (trees_of (trees xs)) s in
+        let p = passed s.version tag (trees_of (trees xs)) fs a h in
+        ap (trees_in_order us) (f.absent (sym (len_trees xs) ∙ p.counted)) ∙ order_nil us ∙ read_by s.version tag (trees_of (trees xs)) us fs a h n g
     go true a =
-        let p = passed v 0x52 ts (Integer ∷ Integer ∷ Integer ∷ Text ∷ Properties ∷ Text ∷ Text ∷ Text ∷ []) a h in
-        let k5 : is_kind Text (tree_at 5 ts) ≡ true = kind_at 5 Text (Integer ∷ Integer ∷ Integer ∷ Text ∷ Properties ∷ Text ∷ Text ∷ Text ∷ []) ts p.counted p.kinded refl in
-        let k6 : is_kind Text (tree_at 6 ts) ≡ true = kind_at 6 Text (Integer ∷ Integer ∷ Integer ∷ Text ∷ Properties ∷ Text ∷ Text ∷ Text ∷ []) ts p.counted p.kinded refl in
-        let k7 : is_kind Text (tree_at 7 ts) ≡ true = kind_at 7 Text (Integer ∷ Integer ∷ Integer ∷ Text ∷ Properties ∷ Text ∷ Text ∷ Text ∷ []) ts p.counted p.kinded refl in
-        ap (λ x. tree_then u0 (tree_then u1 (tree_then u2 (tree_then u3 (tree_then u4 x))))) (there (omega (arith, p.counted)) k5 k6 k7)
-        ∙ read_by v 0x52 ts _ (Integer ∷ Integer ∷ Integer ∷ Text ∷ Properties ∷ Text ∷ Text ∷ Text ∷ []) a h refl (g.0, (g.1.0, (g.1.1.0, (g.1.1.1.0, (g.1.1.1.1.0, ((λ z. refl), ((λ z. refl), ((λ z. refl), tt))))))))
+        let h = sound_itself tag (trees_of (trees xs)) s in
+        let p = passed s.version tag (trees_of (trees xs)) (fs ++ k ∷ ks) a h in
+        let more : length fs < length xs = omega (arith, len_trees xs, p.counted, length-append fs (k ∷ ks)) in
+        read_by s.version tag (trees_of (trees xs)) _ (fs ++ k ∷ ks) a h (omega (arith, count_order us es, n, f.counted more, length-append fs (k ∷ ks)))
+        (got_append 0 (length fs) fs (k ∷ ks) us es _ (omega arith) n g (f.got more))

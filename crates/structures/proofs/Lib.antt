@@ -1,3 +1,4 @@
+pub mod Prelude
 pub mod Got
 pub mod Formed
 pub mod Fitted

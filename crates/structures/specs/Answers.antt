@@ -1,5 +1,5 @@
 -- What reading and writing answer.
-use Rattle.std.specs.Prelude.{◌≡◌, ℕ, false, ◌⊎◌, Result, Ok, Err}
+use Rattle.std.specs.Prelude.{◌≡◌, ℕ, false, ◌⊎◌, ◌↔◌, Result, Ok, Err}
 use Rattle.packstream.specs.declared.fault.Reason.{Reason as PackReason}
 use Rattle.packstream.specs.declared.fault.Reason.TheVariants as pack
 use Rattle.packstream.specs.Good.{IsGood}
@@ -34,6 +34,15 @@ Reads v t (Err (fault.Refused r k)) = IsBad v t k r
 Reads v t (Err fault.Memory) = IsFine v t
 Reads v t (Err (fault.Pack r o)) = ⊥
 
+-- apart from memory, it is the cell whose form the value is, if it is one's
+abbrev pub ReadsForm : Version → Tree → Result Cell CellFault → Type 0
+ReadsForm v t r = (s : Tree) → UnlessMemory r (Gave r s ↔ Form v s t)
+
+-- apart from memory, it is the value's first fault, if it has one
+abbrev pub ReadsFault : Version → Tree → Result Cell CellFault → Type 0
+ReadsFault v t r =
+    (q : Reason) (k : ℕ) → UnlessMemory r ((r ≡ Err (fault.Refused q k)) ↔ IsBad v t k q)
+
 -- what `Packed::new` answers of this tree
 abbrev pub IsUnpacked : Tree → PackReason → ℕ → Type 0
 IsUnpacked t r o = first_fault (faults_in 0 false t) 0 ≡ Err (r, o)
@@ -57,6 +66,20 @@ Writes v s (Ok t) = HasGoodForm v s t
 Writes v s (Err (fault.Refused r k)) = IsUnwritable v s k r
 Writes v s (Err fault.Memory) = IsWritable v s
 Writes v s (Err (fault.Pack r o)) = HasBadForm v s r o
+
+-- apart from memory, it is the cell's form, if the cell has one and that is good
+abbrev pub WritesForm : Version → Tree → Result Tree CellFault → Type 0
+WritesForm v s r = (t : Tree) → UnlessMemory r ((r ≡ Ok t) ↔ HasGoodForm v s t)
+
+-- apart from memory, it is the first fault of a cell, if there is one
+abbrev pub WritesFault : Version → Tree → Result Tree CellFault → Type 0
+WritesFault v s r =
+    (q : Reason) (k : ℕ) → UnlessMemory r ((r ≡ Err (fault.Refused q k)) ↔ IsUnwritable v s k q)
+
+-- apart from memory, it is the fault of the cell's form, if that has one
+abbrev pub WritesPackFault : Version → Tree → Result Tree CellFault → Type 0
+WritesPackFault v s r =
+    (q : PackReason) (o : ℕ) → UnlessMemory r ((r ≡ Err (fault.Pack q o)) ↔ HasBadForm v s q o)
 
 -- the value itself, or its fault
 abbrev pub Packs : Tree → Result Tree CellFault → Type 0

@@ -1,14 +1,13 @@
 //! Cells of values, and values of cells.
-ghost use Rattle.std.specs.Prelude.{◌≡◌, ℕ, Ok, Err, ◌↔◌};
-ghost use Rattle.packstream.specs.declared.fault.Reason.{Reason as PackReason};
-ghost use Rattle.packstream.specs.Prelude.{Tree, dict, list, tree, trees_of, entries_of};
-ghost use Rattle.cells.specs.declared.fault.Reason.{Reason};
-ghost use Rattle.cells.specs.Prelude.{IsBad, IsFine, shape, shapes, entries, IsWritable, IsUnwritable};
+ghost use Rattle.std.specs.Prelude.{◌≡◌, Err};
+ghost use Rattle.packstream.specs.Prelude.{dict, list, tree, trees_of, entries_of};
+ghost use Rattle.cells.specs.Prelude.{IsFine, shape, shapes, entries, IsWritable};
 ghost use Rattle.structures.specs.declared.fault.CellFault.TheVariants as fault;
-ghost use Rattle.structures.specs.Prelude.{Writes, HasGoodForm, HasBadForm, Packs, Gave, UnlessMemory, Form};
+ghost use Rattle.structures.specs.Prelude.{ReadsForm, ReadsFault, WritesForm, WritesFault, WritesPackFault, Writes, Packs};
 
 use crate::fault::CellFault;
 use crate::reader::cell_of;
+use crate::scope::Scope;
 use crate::writer::{pair_values, value_of, values_of};
 use cells::{Cell, check_cell, check_cells, check_entries, check_value};
 use packstream::{PackFault, Packed, Value};
@@ -18,17 +17,13 @@ use wire::Version;
 /// The cell of a value that stands inside another, as `read` reads it.
 #[tactic(auto, using(cells::proofs::Fine::fine_scan))]
 pub fn read_value(alloc: Global, version: Version, value: &Value) -> Result<Cell, CellFault>
-    // Apart from memory, it is the cell whose form the value is, if it is one's ..
-    ensures cell { (s : Tree) → UnlessMemory result (Gave result s ↔ Form version s (tree value.now)) }
-
-    // .. and the first fault, if the value has one.
-    ensures fault { (r : Reason) (k : ℕ)
-        → UnlessMemory result ((result ≡ Err (fault.Refused r k)) ↔ IsBad version (tree value.now) k r) }
+    ensures cell { ReadsForm version (tree value.now) result }
+    ensures fault { ReadsFault version (tree value.now) result }
     ensures memory { result ≡ Err fault.Memory → IsFine version (tree value.now) }
 {
     match check_value(version, value, 0) {
         Err((reason, number)) => Err(CellFault::Refused(reason, number)),
-        Ok(_) => Ok(cell_of(alloc, version, value)?),
+        Ok(_) => Ok(cell_of(alloc, value)?),
     }
 }
 
@@ -38,12 +33,9 @@ pub fn read_value(alloc: Global, version: Version, value: &Value) -> Result<Cell
 /// unknown tag (S1) or tag of another version (S6), number of fields (S2), kind of a field (S3), number out of its
 /// range (S4), path without a node or that doesn't walk (S5); and for want of memory (S7).
 pub fn read(alloc: Global, version: Version, packed: &Packed) -> Result<Cell, CellFault>
-    // Apart from memory, it is the cell whose form the value is, if it is one's ..
-    ensures cell { (s : Tree) → UnlessMemory result (Gave result s ↔ Form version s packed.now) }
-
-    // .. and the first fault, if the value has one.
-    ensures fault { (r : Reason) (k : ℕ)
-        → UnlessMemory result ((result ≡ Err (fault.Refused r k)) ↔ IsBad version packed.now k r) }
+    // Apart from memory, it is the cell whose form the value is, if it is one's, and else the value's first fault.
+    ensures cell { ReadsForm version packed.now result }
+    ensures fault { ReadsFault version packed.now result }
     ensures memory { result ≡ Err fault.Memory → IsFine version packed.now }
 {
     read_value(alloc, version, packed.value())
@@ -60,12 +52,12 @@ fn pack(alloc: Global, value: Value) -> Result<Packed, CellFault>
 }
 
 #[tactic(auto, using(cells::proofs::Fine::fine_scan, crate::proofs::Formed::writable_when, crate::proofs::Clauses::cell_packed))]
-fn write_cell(alloc: Global, version: Version, cell: &Cell) -> Result<Packed, CellFault>
-    ensures { Writes version (shape cell.now) result }
+fn write_cell(scope: Scope, cell: &Cell) -> Result<Packed, CellFault>
+    ensures { Writes scope.version (shape cell.now) result }
 {
-    match check_cell(version, cell, 0) {
+    match check_cell(scope.version, cell, 0) {
         Err((reason, number)) => Err(CellFault::Refused(reason, number)),
-        Ok(_) => pack(alloc, value_of(alloc, version, cell)?),
+        Ok(_) => pack(scope.alloc, value_of(scope, cell)?),
     }
 }
 
@@ -76,28 +68,23 @@ fn write_cell(alloc: Global, version: Version, cell: &Cell) -> Result<Packed, Ce
 /// If there is none, refuses a value that is too deep or has a key twice (S8), and for want of memory (S7).
 #[tactic(auto, using(crate::proofs::Clauses::writes_value, crate::proofs::Clauses::writes_pack))]
 pub fn write(alloc: Global, version: Version, cell: &Cell) -> Result<Packed, CellFault>
-    // Apart from memory, it is the cell's form, if the cell has one and that is good ..
-    ensures value { (t : Tree)
-        → UnlessMemory result ((result ≡ Ok t) ↔ HasGoodForm version (shape cell.now) t) }
-
-    // .. and the first fault of a cell, or else that of the form.
-    ensures fault { (r : Reason) (k : ℕ)
-        → UnlessMemory result ((result ≡ Err (fault.Refused r k)) ↔ IsUnwritable version (shape cell.now) k r) }
-    ensures pack { (r : PackReason) (o : ℕ)
-        → UnlessMemory result ((result ≡ Err (fault.Pack r o))
-        ↔ HasBadForm version (shape cell.now) r o) }
+    // Apart from memory, it is the cell's form, if the cell has one and that is good; else the first fault of a cell, or
+    // that of the form.
+    ensures value { WritesForm version (shape cell.now) result }
+    ensures fault { WritesFault version (shape cell.now) result }
+    ensures pack { WritesPackFault version (shape cell.now) result }
     ensures memory { result ≡ Err fault.Memory → IsWritable version (shape cell.now) }
 {
-    write_cell(alloc, version, cell)
+    write_cell(Scope { alloc, version }, cell)
 }
 
 #[tactic(auto, using(cells::proofs::Fine::fine_scan, crate::proofs::Formed::writable_when, crate::proofs::Clauses::list_packed))]
-fn write_list(alloc: Global, version: Version, members: &Vec<Cell>) -> Result<Packed, CellFault>
-    ensures { Writes version (list (trees_of (shapes members.now.items))) result }
+fn write_list(scope: Scope, members: &Vec<Cell>) -> Result<Packed, CellFault>
+    ensures { Writes scope.version (list (trees_of (shapes members.now.items))) result }
 {
-    match check_cells(version, members, 0) {
+    match check_cells(scope.version, members, 0) {
         Err((reason, number)) => Err(CellFault::Refused(reason, number)),
-        Ok(_) => pack(alloc, Value::List(values_of(alloc, version, members)?)),
+        Ok(_) => pack(scope.alloc, Value::List(values_of(scope, members)?)),
     }
 }
 
@@ -108,33 +95,21 @@ pub fn write_members(
     version: Version,
     members: &Vec<Cell>,
 ) -> Result<Packed, CellFault>
-    // Apart from memory, it is the cell's form, if the cell has one and that is good ..
-    ensures value { (t : Tree)
-        → UnlessMemory result ((result ≡ Ok t)
-        ↔ HasGoodForm version (list (trees_of (shapes members.now.items))) t) }
-
-    // .. and the first fault of a cell, or else that of the form.
-    ensures fault { (r : Reason) (k : ℕ)
-        → UnlessMemory result ((result ≡ Err (fault.Refused r k)) ↔ IsUnwritable version (list (trees_of (shapes members.now.items))) k r) }
-    ensures pack { (r : PackReason) (o : ℕ)
-        → UnlessMemory result ((result ≡ Err (fault.Pack r o))
-        ↔ HasBadForm version (list (trees_of (shapes members.now.items))) r o) }
+    ensures value { WritesForm version (list (trees_of (shapes members.now.items))) result }
+    ensures fault { WritesFault version (list (trees_of (shapes members.now.items))) result }
+    ensures pack { WritesPackFault version (list (trees_of (shapes members.now.items))) result }
     ensures memory { result ≡ Err fault.Memory → IsWritable version (list (trees_of (shapes members.now.items))) }
 {
-    write_list(alloc, version, members)
+    write_list(Scope { alloc, version }, members)
 }
 
 #[tactic(auto, using(cells::proofs::Fine::fine_scan, crate::proofs::Formed::writable_when, crate::proofs::Clauses::dict_packed))]
-fn write_dict(
-    alloc: Global,
-    version: Version,
-    pairs: &Vec<(String, Cell)>,
-) -> Result<Packed, CellFault>
-    ensures { Writes version (dict (entries_of (entries pairs.now.items))) result }
+fn write_dict(scope: Scope, pairs: &Vec<(String, Cell)>) -> Result<Packed, CellFault>
+    ensures { Writes scope.version (dict (entries_of (entries pairs.now.items))) result }
 {
-    match check_entries(version, pairs, 0) {
+    match check_entries(scope.version, pairs, 0) {
         Err((reason, number)) => Err(CellFault::Refused(reason, number)),
-        Ok(_) => pack(alloc, Value::Dict(pair_values(alloc, version, pairs)?)),
+        Ok(_) => pack(scope.alloc, Value::Dict(pair_values(scope, pairs)?)),
     }
 }
 
@@ -145,18 +120,10 @@ pub fn write_entries(
     version: Version,
     pairs: &Vec<(String, Cell)>,
 ) -> Result<Packed, CellFault>
-    // Apart from memory, it is the cell's form, if the cell has one and that is good ..
-    ensures value { (t : Tree)
-        → UnlessMemory result ((result ≡ Ok t)
-        ↔ HasGoodForm version (dict (entries_of (entries pairs.now.items))) t) }
-
-    // .. and the first fault of a cell, or else that of the form.
-    ensures fault { (r : Reason) (k : ℕ)
-        → UnlessMemory result ((result ≡ Err (fault.Refused r k)) ↔ IsUnwritable version (dict (entries_of (entries pairs.now.items))) k r) }
-    ensures pack { (r : PackReason) (o : ℕ)
-        → UnlessMemory result ((result ≡ Err (fault.Pack r o))
-        ↔ HasBadForm version (dict (entries_of (entries pairs.now.items))) r o) }
+    ensures value { WritesForm version (dict (entries_of (entries pairs.now.items))) result }
+    ensures fault { WritesFault version (dict (entries_of (entries pairs.now.items))) result }
+    ensures pack { WritesPackFault version (dict (entries_of (entries pairs.now.items))) result }
     ensures memory { result ≡ Err fault.Memory → IsWritable version (dict (entries_of (entries pairs.now.items))) }
 {
-    write_dict(alloc, version, pairs)
+    write_dict(Scope { alloc, version }, pairs)
 }

@@ -4,8 +4,9 @@ ghost use Rattle.cells.specs.Shape.{shape, node_shape, unbound_shape, relationsh
 ghost use Rattle.structures.specs.Fitting.{fitted, fitted_entry, element_at, elements_at, Fits};
 
 use crate::fault::CellFault;
+use crate::scope::{Made, Scope};
 use cells::{Cell, ElementIds, Node, Path, Relationship, UnboundRelationship};
-use std::alloc::{AllocError, Global};
+use std::alloc::Global;
 use wire::Version;
 
 /// The cell in the form of a version: without element ids if it has none, and else with the decimal texts of the
@@ -15,165 +16,131 @@ pub fn fit(alloc: Global, cell: Cell, version: Version) -> Result<Cell, CellFaul
     ensures { Fits version (shape cell) result }
 {
     let mut fitted = cell;
-    fit_cell(alloc, version, &mut fitted)?;
+    fit_cell(Scope { alloc, version }, &mut fitted)?;
     Ok(fitted)
 }
 
 /// The element id of a node or of a relationship in a path.
-fn fit_element(
-    alloc: Global,
-    version: Version,
-    id: i64,
-    element_id: &mut Option<String>,
-) -> Result<(), AllocError>
+fn fit_element(scope: Scope, id: i64, element_id: &mut Option<String>) -> Made<()>
     ensures { IfOk result (λ _. element_of element_id.new
-        ≡ element_at version id (element_of element_id.old)) }
+        ≡ element_at scope.version id (element_of element_id.old)) }
 {
-    if !version.has_element_ids() {
+    if !scope.version.has_element_ids() {
         *element_id = None;
     } else if element_id.is_none() {
-        *element_id = Some(id.to_string(alloc)?);
+        *element_id = Some(id.to_string(scope.alloc)?);
     }
     Ok(())
 }
 
 /// The element ids of a relationship.
-fn fit_elements(
-    alloc: Global,
-    version: Version,
-    id: i64,
-    start: i64,
-    end: i64,
-    element_ids: &mut Option<ElementIds>,
-) -> Result<(), AllocError>
-    ensures { IfOk result (λ _. elements_of element_ids.new
-        ≡ elements_at version id start end (elements_of element_ids.old)) }
+fn fit_ids(scope: Scope, id: i64, start: i64, end: i64, ids: &mut Option<ElementIds>) -> Made<()>
+    ensures { IfOk result (λ _. elements_of ids.new
+        ≡ elements_at scope.version id start end (elements_of ids.old)) }
 {
-    if !version.has_element_ids() {
-        *element_ids = None;
-    } else if element_ids.is_none() {
-        let own = id.to_string(alloc)?;
-        let start = start.to_string(alloc)?;
-        let end = end.to_string(alloc)?;
-        *element_ids = Some(ElementIds { own, start, end });
+    if !scope.version.has_element_ids() {
+        *ids = None;
+    } else if ids.is_none() {
+        let own = id.to_string(scope.alloc)?;
+        let start = start.to_string(scope.alloc)?;
+        let end = end.to_string(scope.alloc)?;
+        *ids = Some(ElementIds { own, start, end });
     }
     Ok(())
 }
 
 #[cycle(fitting)]
 #[tactic(auto, using(crate::proofs::Fitted::fit_list_is, crate::proofs::Fitted::fit_dict_is))]
-fn fit_cell(alloc: Global, version: Version, cell: &mut Cell) -> Result<(), AllocError>
-    ensures { IfOk result (λ _. shape cell.new ≡ fitted version (shape cell.old)) }
+fn fit_cell(scope: Scope, cell: &mut Cell) -> Made<()>
+    ensures { IfOk result (λ _. shape cell.new ≡ fitted scope.version (shape cell.old)) }
 {
     match cell {
-        Cell::List(members) => fit_members(alloc, version, members)?,
-        Cell::Dict(pairs) => fit_pairs(alloc, version, pairs)?,
-        Cell::Node(node) => fit_node(alloc, version, node)?,
-        Cell::Relationship(relationship) => fit_relationship(alloc, version, relationship)?,
-        Cell::UnboundRelationship(unbound) => fit_unbound(alloc, version, unbound)?,
-        Cell::Path(path) => fit_path(alloc, version, path)?,
+        Cell::List(members) => fit_members(scope, members)?,
+        Cell::Dict(pairs) => fit_pairs(scope, pairs)?,
+        Cell::Node(node) => fit_node(scope, node)?,
+        Cell::Relationship(relationship) => fit_relationship(scope, relationship)?,
+        Cell::UnboundRelationship(unbound) => fit_unbound(scope, unbound)?,
+        Cell::Path(path) => fit_path(scope, path)?,
         _ => {}
     }
     Ok(())
 }
 
 #[cycle(fitting)]
-fn fit_members(alloc: Global, version: Version, members: &mut Vec<Cell>) -> Result<(), AllocError>
+fn fit_members(scope: Scope, members: &mut Vec<Cell>) -> Made<()>
     ensures { IfOk result (λ _. shapes members.new.items
-        ≡ map (fitted version) (shapes members.old.items)) }
+        ≡ map (fitted scope.version) (shapes members.old.items)) }
 {
     for i in 0..members.len() {
-        fit_cell(alloc, version, &mut members[i])?;
+        fit_cell(scope, &mut members[i])?;
     }
     Ok(())
 }
 
 #[cycle(fitting)]
-fn fit_pairs(
-    alloc: Global,
-    version: Version,
-    pairs: &mut Vec<(String, Cell)>,
-) -> Result<(), AllocError>
+fn fit_pairs(scope: Scope, pairs: &mut Vec<(String, Cell)>) -> Made<()>
     ensures { IfOk result (λ _. entries pairs.new.items
-        ≡ map (fitted_entry version) (entries pairs.old.items)) }
+        ≡ map (fitted_entry scope.version) (entries pairs.old.items)) }
 {
     for i in 0..pairs.len() {
-        fit_cell(alloc, version, &mut pairs[i].1)?;
+        fit_cell(scope, &mut pairs[i].1)?;
     }
     Ok(())
 }
 
 #[cycle(fitting)]
-fn fit_nodes(alloc: Global, version: Version, nodes: &mut Vec<Node>) -> Result<(), AllocError>
+fn fit_nodes(scope: Scope, nodes: &mut Vec<Node>) -> Made<()>
     ensures { IfOk result (λ _. map node_shape nodes.new.items
-        ≡ map (fitted version) (map node_shape nodes.old.items)) }
+        ≡ map (fitted scope.version) (map node_shape nodes.old.items)) }
 {
     for i in 0..nodes.len() {
-        fit_node(alloc, version, &mut nodes[i])?;
+        fit_node(scope, &mut nodes[i])?;
     }
     Ok(())
 }
 
 #[cycle(fitting)]
-fn fit_unbounds(
-    alloc: Global,
-    version: Version,
-    relationships: &mut Vec<UnboundRelationship>,
-) -> Result<(), AllocError>
+fn fit_unbounds(scope: Scope, relationships: &mut Vec<UnboundRelationship>) -> Made<()>
     ensures { IfOk result (λ _. map unbound_shape relationships.new.items
-        ≡ map (fitted version) (map unbound_shape relationships.old.items)) }
+        ≡ map (fitted scope.version) (map unbound_shape relationships.old.items)) }
 {
     for i in 0..relationships.len() {
-        fit_unbound(alloc, version, &mut relationships[i])?;
+        fit_unbound(scope, &mut relationships[i])?;
     }
     Ok(())
 }
 
 #[cycle(fitting)]
-fn fit_path(alloc: Global, version: Version, path: &mut Path) -> Result<(), AllocError>
-    ensures { IfOk result (λ _. path_shape path.new ≡ fitted version (path_shape path.old)) }
+fn fit_path(scope: Scope, path: &mut Path) -> Made<()>
+    ensures { IfOk result (λ _. path_shape path.new ≡ fitted scope.version (path_shape path.old)) }
 {
-    fit_nodes(alloc, version, &mut path.nodes)?;
-    fit_unbounds(alloc, version, &mut path.relationships)
+    fit_nodes(scope, &mut path.nodes)?;
+    fit_unbounds(scope, &mut path.relationships)
 }
 
 #[cycle(fitting)]
-fn fit_node(alloc: Global, version: Version, node: &mut Node) -> Result<(), AllocError>
-    ensures { IfOk result (λ _. node_shape node.new ≡ fitted version (node_shape node.old)) }
+fn fit_node(scope: Scope, node: &mut Node) -> Made<()>
+    ensures { IfOk result (λ _. node_shape node.new ≡ fitted scope.version (node_shape node.old)) }
 {
-    fit_pairs(alloc, version, &mut node.properties)?;
-    fit_element(alloc, version, node.id, &mut node.element_id)
+    fit_pairs(scope, &mut node.properties)?;
+    fit_element(scope, node.id, &mut node.element_id)
 }
 
 #[cycle(fitting)]
-fn fit_unbound(
-    alloc: Global,
-    version: Version,
-    unbound: &mut UnboundRelationship,
-) -> Result<(), AllocError>
+fn fit_unbound(scope: Scope, unbound: &mut UnboundRelationship) -> Made<()>
     ensures { IfOk result (λ _. unbound_shape unbound.new
-        ≡ fitted version (unbound_shape unbound.old)) }
+        ≡ fitted scope.version (unbound_shape unbound.old)) }
 {
-    fit_pairs(alloc, version, &mut unbound.properties)?;
-    fit_element(alloc, version, unbound.id, &mut unbound.element_id)
+    fit_pairs(scope, &mut unbound.properties)?;
+    fit_element(scope, unbound.id, &mut unbound.element_id)
 }
 
 #[cycle(fitting)]
-fn fit_relationship(
-    alloc: Global,
-    version: Version,
-    relationship: &mut Relationship,
-) -> Result<(), AllocError>
+fn fit_relationship(scope: Scope, relationship: &mut Relationship) -> Made<()>
     ensures { IfOk result (λ _. relationship_shape relationship.new
-        ≡ fitted version (relationship_shape relationship.old)) }
+        ≡ fitted scope.version (relationship_shape relationship.old)) }
 {
-    fit_pairs(alloc, version, &mut relationship.properties)?;
-    fit_elements(
-        alloc,
-        version,
-        relationship.id,
-        relationship.start,
-        relationship.end,
-        &mut relationship.element_ids,
-    )
+    fit_pairs(scope, &mut relationship.properties)?;
+    let (id, start, end) = (relationship.id, relationship.start, relationship.end);
+    fit_ids(scope, id, start, end, &mut relationship.element_ids)
 }

@@ -10,6 +10,7 @@ mod form;
 pub mod laws;
 mod plain;
 mod reader;
+mod scope;
 mod writer;
 
 pub use cells::{Cell, ElementIds, Node, Path, Reason, Relationship, UnboundRelationship, same};

@@ -1,16 +1,16 @@
 //! Values of cells.
-ghost use Rattle.std.specs.Prelude.{◌≡◌, IfOk, map, None, true};
-ghost use Rattle.packstream.specs.Prelude.{int, float, structure, no_trees, tree_then, tree, trees, trees_of, entries_of, entries as seen_entries};
-ghost use Rattle.cells.specs.Prelude.{structures, structures_in, structures_under, all_fine, fault_of_structure, shape, shapes, entries, node_shape, unbound_shape, relationship_shape, path_shape, text_of, texts_of, element_of, elements_of, relationship_tag, date_time_tag};
-ghost use Rattle.structures.specs.Prelude.{form, form_entry};
+ghost use Rattle.std.specs.Prelude.{◌≡◌, IfOk, map, None};
+ghost use Rattle.packstream.specs.Prelude.{int, float, list, dict, structure, no_trees, tree_then, tree, trees, trees_of, entries_of, entries as seen_entries};
+ghost use Rattle.cells.specs.Prelude.{fault_of_structure, shape, shapes, entries, node_shape, unbound_shape, relationship_shape, path_shape, text_of, texts_of, element_of, elements_of, relationship_tag, date_time_tag};
+ghost use Rattle.structures.specs.Prelude.{form, form_entry, Passes, date_time_fields};
 
+use crate::scope::{Made, Scope};
 use cells::{Cell, ElementIds, Node, Path, Relationship, UnboundRelationship, tags};
 use packstream::Value;
-use std::alloc::{AllocError, Global};
-use wire::Version;
+use std::alloc::Global;
 
 /// Numbers as values.
-fn int_values(alloc: Global, ints: &[i64]) -> Result<Vec<Value>, AllocError>
+fn int_values(alloc: Global, ints: &[i64]) -> Made<Vec<Value>>
     ensures { IfOk result (λ v. trees v.items ≡ map int ints.now) }
 {
     let mut values = Vec::with_capacity(alloc, ints.len())?;
@@ -21,14 +21,14 @@ fn int_values(alloc: Global, ints: &[i64]) -> Result<Vec<Value>, AllocError>
 }
 
 /// A structure of numbers.
-fn of_ints(alloc: Global, tag: u8, ints: &[i64]) -> Result<Value, AllocError>
+fn of_ints(alloc: Global, tag: u8, ints: &[i64]) -> Made<Value>
     ensures { IfOk result (λ w. tree w ≡ structure tag (trees_of (map int ints.now))) }
 {
     Ok(Value::Struct(tag, int_values(alloc, ints)?))
 }
 
 /// A list of texts.
-fn list_of_texts(alloc: Global, texts: &Vec<String>) -> Result<Value, AllocError>
+fn list_of_texts(alloc: Global, texts: &Vec<String>) -> Made<Value>
     ensures { IfOk result (λ w. tree w ≡ texts_of texts.now.items) }
 {
     let mut members = Vec::with_capacity(alloc, texts.len())?;
@@ -39,7 +39,7 @@ fn list_of_texts(alloc: Global, texts: &Vec<String>) -> Result<Value, AllocError
 }
 
 /// A number, then floats.
-fn of_point(alloc: Global, tag: u8, srid: i64, floats: &[u64]) -> Result<Value, AllocError>
+fn of_point(alloc: Global, tag: u8, srid: i64, floats: &[u64]) -> Made<Value>
     ensures { IfOk result (λ w. tree w
         ≡ structure tag (tree_then (int srid) (trees_of (map float floats.now)))) }
 {
@@ -51,22 +51,14 @@ fn of_point(alloc: Global, tag: u8, srid: i64, floats: &[u64]) -> Result<Value, 
 }
 
 /// Two numbers and a zone.
-fn of_zoned(
-    alloc: Global,
-    tag: u8,
-    seconds: i64,
-    nanos: i64,
-    zone: &String,
-) -> Result<Value, AllocError>
+fn of_zoned(alloc: Global, tag: u8, seconds: i64, nanos: i64, zone: &String) -> Made<Value>
     ensures { IfOk result (λ w. tree w
         ≡ structure tag (tree_then (int seconds)
         (tree_then (int nanos) (tree_then (text_of zone.now) no_trees)))) }
 {
     let zone = Value::Text(zone.clone()?);
-    Ok(Value::Struct(
-        tag,
-        vec![in alloc; Value::Int(seconds), Value::Int(nanos), zone]?,
-    ))
+    let fields = vec![in alloc; Value::Int(seconds), Value::Int(nanos), zone]?;
+    Ok(Value::Struct(tag, fields))
 }
 
 /// Three fields, and the element id if it is there.
@@ -77,7 +69,7 @@ fn of_named(
     second: Value,
     third: Value,
     id: &Option<String>,
-) -> Result<Value, AllocError>
+) -> Made<Value>
     ensures { IfOk result (λ w. tree w
         ≡ structure tag (tree_then (tree first)
         (tree_then (tree second) (tree_then (tree third) (element_of id.now))))) }
@@ -92,36 +84,27 @@ fn of_named(
 }
 
 /// The fields of a DateTime, with local seconds if the version has no UTC times.
-fn of_moment(
-    alloc: Global,
-    version: Version,
-    utc: i64,
-    nanos: i64,
-    offset: i64,
-) -> Result<Value, AllocError>
-    requires { fault_of_structure version date_time_tag
-        (tree_then (int utc) (tree_then (int nanos) (tree_then (int offset) no_trees))) ≡ None }
+fn of_moment(scope: Scope, utc: i64, nanos: i64, offset: i64) -> Made<Value>
+    requires { fault_of_structure scope.version date_time_tag (date_time_fields utc nanos offset)
+        ≡ None }
     ensures { IfOk result (λ w. tree w
-        ≡ form version (structure date_time_tag
-        (tree_then (int utc) (tree_then (int nanos)
-        (tree_then (int offset) no_trees))))) }
+        ≡ form scope.version (structure date_time_tag (date_time_fields utc nanos offset))) }
 {
-    if version.has_utc_times() {
+    let alloc = scope.alloc;
+    if scope.version.has_utc_times() {
         of_ints(alloc, tags::DATE_TIME, &[utc, nanos, offset])
     } else {
-        of_ints(
-            alloc,
-            tags::LEGACY_DATE_TIME,
-            &[utc + offset, nanos, offset],
-        )
+        let local = utc + offset;
+        of_ints(alloc, tags::LEGACY_DATE_TIME, &[local, nanos, offset])
     }
 }
 
 #[cycle(write)]
-pub(crate) fn value_of(alloc: Global, version: Version, cell: &Cell) -> Result<Value, AllocError>
-    requires { all_fine (fault_of_structure version) (structures (shape cell.now)) ≡ true }
-    ensures { IfOk result (λ w. tree w ≡ form version (shape cell.now)) }
+pub(crate) fn value_of(scope: Scope, cell: &Cell) -> Made<Value>
+    requires { Passes scope.version (shape cell.now) }
+    ensures { IfOk result (λ w. tree w ≡ form scope.version (shape cell.now)) }
 {
+    let alloc = scope.alloc;
     match cell {
         Cell::Null => Ok(Value::Null),
         Cell::Bool(b) => Ok(Value::Bool(*b)),
@@ -129,21 +112,19 @@ pub(crate) fn value_of(alloc: Global, version: Version, cell: &Cell) -> Result<V
         Cell::Float(bits) => Ok(Value::Float(*bits)),
         Cell::Bytes(bytes) => Ok(Value::Bytes(bytes.clone()?)),
         Cell::Text(text) => Ok(Value::Text(text.clone()?)),
-        Cell::List(members) => Ok(Value::List(values_of(alloc, version, members)?)),
-        Cell::Dict(pairs) => Ok(Value::Dict(pair_values(alloc, version, pairs)?)),
-        Cell::Node(node) => node_value(alloc, version, node),
-        Cell::UnboundRelationship(unbound) => unbound_value(alloc, version, unbound),
-        Cell::Relationship(relationship) => relationship_value(alloc, version, relationship),
-        Cell::Path(path) => path_value(alloc, version, path),
+        Cell::List(members) => Ok(Value::List(values_of(scope, members)?)),
+        Cell::Dict(pairs) => Ok(Value::Dict(pair_values(scope, pairs)?)),
+        Cell::Node(node) => node_value(scope, node),
+        Cell::UnboundRelationship(unbound) => unbound_value(scope, unbound),
+        Cell::Relationship(relationship) => relationship_value(scope, relationship),
+        Cell::Path(path) => path_value(scope, path),
         Cell::Date { days } => of_ints(alloc, tags::DATE, &[*days]),
         Cell::Time { nanos, offset } => of_ints(alloc, tags::TIME, &[*nanos, *offset]),
         Cell::LocalTime { nanos } => of_ints(alloc, tags::LOCAL_TIME, &[*nanos]),
-        Cell::LocalDateTime { seconds, nanos } => of_ints(
-            alloc,
-            tags::LOCAL_DATE_TIME,
-            &[*seconds, *nanos],
-        ),
-        Cell::DateTime { utc, nanos, offset } => of_moment(alloc, version, *utc, *nanos, *offset),
+        Cell::LocalDateTime { seconds, nanos } => {
+            of_ints(alloc, tags::LOCAL_DATE_TIME, &[*seconds, *nanos])
+        }
+        Cell::DateTime { utc, nanos, offset } => of_moment(scope, *utc, *nanos, *offset),
         Cell::ZonedLocal {
             seconds,
             nanos,
@@ -166,74 +147,56 @@ pub(crate) fn value_of(alloc: Global, version: Version, cell: &Cell) -> Result<V
 }
 
 #[cycle(write)]
-pub(crate) fn values_of(
-    alloc: Global,
-    version: Version,
-    members: &Vec<Cell>,
-) -> Result<Vec<Value>, AllocError>
-    requires { all_fine (fault_of_structure version)
-        (structures_in (trees_of (shapes members.now.items))) ≡ true }
-    ensures { IfOk result (λ v. trees v.items ≡ map (form version) (shapes members.now.items)) }
+pub(crate) fn values_of(scope: Scope, members: &Vec<Cell>) -> Made<Vec<Value>>
+    requires { Passes scope.version (list (trees_of (shapes members.now.items))) }
+    ensures { IfOk result (λ v. trees v.items
+        ≡ map (form scope.version) (shapes members.now.items)) }
 {
-    let mut values = Vec::with_capacity(alloc, members.len())?;
+    let mut values = Vec::with_capacity(scope.alloc, members.len())?;
     for member in members {
-        values.push(value_of(alloc, version, member)?)?;
+        values.push(value_of(scope, member)?)?;
     }
     Ok(values)
 }
 
 #[cycle(write)]
-pub(crate) fn pair_values(
-    alloc: Global,
-    version: Version,
-    pairs: &Vec<(String, Cell)>,
-) -> Result<Vec<(String, Value)>, AllocError>
-    requires { all_fine (fault_of_structure version)
-        (structures_under (entries_of (entries pairs.now.items))) ≡ true }
+pub(crate) fn pair_values(scope: Scope, pairs: &Vec<(String, Cell)>) -> Made<Vec<(String, Value)>>
+    requires { Passes scope.version (dict (entries_of (entries pairs.now.items))) }
     ensures { IfOk result (λ v. seen_entries v.items
-        ≡ map (form_entry version) (entries pairs.now.items)) }
+        ≡ map (form_entry scope.version) (entries pairs.now.items)) }
 {
-    let mut values = Vec::with_capacity(alloc, pairs.len())?;
+    let mut values = Vec::with_capacity(scope.alloc, pairs.len())?;
     for (key, cell) in pairs {
         let name = key.clone()?;
-        values.push((name, value_of(alloc, version, cell)?))?;
+        values.push((name, value_of(scope, cell)?))?;
     }
     Ok(values)
 }
 
 #[cycle(write)]
-fn node_value(alloc: Global, version: Version, node: &Node) -> Result<Value, AllocError>
-    requires { all_fine (fault_of_structure version) (structures (node_shape node.now)) ≡ true }
-    ensures { IfOk result (λ w. tree w ≡ form version (node_shape node.now)) }
+fn node_value(scope: Scope, node: &Node) -> Made<Value>
+    requires { Passes scope.version (node_shape node.now) }
+    ensures { IfOk result (λ w. tree w ≡ form scope.version (node_shape node.now)) }
 {
-    Ok(of_named(
-        alloc,
-        tags::NODE,
-        Value::Int(node.id),
-        list_of_texts(alloc, &node.labels)?,
-        Value::Dict(pair_values(alloc, version, &node.properties)?),
-        &node.element_id,
-    )?)
+    let alloc = scope.alloc;
+    let id = Value::Int(node.id);
+    let labels = list_of_texts(alloc, &node.labels)?;
+    let properties = Value::Dict(pair_values(scope, &node.properties)?);
+    let value = of_named(alloc, tags::NODE, id, labels, properties, &node.element_id)?;
+    Ok(value)
 }
 
 #[cycle(write)]
-fn unbound_value(
-    alloc: Global,
-    version: Version,
-    unbound: &UnboundRelationship,
-) -> Result<Value, AllocError>
-    requires { all_fine (fault_of_structure version) (structures (unbound_shape unbound.now))
-        ≡ true }
-    ensures { IfOk result (λ w. tree w ≡ form version (unbound_shape unbound.now)) }
+fn unbound_value(scope: Scope, unbound: &UnboundRelationship) -> Made<Value>
+    requires { Passes scope.version (unbound_shape unbound.now) }
+    ensures { IfOk result (λ w. tree w ≡ form scope.version (unbound_shape unbound.now)) }
 {
-    Ok(of_named(
-        alloc,
-        tags::UNBOUND_RELATIONSHIP,
-        Value::Int(unbound.id),
-        Value::Text(unbound.kind.clone()?),
-        Value::Dict(pair_values(alloc, version, &unbound.properties)?),
-        &unbound.element_id,
-    )?)
+    let (alloc, tag) = (scope.alloc, tags::UNBOUND_RELATIONSHIP);
+    let id = Value::Int(unbound.id);
+    let kind = Value::Text(unbound.kind.clone()?);
+    let properties = Value::Dict(pair_values(scope, &unbound.properties)?);
+    let value = of_named(alloc, tag, id, kind, properties, &unbound.element_id)?;
+    Ok(value)
 }
 
 /// Five fields, and the element ids if they are there.
@@ -245,100 +208,75 @@ fn of_bound(
     kind: Value,
     properties: Value,
     ids: &Option<ElementIds>,
-) -> Result<Value, AllocError>
+) -> Made<Value>
     ensures { IfOk result (λ w. tree w
         ≡ structure relationship_tag
         (tree_then (int id) (tree_then (int start)
         (tree_then (int end) (tree_then (tree kind)
         (tree_then (tree properties) (elements_of ids.now))))))) }
 {
+    let (id, start, end) = (Value::Int(id), Value::Int(start), Value::Int(end));
     match ids {
         None => Ok(Value::Struct(
             tags::RELATIONSHIP,
-            vec![in alloc;
-                Value::Int(id),
-                Value::Int(start),
-                Value::Int(end),
-                kind,
-                properties,
-            ]?,
+            vec![in alloc; id, start, end, kind, properties]?,
         )),
-        Some(ids) => Ok(Value::Struct(
-            tags::RELATIONSHIP,
-            vec![in alloc;
-                Value::Int(id),
-                Value::Int(start),
-                Value::Int(end),
-                kind,
-                properties,
-                Value::Text(ids.own.clone()?),
-                Value::Text(ids.start.clone()?),
-                Value::Text(ids.end.clone()?),
-            ]?,
-        )),
+        Some(ids) => {
+            let own = Value::Text(ids.own.clone()?);
+            let first = Value::Text(ids.start.clone()?);
+            let last = Value::Text(ids.end.clone()?);
+            let fields = vec![in alloc; id, start, end, kind, properties, own, first, last]?;
+            Ok(Value::Struct(tags::RELATIONSHIP, fields))
+        }
     }
 }
 
 #[cycle(write)]
-fn relationship_value(
-    alloc: Global,
-    version: Version,
-    relationship: &Relationship,
-) -> Result<Value, AllocError>
-    requires { all_fine (fault_of_structure version)
-        (structures (relationship_shape relationship.now)) ≡ true }
-    ensures { IfOk result (λ w. tree w ≡ form version (relationship_shape relationship.now)) }
+fn relationship_value(scope: Scope, relationship: &Relationship) -> Made<Value>
+    requires { Passes scope.version (relationship_shape relationship.now) }
+    ensures { IfOk result (λ w. tree w ≡ form scope.version (relationship_shape relationship.now)) }
 {
-    Ok(of_bound(
-        alloc,
-        relationship.id,
-        relationship.start,
-        relationship.end,
-        Value::Text(relationship.kind.clone()?),
-        Value::Dict(pair_values(alloc, version, &relationship.properties)?),
-        &relationship.element_ids,
-    )?)
+    let (id, start, end) = (relationship.id, relationship.start, relationship.end);
+    let kind = Value::Text(relationship.kind.clone()?);
+    let properties = Value::Dict(pair_values(scope, &relationship.properties)?);
+    let ids = &relationship.element_ids;
+    let value = of_bound(scope.alloc, id, start, end, kind, properties, ids)?;
+    Ok(value)
 }
 
 #[cycle(write)]
-fn path_value(alloc: Global, version: Version, path: &Path) -> Result<Value, AllocError>
-    requires { all_fine (fault_of_structure version) (structures (path_shape path.now)) ≡ true }
-    ensures { IfOk result (λ w. tree w ≡ form version (path_shape path.now)) }
+fn path_value(scope: Scope, path: &Path) -> Made<Value>
+    requires { Passes scope.version (path_shape path.now) }
+    ensures { IfOk result (λ w. tree w ≡ form scope.version (path_shape path.now)) }
 {
-    let places = Value::List(node_values(alloc, version, &path.nodes)?);
-    let ways = Value::List(unbound_values(alloc, version, &path.relationships)?);
-    let steps = Value::List(int_values(alloc, &path.indices)?);
-    Ok(of_named(alloc, tags::PATH, places, ways, steps, &None)?)
+    let places = Value::List(node_values(scope, &path.nodes)?);
+    let ways = Value::List(unbound_values(scope, &path.relationships)?);
+    let steps = Value::List(int_values(scope.alloc, &path.indices)?);
+    Ok(of_named(scope.alloc, tags::PATH, places, ways, steps, &None)?)
 }
 
 #[cycle(write)]
-fn node_values(alloc: Global, version: Version, nodes: &Vec<Node>) -> Result<Vec<Value>, AllocError>
-    requires { all_fine (fault_of_structure version)
-        (structures_in (trees_of (map node_shape nodes.now.items))) ≡ true }
+fn node_values(scope: Scope, nodes: &Vec<Node>) -> Made<Vec<Value>>
+    requires { Passes scope.version (list (trees_of (map node_shape nodes.now.items))) }
     ensures { IfOk result (λ v. trees v.items
-        ≡ map (form version) (map node_shape nodes.now.items)) }
+        ≡ map (form scope.version) (map node_shape nodes.now.items)) }
 {
-    let mut values = Vec::with_capacity(alloc, nodes.len())?;
+    let mut values = Vec::with_capacity(scope.alloc, nodes.len())?;
     for node in nodes {
-        values.push(node_value(alloc, version, node)?)?;
+        values.push(node_value(scope, node)?)?;
     }
     Ok(values)
 }
 
 #[cycle(write)]
-fn unbound_values(
-    alloc: Global,
-    version: Version,
-    relationships: &Vec<UnboundRelationship>,
-) -> Result<Vec<Value>, AllocError>
-    requires { all_fine (fault_of_structure version)
-        (structures_in (trees_of (map unbound_shape relationships.now.items))) ≡ true }
+fn unbound_values(scope: Scope, relationships: &Vec<UnboundRelationship>) -> Made<Vec<Value>>
+    requires { Passes scope.version (list (trees_of (map unbound_shape relationships.now.items))) }
     ensures { IfOk result (λ v. trees v.items
-        ≡ map (form version) (map unbound_shape relationships.now.items)) }
+        ≡ map (form scope.version) (map unbound_shape relationships.now.items)) }
 {
-    let mut values = Vec::with_capacity(alloc, relationships.len())?;
+    let mut values = Vec::with_capacity(scope.alloc, relationships.len())?;
     for unbound in relationships {
-        values.push(unbound_value(alloc, version, unbound)?)?;
+        values.push(unbound_value(scope, unbound)?)?;
     }
     Ok(values)
 }

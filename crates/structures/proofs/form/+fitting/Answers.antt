@@ -1,6 +1,6 @@
 use Rattle.std.proofs.Common.{◌≡◌, to_z, of_z, w64, rules, refl}
 use Rattle.std.proofs.lemmas.Result.{IfOk-weaker}
-use Rattle.cells.specs.declared.cell.Cell.{the_lemmas}
+use Rattle.structures.proofs.Prelude.{the_lemmas}
 use Rattle.structures.proofs.Fitted.{fit_node_case, fit_relationship_case, fit_unbound_case, fit_path_case, fit_node_is, fit_unbound_is, fit_relationship_is, fit_path_in_turn}
 use Rattle.structures.proofs.form.+fitting.Goals as goal
 
@@ -9,42 +9,42 @@ fit_cell-returns-in_ok-fit_node-in-Node t c =
     let same : c.deref_mut.result.now ≡ c.in-Node.node.value = search (rules, the_lemmas) in
     let new = record c.in-Node.node { value = c.fit_node.new.node } in
     let h = rw same at c.in_ok-fit_node-in-Node.ensures in
-    search (rules, the_lemmas, fit_node_case c.args.version new c.in-Node.node h)
+    search (rules, the_lemmas, fit_node_case c.args.scope.version new c.in-Node.node h)
 
 pub fit_cell-returns-in_ok-fit_relationship-in-Relationship : goal.fit_cell-returns-in_ok-fit_relationship-in-Relationship
 fit_cell-returns-in_ok-fit_relationship-in-Relationship t c =
     let same : c.deref_mut-in-Relationship.result.now ≡ c.in-Relationship.relationship.value = search (rules, the_lemmas) in
     let new = record c.in-Relationship.relationship { value = c.fit_relationship.new.relationship } in
     let h = rw same at c.in_ok-fit_relationship-in-Relationship.ensures in
-    search (rules, the_lemmas, fit_relationship_case c.args.version new c.in-Relationship.relationship h)
+    search (rules, the_lemmas, fit_relationship_case c.args.scope.version new c.in-Relationship.relationship h)
 
 pub fit_cell-returns-in_ok-fit_unbound-in-UnboundRelationship : goal.fit_cell-returns-in_ok-fit_unbound-in-UnboundRelationship
 fit_cell-returns-in_ok-fit_unbound-in-UnboundRelationship t c =
     let same : c.deref_mut-in-UnboundRelationship.result.now ≡ c.in-UnboundRelationship.unbound.value = search (rules, the_lemmas) in
     let new = record c.in-UnboundRelationship.unbound { value = c.fit_unbound.new.unbound } in
     let h = rw same at c.in_ok-fit_unbound-in-UnboundRelationship.ensures in
-    search (rules, the_lemmas, fit_unbound_case c.args.version new c.in-UnboundRelationship.unbound h)
+    search (rules, the_lemmas, fit_unbound_case c.args.scope.version new c.in-UnboundRelationship.unbound h)
 
 pub fit_cell-returns-in_ok-fit_path-in-Path : goal.fit_cell-returns-in_ok-fit_path-in-Path
 fit_cell-returns-in_ok-fit_path-in-Path t c =
     let same : c.deref_mut-in-Path.result.now ≡ c.in-Path.path.value = search (rules, the_lemmas) in
     let new = record c.in-Path.path { value = c.fit_path.new.path } in
     let h = rw same at c.in_ok-fit_path-in-Path.ensures in
-    search (rules, the_lemmas, fit_path_case c.args.version new c.in-Path.path h)
+    search (rules, the_lemmas, fit_path_case c.args.scope.version new c.in-Path.path h)
 
 pub fit_path-returns : goal.fit_path-returns
 fit_path-returns t c =
-    IfOk-weaker c.fit_unbounds.result _ _ (λ x h. fit_path_in_turn c.args.version c.args.path.now c.fit_nodes.new.nodes c.fit_unbounds.new.relationships c.in_ok-fit_nodes.ensures h) c.fit_unbounds.ensures
+    IfOk-weaker c.fit_unbounds.result _ _ (λ x h. fit_path_in_turn c.args.scope.version c.args.path.now c.fit_nodes.new.nodes c.fit_unbounds.new.relationships c.in_ok-fit_nodes.ensures h) c.fit_unbounds.ensures
 
 pub fit_node-returns : goal.fit_node-returns
 fit_node-returns t c =
     let z : to_z w64 (of_z w64 c.args.node.now.id) ≡ c.args.node.now.id = search rules in
-    IfOk-weaker c.fit_element.result _ _ (λ x h. fit_node_is c.args.version _ c.args.node.now refl refl c.in_ok-fit_pairs.ensures (rw z at h)) c.fit_element.ensures
+    IfOk-weaker c.fit_element.result _ _ (λ x h. fit_node_is c.args.scope.version _ c.args.node.now refl refl c.in_ok-fit_pairs.ensures (rw z at h)) c.fit_element.ensures
 
 pub fit_unbound-returns : goal.fit_unbound-returns
 fit_unbound-returns t c =
     let z : to_z w64 (of_z w64 c.args.unbound.now.id) ≡ c.args.unbound.now.id = search rules in
-    IfOk-weaker c.fit_element.result _ _ (λ x h. fit_unbound_is c.args.version _ c.args.unbound.now refl refl c.in_ok-fit_pairs.ensures (rw z at h)) c.fit_element.ensures
+    IfOk-weaker c.fit_element.result _ _ (λ x h. fit_unbound_is c.args.scope.version _ c.args.unbound.now refl refl c.in_ok-fit_pairs.ensures (rw z at h)) c.fit_element.ensures
 
 pub fit_relationship-returns : goal.fit_relationship-returns
 fit_relationship-returns t c =
@@ -52,4 +52,4 @@ fit_relationship-returns t c =
     let own : to_z w64 (of_z w64 r.id) ≡ r.id = search rules in
     let start : to_z w64 (of_z w64 r.start) ≡ r.start = search rules in
     let end : to_z w64 (of_z w64 r.end) ≡ r.end = search rules in
-    IfOk-weaker c.fit_elements.result _ _ (λ x h. fit_relationship_is c.args.version _ r refl refl refl refl c.in_ok-fit_pairs.ensures (rw (own, start, end) at h)) c.fit_elements.ensures
+    IfOk-weaker c.fit_ids.result _ _ (λ x h. fit_relationship_is c.args.scope.version _ r refl refl refl refl c.in_ok-fit_pairs.ensures (rw (own, start, end) at h)) c.fit_ids.ensures

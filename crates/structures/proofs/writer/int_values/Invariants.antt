@@ -1,5 +1,5 @@
 use Rattle.std.proofs.Common.{◌≡◌, take, map}
-use Rattle.packstream.specs.Prelude.{int, trees}
+use Rattle.structures.proofs.Prelude.{int, trees}
 use Rattle.structures.proofs.writer.int_values.Given as goal
 
 abbrev pub invariant-loop-n : goal.invariant-loop-n

@@ -1,6 +1,5 @@
 use Rattle.std.proofs.Common.{◌≡◌, take, map}
-use Rattle.packstream.specs.Prelude.{trees}
-use Rattle.cells.specs.Prelude.{text_of}
+use Rattle.structures.proofs.Prelude.{trees, text_of}
 use Rattle.structures.proofs.writer.list_of_texts.Given as goal
 
 abbrev pub invariant-loop-text : goal.invariant-loop-text

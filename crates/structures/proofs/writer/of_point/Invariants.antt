@@ -1,5 +1,5 @@
 use Rattle.std.proofs.Common.{◌≡◌, ◌∷◌, take, map}
-use Rattle.packstream.specs.Prelude.{int, float, trees}
+use Rattle.structures.proofs.Prelude.{int, float, trees}
 use Rattle.structures.proofs.writer.of_point.Given as goal
 
 abbrev pub invariant-loop-bits : goal.invariant-loop-bits
