@@ -1,21 +1,9 @@
 -- A message that is written without a value: bytes that were added one after the other are its spelling.
-use Rattle.std.proofs.Common.{◌≡◌, ◌≤◌, ◌<◌, ◌+◌, ℕ, ℤ, pos, int_le, false, true, Bool, List, [], ◌∷◌, ◌++◌, length, Result, Ok, Err, codes, refl, ap, sym, subst, ◌∙◌, append_assoc, arith, FitsSigned, w64, IsUtf8}
-use Rattle.std.proofs.lemmas.List.{append-nil, length-append}
-use Rattle.packstream.specs.declared.fault.Reason.{Reason as PackReason}
-use Rattle.packstream.specs.Prelude.{Tree, int, text, list, dict, structure, Trees, no_trees, tree_then, Entries, no_entries, entry_then, head, text_bytes, canon, IsGood, depth, first_fault, faults_in, entries_of}
-use Rattle.packstream.proofs.Checking.{bad_when}
-use Rattle.wire.specs.declared.Version.{Version}
-use Rattle.wire.proofs.Fronts.{nil_left}
-use Rattle.cells.specs.Prelude.{scan, fault as structure_fault, structures, structures_in, structures_under, fault_of_structure, IsWritable}
-use Rattle.structures.specs.Prelude.{HasGoodForm, form, typed, typed_all, typed_under}
-use Rattle.messages.specs.declared.request.Mode.{Mode}
-use Rattle.messages.specs.declared.request.Mode.TheVariants.{Read, Write}
-use Rattle.messages.specs.declared.request.Count.{Count}
-use Rattle.messages.specs.declared.request.Count.TheVariants.{All, Of}
-use Rattle.messages.specs.declared.fault.MsgFault.{MsgFault}
+use Rattle.std.proofs.Common.{◌≡◌, ◌≤◌, ◌<◌, ◌+◌, ℕ, ℤ, pos, int_le, false, true, Bool, List, [], ◌∷◌, ◌++◌, length, Result, Ok, Err, codes, refl, ap, sym, subst, ◌∙◌, append_assoc, arith, FitsSigned, w64, IsUtf8, append-nil, length-append}
+use Rattle.messages.proofs.Words.{PackReason, Tree, int, text, list, dict, structure, Trees, no_trees, tree_then, Entries, no_entries, entry_then, head, text_bytes, canon, IsGood, depth, first_fault, faults_in, entries_of, bad_when, Version, nil_left, scan, structure_fault, structures, structures_in, structures_under, fault_of_structure, IsWritable, HasGoodForm, form, typed, typed_all, typed_under, Mode, Read, Write, Count, All, Of, MsgFault}
 use Rattle.messages.specs.Prelude.{Row, ◌>>=◌, count_tree, contents_of_message, Contents, cell_put, Means, with_dict, rows_put, mode_pairs, count_number, packed_by, spelling_within, spelling_of_tree, form_put, Adds, AddsEntries, AddsCells}
 use Rattle.messages.proofs.Fields.{put_value, put_formed}
-use Rattle.messages.proofs.Sent.{sized_fits, means_of}
+use Rattle.messages.proofs.Sent.{sized_fits}
 
 right_none : {A : Type 0} (xs ys : List A) → xs ++ ys ≡ [] → ys ≡ []
 right_none [] ys h = h
@@ -148,7 +136,3 @@ module _ (f : Result Tree MsgFault) (old new : List ℕ) (a : Adds f old new) (s
 
   pub appended : (b : List ℕ) × ((f >>= spelling_of_tree) ≡ Ok b) × (new ≡ old ++ b)
   appended = (canon a.value, ap (λ r. r >>= spelling_of_tree) a.is ∙ good_spelled a.value (first_fault (faults_in 0 false a.value) 0) refl a.good too_long, a.added)
-
-  -- what says the form again stands for the message
-  pub means : (v : Version) (table : List Row) (s : Contents) → ((t : Tree) → f ≡ Ok t → contents_of_message v table t ≡ Ok s) → (b : List ℕ) → (f >>= spelling_of_tree) ≡ Ok b → Means v table s b
-  means v table s back b e = means_of f a.value v table s b a.is a.good (back a.value a.is) e

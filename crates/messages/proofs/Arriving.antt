@@ -1,19 +1,8 @@
 -- What arrives: of a client's bytes at a server, of a server's bytes at a client, and of any bytes by the whole messages that the grammar of chunks has of them.
 use Rattle.std.proofs.Common.{◌≡◌, ℕ, ◌-◌, Bool, true, false, cond, Some, List, [], ◌∷◌, ◌++◌, length, take, refl, sym, ap, subst, ◌∙◌, arith, Option, None, append-nil, append_assoc, ◌⊎◌, inl, inr, Result, Ok, Err, if◌then◌else◌, nat_le, map, reverse}
-use Rattle.wire.specs.declared.Version.{Version}
-use Rattle.wire.specs.declared.Version.TheVariants.{V44}
-use Rattle.wire.specs.declared.Wish.{Wish}
-use Rattle.wire.specs.declared.Wish.TheVariants.{Only}
-use Rattle.wire.specs.Prelude.{offer_of, wish_version, version_answer, Item, Opening, item_bytes, bytes_in_order, within, CanCome, AllCome, Noop, Message, items_heard, bytes_newest_first, within_newest_first, Spoken, chunks, arrivals as arrived, refusal, Unfinished, fresh, outputs, items_of, messages}
-use Rattle.wire.proofs.Opened.{texts-map, within-map, frames_fronts, offered_length, said_text-map, said_within-map, said_arrives, past_opening}
+use Rattle.messages.proofs.Words.{Version, V44, Wish, Only, offer_of, wish_version, version_answer, Item, Opening, item_bytes, bytes_in_order, within, CanCome, AllCome, Noop, Message, items_heard, bytes_newest_first, within_newest_first, Spoken, chunks, arrived, refusal, Unfinished, fresh, outputs, items_of, messages, texts-map, within-map, frames_fronts, offered_length, said_text-map, said_within-map, said_arrives, past_opening, take-nil, reverse-append, reverse-reverse, answer_length, Piece, reads_items, MsgFault}
 use Rattle.messages.specs.Prelude.{RequestView, request_spelling, response_spelling, Shook, Asked, arrival_of_offer, then_request, requests_in, after_shake, arrivals_of, arrivals, request_bytes, AreWritten, RequestsArrive, Heard, Chosen, Quiet, Told, heard_version, then_response, heard_in, after_version, heard_of, hears, heard_bytes, IsSaid, IsSpoken, SaysArrive, SoFarArrives, NoVersionArrives, without_idle, too_long, requests_of, ArrivesWhole, request_of}
-use Rattle.messages.proofs.Sent.{request_fits, request_is, sent, sent_text, response_fits, response_is, Fits}
-use Rattle.std.proofs.Math.Seq.{take-nil}
-use Rattle.std.proofs.lemmas.List.{reverse-append, reverse-reverse}
-use Rattle.wire.proofs.Proposals.{answer_length}
-use Rattle.wire.specs.declared.items.Piece.{Piece}
-use Rattle.wire.proofs.Framed.{reads_items}
-use Rattle.messages.specs.declared.fault.MsgFault.{MsgFault}
+use Rattle.messages.proofs.Sent.{request_fits, request_is, sent, sent_text, response_fits, response_is}
 use Rattle.wire.specs.declared.items.Piece.TheVariants as piece
 
 abbrev item_of : Version → RequestView → Item
@@ -77,13 +66,10 @@ answer_heard (Some V44) = refl
 answer_heard o = refl
 
 -- each comes as an item of the wire
-told_spoken : (b : List ℕ) (xs : List Item) → Fits b → Spoken 4 xs → Spoken 4 (Message b ∷ xs)
-told_spoken b xs f h = ((f.0, f.1), h)
-
 spoken : (v : Version) (xs : List Heard) → IsSpoken v xs → Spoken 4 (map (item_heard v) xs)
 spoken v (Chosen o ∷ xs) h = (answer_length o, ap (map (item_heard v)) h.1)
 spoken v (Quiet ∷ xs) h = spoken v xs h
-spoken v (Told m ∷ xs) h = subst (λ r. Spoken 4 (sent r ∷ map (item_heard v) xs)) (sym h.0.1) (told_spoken h.0.0 (map (item_heard v) xs) (response_fits v m h.0.0 h.0.1 h.0.2) (spoken v xs h.1))
+spoken v (Told m ∷ xs) h = subst (λ r. Spoken 4 (sent r ∷ map (item_heard v) xs)) (sym h.0.1) (response_fits v m h.0.0 h.0.1 h.0.2, spoken v xs h.1)
 spoken v xs h = absurd h
 
 -- After a version, the oldest first.

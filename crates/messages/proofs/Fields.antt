@@ -1,22 +1,7 @@
 -- Fields one at a time: by their number, what they say by the row of their structure, and how a field of cells is written.
-use Rattle.std.proofs.Common.{◌≡◌, List, [], ◌∷◌, length, false, ◌==◌, refl, sym, ◌∙◌, Err, Global, String, rules, ℕ, true, ap, Option, Result, Ok}
-use Rattle.packstream.specs.Prelude.{dict, text, structure, entries_of, Trees, no_trees, tree_then, Tree, list, Entries, count, IsGood, tree, trees, trees_of, first_fault, faults_in}
-use Rattle.packstream.specs.declared.value.Value.{Value, Text as TextCase, the_lemmas}
-use Rattle.packstream.proofs.Putting.{len_trees}
-use Rattle.cells.specs.Prelude.{text_of, shape, scan, fault as structure_fault, structures, IsWritable}
-use Rattle.messages.specs.Prelude.{no_field, one_field, run_parts, entries_of_dict, members_of_list, only_dict, contents_of_login, contents_of_run, as_dict, as_list, Name, Others, Named, ignored, extra, text_field, cells, cell_list, credentials, RUN, of_transaction, ◌>>=◌, contents, contents_of_named, contents_of_row, contents_of_extra, cell_of_field, cell_by, Answers, of_cell, value_by, form_by, cell_put, form_put, transaction_put, request_contents, Run}
-use Rattle.messages.specs.declared.request.Mode.{Mode}
-use Rattle.wire.specs.declared.Version.{Version}
-use Rattle.wire.specs.Prelude.{hello_has_login}
-use Rattle.messages.specs.declared.fault.MsgFault.{MsgFault}
-use Rattle.structures.specs.Prelude.{Form, form, Reads, Writes}
-use Rattle.cells.specs.declared.fault.Reason.{Reason as CellReason}
-use Rattle.packstream.specs.declared.fault.Reason.{Reason as PackReason}
-use Rattle.packstream.proofs.Checking.{bad_when}
-use Rattle.cells.proofs.Fine.{fine_scan}
-use Rattle.structures.specs.declared.fault.CellFault.{CellFault}
-use Rattle.structures.proofs.Formed.{again}
-use Rattle.cells.specs.declared.cell.Cell.{Cell}
+use Rattle.std.proofs.Common.{IsErrAnd, ◌≡◌, List, [], ◌∷◌, length, false, ◌==◌, refl, sym, ◌∙◌, Err, Global, String, rules, ℕ, true, ap, Option, Result, Ok}
+use Rattle.messages.proofs.Words.{typed, dict, text, structure, entries_of, Trees, no_trees, tree_then, Tree, list, Entries, count, IsGood, tree, trees, trees_of, first_fault, faults_in, Value, TextCase, the_lemmas, len_trees, text_of, shape, scan, structure_fault, structures, IsWritable, Mode, Version, hello_has_login, MsgFault, Form, form, Reads, Writes, CellReason, PackReason, bad_when, fine_scan, CellFault, again, Cell}
+use Rattle.messages.specs.Prelude.{no_field, one_field, three_fields, field_text, entries_of_dict, dict_of_cells, list_of_cells, only_dict, contents_of_login, contents_of_run, as_dict, as_list, Name, Others, Named, ignored, extra, text_field, cells, cell_list, credentials, RUN, of_transaction, ◌>>=◌, contents, contents_of_named, contents_of_row, contents_of_extra, cell_of_field, cell_by, Answers, of_cell, value_by, form_by, cell_put, form_put, transaction_put, request_contents, Run}
 use Rattle.messages.specs.declared.fault.MsgFault.TheVariants as fault
 use Rattle.structures.specs.declared.fault.CellFault.TheVariants as cell_fault
 
@@ -31,11 +16,11 @@ not_one_tree ts h = refl
 pub not_one : (vs : List Value) → (length vs ≡ 1 → ⊥) → one_field (trees_of (trees vs)) ≡ Err fault.Fields
 not_one vs h = not_one_tree _ (λ e. h (sym (len_trees vs) ∙ e))
 
-not_three_trees : (ts : Trees) → (count ts ≡ 3 → ⊥) → run_parts ts ≡ Err fault.Fields
-not_three_trees (tree_then (text s) (tree_then (dict ps) (tree_then (dict es) no_trees))) h = absurd (h refl)
+not_three_trees : (ts : Trees) → (count ts ≡ 3 → ⊥) → three_fields ts ≡ Err fault.Fields
+not_three_trees (tree_then t (tree_then u (tree_then w no_trees))) h = absurd (h refl)
 not_three_trees ts h = refl
 
-pub not_three : (vs : List Value) → (length vs ≡ 3 → ⊥) → run_parts (trees_of (trees vs)) ≡ Err fault.Fields
+pub not_three : (vs : List Value) → (length vs ≡ 3 → ⊥) → three_fields (trees_of (trees vs)) ≡ Err fault.Fields
 not_three vs h = not_three_trees _ (λ e. h (sym (len_trees vs) ∙ e))
 
 pub tree_of_text : (s : String Global) → tree (TextCase s) ≡ text_of s
@@ -54,21 +39,17 @@ extra_row v n o ns ts = refl
 pub login_here : (v : Version) (es : Entries) → hello_has_login v ≡ true → contents_of_named v (credentials hello_has_login) es ≡ contents_of_login es
 login_here v es h = rw h refl
 
-one_dict : (n : Name) (es : Entries) (r : Result ℕ (CellReason × ℕ)) → ((cell_by r (dict es) >>= λ x. Ok (x ∷ [])) >>= λ fs. Ok (contents n fs [])) ≡ ((cell_by r (dict es) >>= as_dict) >>= λ c. Ok (contents n (c ∷ []) []))
-one_dict n es (Ok k) = refl
-one_dict n es (Err e) = refl
+one_cell : (n : Name) (t : Tree) (kind : Tree → Result Tree MsgFault) (r : Result ℕ (CellReason × ℕ)) → kind (typed t) ≡ Ok (typed t) → ((cell_by r t >>= λ x. Ok (x ∷ [])) >>= λ fs. Ok (contents n fs [])) ≡ ((cell_by r t >>= kind) >>= λ c. Ok (contents n (c ∷ []) []))
+one_cell n t kind (Ok k) e = rw e refl
+one_cell n t kind (Err x) e = refl
 
-one_list : (n : Name) (ts : Trees) (r : Result ℕ (CellReason × ℕ)) → ((cell_by r (list ts) >>= λ x. Ok (x ∷ [])) >>= λ fs. Ok (contents n fs [])) ≡ ((cell_by r (list ts) >>= as_list) >>= λ c. Ok (contents n (c ∷ []) []))
-one_list n ts (Ok k) = refl
-one_list n ts (Err e) = refl
-
-pub cells_row : (v : Version) (n : Name) (ts : Trees) → contents_of_row v n (cells ∷ []) ts ≡ (one_field ts >>= λ t. entries_of_dict t >>= λ es. (cell_of_field v t >>= as_dict) >>= λ c. Ok (contents n (c ∷ []) []))
-cells_row v n (tree_then (dict es) no_trees) = one_dict n es (scan (structure_fault v) 0 (structures (dict es)))
+pub cells_row : (v : Version) (n : Name) (ts : Trees) → contents_of_row v n (cells ∷ []) ts ≡ (one_field ts >>= λ t. dict_of_cells v t >>= λ c. Ok (contents n (c ∷ []) []))
+cells_row v n (tree_then (dict es) no_trees) = one_cell n (dict es) as_dict (scan (structure_fault v) 0 (structures (dict es))) refl
 cells_row v n (tree_then t no_trees) = refl
 cells_row v n ts = refl
 
-pub list_row : (v : Version) (n : Name) (ts : Trees) → contents_of_row v n (cell_list ∷ []) ts ≡ (one_field ts >>= λ t. members_of_list t >>= λ us. (cell_of_field v t >>= as_list) >>= λ c. Ok (contents n (c ∷ []) []))
-list_row v n (tree_then (list us) no_trees) = one_list n us (scan (structure_fault v) 0 (structures (list us)))
+pub list_row : (v : Version) (n : Name) (ts : Trees) → contents_of_row v n (cell_list ∷ []) ts ≡ (one_field ts >>= λ t. list_of_cells v t >>= λ c. Ok (contents n (c ∷ []) []))
+list_row v n (tree_then (list us) no_trees) = one_cell n (list us) as_list (scan (structure_fault v) 0 (structures (list us))) refl
 list_row v n (tree_then t no_trees) = refl
 list_row v n ts = refl
 
@@ -78,8 +59,9 @@ text_and_dict n t es (Ok a) (Ok k) = refl
 text_and_dict n t es a r = refl
 
 pub run_row : (v : Version) (ts : Trees) → contents_of_row v RUN (text_field ∷ cells ∷ extra ignored of_transaction ∷ []) ts
-    ≡ (run_parts ts >>= λ p. contents_of_run v p.text p.parameters p.entries)
+    ≡ (three_fields ts >>= λ p. field_text p.0 >>= λ s. entries_of_dict p.1 >>= λ ps. entries_of_dict p.2 >>= λ es. contents_of_run v s p.1 es)
 run_row v (tree_then (text s) (tree_then (dict ps) (tree_then (dict es) no_trees))) = text_and_dict RUN (text s) ps (contents_of_named v of_transaction es) (scan (structure_fault v) 0 (structures (dict ps)))
+run_row v (tree_then t (tree_then u (tree_then w no_trees))) = refl
 run_row v ts = refl
 
 -- a RUN is written of its text, of its parameters and of its other entries
@@ -95,8 +77,9 @@ good_value : (t : Tree) (r : Result ℕ (PackReason × ℕ)) → first_fault (fa
 good_value t (Ok n) w g = refl
 good_value t (Err e) w g = absurd (bad_when t e (sym w) g)
 
-pub read_value_is : (v : Version) (t : Tree) (c : Cell) → Reads v t (Ok c) → cell_of_field v t ≡ Ok (shape c)
-read_value_is v t c h = ap (λ x. cell_by x t) h.0.1 ∙ ap (λ s. Ok s) (sym h.1)
+-- the form of a cell is told as that cell
+pub told_cell : (v : Version) (s t : Tree) → Form v s t → cell_of_field v t ≡ Ok s
+told_cell v s t f = ap (λ r. cell_by r t) f.0.1 ∙ ap Ok (sym f.1)
 
 pub read_fault_is : (v : Version) (t : Tree) (e : CellFault) → Reads v t (Err e) → (of_cell e ≡ fault.Memory → ⊥) → cell_of_field v t ≡ Err (of_cell e)
 read_fault_is v t (cell_fault.Refused r k) h n = ap (λ x. cell_by x t) h
@@ -118,5 +101,6 @@ put_fault v s (cell_fault.Pack r o) h n = ap (λ x. form_by x (form v s)) h.writ
     ∙ ap (λ x. value_by x h.value) h.unpacked
 put_fault v s cell_fault.Memory h n = absurd (n refl)
 
-pub told_fault : {X Y : Type 0} (view : X → Y) (r : Result X MsgFault) (s : Result Y MsgFault) (e : MsgFault) → r ≡ Err e → ((e ≡ fault.Memory → ⊥) → s ≡ Err e) → Answers view r s
-told_fault view r s e h k = rw h k
+pub told_fault : {X Y : Type 0} (view : X → Y) (r : Result X MsgFault) (s : Result Y MsgFault) (e : MsgFault) → IsErrAnd r (λ x. x ≡ e) → ((e ≡ fault.Memory → ⊥) → s ≡ Err e) → Answers view r s
+told_fault view (Ok x) s e h k = absurd h
+told_fault view (Err x) s e h k = rw h k

@@ -1,16 +1,6 @@
 -- The responses of a server that are neither rows nor the SUCCESS of a RUN: what they are written as, how long that is, and what it stands for.
-use Rattle.std.proofs.Common.{◌≡◌, ◌<◌, ◌≤◌, ◌+◌, ◌^◌, ℕ, suc, List, [], ◌++◌, length, Bool, true, false, cond, nat_lt, None, Some, Result, Ok, Err, codes, refl, ap, sym, ◌∙◌, arith, IsUtf8, decimal}
-use Rattle.std.proofs.lemmas.List.{length-append}
-use Rattle.std.proofs.lemmas.Str.{IsUtf8-append, IsUtf8-from_ascii}
-use Rattle.std.proofs.lemmas.Fmt.{IsAscii-decimal, length-decimal-le}
-use Rattle.packstream.specs.declared.fault.Reason.{Reason as PackReason}
-use Rattle.packstream.specs.Prelude.{Tree, text, dict, structure, Trees, no_trees, tree_then, Entries, no_entries, entry_then, IsGood, entry_count, IsPlain, HavePlain, entries_of, long_head, head, int_bytes, text_bytes, canon, canon_all, canon_entries, first_fault, faults_in}
-use Rattle.packstream.proofs.Checking.{good_when}
-use Rattle.packstream.proofs.Only.{canon_spells}
-use Rattle.packstream.proofs.Ranges.{fits_pos}
-use Rattle.wire.specs.declared.Version.{Version}
-use Rattle.messages.specs.declared.request.Mode.{Mode}
-use Rattle.messages.specs.declared.request.Mode.TheVariants.{Read, Write}
+use Rattle.std.proofs.Common.{◌≡◌, ◌<◌, ◌≤◌, ◌+◌, ◌^◌, ℕ, suc, List, [], ◌++◌, length, Bool, true, false, cond, nat_lt, None, Some, Result, Ok, Err, codes, refl, ap, sym, ◌∙◌, arith, IsUtf8, decimal, length-append}
+use Rattle.messages.proofs.Words.{IsUtf8-append, IsUtf8-from_ascii, IsAscii-decimal, length-decimal-le, PackReason, Tree, text, dict, structure, Trees, no_trees, tree_then, Entries, no_entries, entry_then, IsGood, entry_count, IsPlain, HavePlain, entries_of, long_head, head, int_bytes, text_bytes, canon, canon_all, canon_entries, first_fault, faults_in, good_when, canon_spells, fits_pos, Version, Mode, Read, Write}
 use Rattle.messages.specs.Prelude.{responses, ◌>>=◌, contents_of_message, response_contents, form_put, spelling_of_tree, packed_by, spelling_within, response_spelling, Summary, Greeting, RowsLeft, Closing, Committed, Plain, Refused, Passed, bookmark, greeting, ending, response_of_summary, form_of, IsShort, HasTexts, room, FitsRoom, ReadsBack}
 use Rattle.messages.proofs.Sent.{sized_fits}
 
@@ -35,19 +25,15 @@ either_le : (b : Bool) (xs ys : List ℕ) (k : ℕ) → length xs ≤ k → leng
 either_le true xs ys k h o = h
 either_le false xs ys k h o = o
 
-long_head_le : (m n : ℕ) → length (long_head m n) ≤ 5
-unfolding long_head
-long_head_le m n = either_le (nat_lt n 0x100) _ _ 5 (omega arith) (either_le (nat_lt n 0x10000) _ _ 5 (omega arith) (omega arith))
-
 head_le : (tiny m n : ℕ) → length (head tiny m n) ≤ 5
-unfolding head
-head_le tiny m n = either_le (nat_lt n 16) _ _ 5 (omega arith) (long_head_le m n)
+unfolding head long_head
+head_le tiny m n = either_le (nat_lt n 16) _ _ 5 (omega arith) (either_le (nat_lt n 0x100) _ _ 5 (omega arith) (either_le (nat_lt n 0x10000) _ _ 5 (omega arith) (omega arith)))
 
--- texts, keys and dictionaries with the longest heads
+-- texts with the longest heads
 abbrev mutual
   bound : Tree → ℕ
   bound (text s) = 5 + length s
-  bound (dict es) = 5 + bound_under es
+  bound (dict es) = length (head 0xA0 0xD8 (entry_count es)) + bound_under es
   bound (structure tag ts) = 2 + bound_all ts
   bound t = length (canon t)
 
@@ -57,12 +43,12 @@ abbrev mutual
 
   bound_under : Entries → ℕ
   bound_under no_entries = 0
-  bound_under (entry_then k t es) = 5 + length k + bound t + bound_under es
+  bound_under (entry_then k t es) = length (text_bytes k) + bound t + bound_under es
 
 mutual
   bound_le : (t : Tree) → length (canon t) ≤ bound t
   bound_le (text s) = omega (arith, length-append (head 0x80 0xD0 (length s)) s, head_le 0x80 0xD0 (length s))
-  bound_le (dict es) = omega (arith, length-append (head 0xA0 0xD8 (entry_count es)) (canon_entries es), head_le 0xA0 0xD8 (entry_count es), under_le es)
+  bound_le (dict es) = omega (arith, length-append (head 0xA0 0xD8 (entry_count es)) (canon_entries es), under_le es)
   bound_le (structure tag ts) = omega (arith, all_le ts)
   bound_le t = omega arith
 
@@ -72,36 +58,14 @@ mutual
 
   under_le : (es : Entries) → length (canon_entries es) ≤ bound_under es
   under_le no_entries = omega arith
-  under_le (entry_then k t es) = omega (arith, length-append (text_bytes k) (canon t ++ canon_entries es), length-append (head 0x80 0xD0 (length k)) k, head_le 0x80 0xD0 (length k), length-append (canon t) (canon_entries es), bound_le t, under_le es)
+  under_le (entry_then k t es) = omega (arith, length-append (text_bytes k) (canon t ++ canon_entries es), length-append (canon t) (canon_entries es), bound_le t, under_le es)
 
 digits_le : (n : ℕ) → n < 2 ^ 64 → length (decimal n) ≤ 20
 digits_le n h = length-decimal-le 20 n (omega arith) (omega arith) h
 
-text_le : (s : List ℕ) → length (text_bytes s) ≤ 5 + length s
-text_le s = omega (arith, length-append (head 0x80 0xD0 (length s)) s, head_le 0x80 0xD0 (length s))
-
--- two entries that hold texts
-two_texts_le : (k a l b : List ℕ) → length (canon_entries (entry_then k (text a) (entry_then l (text b) no_entries)) ++ []) ≤ length (text_bytes k) + (length (text_bytes a) + (length (text_bytes l) + length (text_bytes b)))
-two_texts_le k a l b =
-    let last = entry_then l (text b) no_entries in
-    let both = entry_then k (text a) last in
-    omega (arith, length-append (canon_entries both) [], length-append (text_bytes k) (text_bytes a ++ canon_entries last), length-append (text_bytes a) (canon_entries last), length-append (text_bytes l) (text_bytes b ++ []), length-append (text_bytes b) [])
-
--- the dictionary and the keys of a greeting have heads of one byte
-greeting_le : (agent : List ℕ) (n : ℕ) → length agent ≤ 40 → n < 2 ^ 64 → length (canon (form_of (Greeting agent n))) ≤ 100
-unfolding head
-greeting_le agent n short h =
-    let id = codes "bolt-" ++ decimal n in
-    let es = entry_then (codes "server") (text agent) (entry_then (codes "connection_id") (text id) no_entries) in
-    let whole : length (canon (form_of (Greeting agent n))) ≡ suc (suc (suc (length (canon_entries es ++ [])))) = refl in
-    let server : length (text_bytes (codes "server")) ≡ 7 = refl in
-    let connection : length (text_bytes (codes "connection_id")) ≡ 14 = refl in
-    let some : length (canon_entries es ++ []) ≤ 97 = omega (arith, two_texts_le (codes "server") agent (codes "connection_id") id, server, connection, text_le agent, text_le id, length-append (codes "bolt-") (decimal n), short, digits_le n h) in
-    omega (arith, whole, some)
-
 pub form_le : (s : Summary) → IsShort s → length (canon (form_of s)) ≤ room s
-unfolding int_bytes
-form_le (Greeting agent n) h = greeting_le agent n h.0 h.1
+unfolding head int_bytes
+form_le (Greeting agent n) h = omega (arith, bound_le (form_of (Greeting agent n)), length-append (codes "bolt-") (decimal n), h.0, digits_le n h.1)
 form_le (Closing None Read) h = omega (arith, bound_le (form_of (Closing None Read)))
 form_le (Closing (Some n) Read) h = omega (arith, bound_le (form_of (Closing (Some n) Read)), digits_le n h)
 form_le (Closing (Some n) Write) h = omega (arith, bound_le (form_of (Closing (Some n) Write)), digits_le n h)

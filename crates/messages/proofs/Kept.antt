@@ -1,14 +1,8 @@
 -- What named entries say is the same of cells and of their form at a version: whatever is named is no structure.
-use Rattle.std.proofs.Common.{◌≡◌, ℕ, Bool, true, false, cond, ◌==◌, List, [], ◌∷◌, ◌++◌, Option, None, Some, Result, Ok, Err, codes, refl, ap, ◌∙◌, ◌&&◌}
-use Rattle.std.specs.Str.{bytes_eq}
-use Rattle.packstream.specs.Prelude.{Tree, list, dict, structure, Trees, Entries, no_entries, entry_then}
-use Rattle.wire.specs.declared.Version.{Version}
-use Rattle.wire.specs.Versions.{has_utc_times}
-use Rattle.structures.specs.Prelude.{form, form_all, form_under, to_local}
-use Rattle.messages.specs.declared.fault.MsgFault.{MsgFault}
+use Rattle.std.proofs.Common.{◌≡◌, ℕ, Bool, true, false, cond, ◌==◌, List, [], ◌∷◌, ◌++◌, Option, None, Some, Result, Ok, Err, codes, refl, ap, ◌∙◌, ◌&&◌, bytes_eq}
+use Rattle.messages.proofs.Words.{Tree, list, dict, structure, Trees, Entries, no_entries, entry_then, Version, has_utc_times, form, form_all, form_under, to_local, MsgFault}
+use Rattle.messages.specs.Prelude.{Named, Others, ignored, refused, Holds, a_text, a_mode, a_count, last_query, a_token, ◌>>=◌, lookup, contents_of_text, contents_of_mode, contents_of_count, contents_of_query, contents_of_token, contents_of_metadata, contents_of_entry, contents_of_named, is_named, all_named, contents_of_extra}
 use Rattle.messages.specs.declared.fault.MsgFault.TheVariants as fault
-use Rattle.messages.specs.Table.{Named, Others, ignored, refused, Holds, a_text, a_mode, a_count, last_query, a_token}
-use Rattle.messages.specs.Reading.{◌>>=◌, lookup, contents_of_text, contents_of_mode, contents_of_count, contents_of_query, contents_of_token, contents_of_metadata, contents_of_entry, contents_of_named, is_named, all_named, contents_of_extra}
 
 -- an entry that may be there, in the form of a version
 abbrev formed : Version → Option Tree → Option Tree
@@ -32,28 +26,18 @@ one_of_three false c k l m ts us vs = (m, vs, refl)
 stays : (w : Version) (tag : ℕ) (ts : Trees) → (n : ℕ) × (us : Trees) × (form w (structure tag ts) ≡ structure n us)
 stays w tag ts = one_of_three (tag == 0x49) (has_utc_times w) 0x49 0x46 tag (form_all w ts) (to_local (form_all w ts)) (form_all w ts)
 
--- what tells one thing of every list, one of every dictionary and one of every structure tells it of their forms
-kept : (w : Version) (f : Option Tree → Result (List Tree) MsgFault) → ((ts us : Trees) → f (Some (list ts)) ≡ f (Some (list us))) → ((es fs : Entries) → f (Some (dict es)) ≡ f (Some (dict fs)))
-    → ((m n : ℕ) (ts us : Trees) → f (Some (structure m ts)) ≡ f (Some (structure n us))) → (o : Option Tree) → f (formed w o) ≡ f o
-kept w f l d s (Some (list ts)) = l (form_all w ts) ts
-kept w f l d s (Some (dict es)) = d (form_under w es) es
-kept w f l d s (Some (structure tag ts)) = let k = stays w tag ts in ap (λ t. f (Some t)) k.2 ∙ s k.0 tag k.1 ts
-kept w f l d s o = refl
-
 token_kept : (w : Version) (o : Option Tree) → contents_of_token (formed w o) ≡ contents_of_token o
-token_kept w o = kept w contents_of_token (λ ts us. refl) (λ es fs. refl) (λ m n ts us. refl) o
-
-metadata_kept : (w : Version) (o : Option Tree) → contents_of_metadata (formed w o) ≡ contents_of_metadata o
-metadata_kept w (Some (structure tag ts)) = ap (λ t. contents_of_metadata (Some t)) (stays w tag ts).2
-metadata_kept w (Some (dict es)) = ap contents_of_token (lookup_formed w (codes "token") es) ∙ token_kept w (lookup (codes "token") es)
-metadata_kept w o = refl
+token_kept w (Some (structure tag ts)) = ap (λ t. contents_of_token (Some t)) (stays w tag ts).2
+token_kept w o = refl
 
 entry_kept : (w : Version) (h : Holds) (o : Option Tree) → contents_of_entry h (formed w o) ≡ contents_of_entry h o
-entry_kept w a_text o = kept w contents_of_text (λ ts us. refl) (λ es fs. refl) (λ m n ts us. refl) o
-entry_kept w a_mode o = kept w contents_of_mode (λ ts us. refl) (λ es fs. refl) (λ m n ts us. refl) o
-entry_kept w a_count o = kept w contents_of_count (λ ts us. refl) (λ es fs. refl) (λ m n ts us. refl) o
-entry_kept w last_query o = kept w contents_of_query (λ ts us. refl) (λ es fs. refl) (λ m n ts us. refl) o
-entry_kept w a_token o = metadata_kept w o
+entry_kept w a_text (Some (structure tag ts)) = ap (λ t. contents_of_text (Some t)) (stays w tag ts).2
+entry_kept w a_mode (Some (structure tag ts)) = ap (λ t. contents_of_mode (Some t)) (stays w tag ts).2
+entry_kept w a_count (Some (structure tag ts)) = ap (λ t. contents_of_count (Some t)) (stays w tag ts).2
+entry_kept w last_query (Some (structure tag ts)) = ap (λ t. contents_of_query (Some t)) (stays w tag ts).2
+entry_kept w a_token (Some (structure tag ts)) = ap (λ t. contents_of_metadata (Some t)) (stays w tag ts).2
+entry_kept w a_token (Some (dict es)) = ap contents_of_token (lookup_formed w (codes "token") es) ∙ token_kept w (lookup (codes "token") es)
+entry_kept w h o = refl
 
 named_kept : (v w : Version) (ns : List Named) (es : Entries) → contents_of_named v ns (form_under w es) ≡ contents_of_named v ns es
 named_kept v w [] es = refl

@@ -1,18 +1,8 @@
 -- What is told of a value by reading it is what the table lays out.
-use Rattle.std.proofs.Common.{◌≡◌, ◌↔◌, ℕ, zero, suc, ℤ, pos, negsuc, int_le, List, [], ◌∷◌, ◌++◌, append-nil, length, nat_le, ◌≤◌, Bool, true, false, cond, ◌||◌, ◌&&◌, ◌==◌, Option, None, Some, Result, Ok, Err, IfOk, codes, refl, ap, sym, subst, ◌∙◌, arith, All, Any, Contains, bytes_eq, int_eq}
-use Rattle.std.specs.List.{list_any}
-use Rattle.std.proofs.lemmas.Result.{IfOk-weaker, IfOk-at_ok}
-use Rattle.std.proofs.lemmas.Slice.Eq.{bytes_eq-Decides}
-use Rattle.std.proofs.lemmas.List.Folds.{Any-from_list_any, list_any-from_Any}
-use Rattle.std.proofs.lemmas.Bool.{le-leb, leb-true, and_parts, false_from_ne_true}
-use Rattle.std.proofs.lemmas.Bool.Decides.{Decides-eqb, Decides-int_eq}
-use Rattle.packstream.specs.Prelude.{Tree, null, int, text, list, dict, structure, Trees, no_trees, tree_then, Entries, no_entries, entry_then, keys_of}
-use Rattle.wire.specs.declared.Version.{Version}
-use Rattle.cells.specs.declared.fault.Reason.{Reason as CellReason}
-use Rattle.cells.specs.Prelude.{scan, fault as structure_fault, structures}
-use Rattle.structures.specs.Prelude.{Form}
-use Rattle.messages.specs.declared.fault.MsgFault.{MsgFault}
+use Rattle.std.proofs.Common.{◌≡◌, ◌↔◌, ℕ, zero, suc, ℤ, pos, negsuc, int_le, List, [], ◌∷◌, ◌++◌, append-nil, length, nat_le, ◌≤◌, Bool, true, false, cond, ◌||◌, ◌&&◌, ◌==◌, Option, None, Some, Result, Ok, Err, IfOk, codes, refl, ap, sym, subst, ◌∙◌, arith, All, Any, Contains, bytes_eq, int_eq, le-leb, leb-true}
+use Rattle.messages.proofs.Words.{list_any, IfOk-weaker, IfOk-at_ok, bytes_eq-Decides, Any-from_list_any, list_any-from_Any, and_parts, false_from_ne_true, Decides-eqb, Decides-int_eq, Tree, null, int, text, list, dict, structure, Trees, no_trees, tree_then, Entries, no_entries, entry_then, keys_of, Version, CellReason, scan, structure_fault, structures, Form, MsgFault}
 use Rattle.messages.specs.Prelude.{Holds, a_text, a_mode, a_count, last_query, a_token, Named, Others, ignored, refused, Field, text_field, cells, cell_list, extra, Row, requests, responses, layout, row_in, ◌>>=◌, Contents, contents, are_kinds, lookup, is_token, contents_of_token, contents_of_entry, contents_of_named, is_named, all_named, contents_of_extra, contents_of_entries, cell_by, cell_of_field, contents_of_fields, contents_of_row, row_at, contents_by_row, contents_of_message, IsEntry, absent, here, further, SaysEntry, the_text, reads, writes, writes_unsaid, all_rows, some_rows, of_last, of_last_unsaid, the_token, token_unsaid, metadata_unsaid, SaysNamed, no_more, passed_over, then_named, HasOnly, SaysField, of_text, of_cells, of_list, of_extra, SaysFields, no_fields, then_field, SaysRow, of_row, SaysMessage, IsSpelled, SpellsWhere, Means}
+use Rattle.messages.proofs.Fields.{told_cell}
 use Rattle.messages.specs.declared.fault.MsgFault.TheVariants as fault
 
 then_ok : {A B : Type 0} (r : Result A MsgFault) (f : A → Result B MsgFault) (P : A → Type 0) (Q : B → Type 0) → IfOk r P → ((x : A) → P x → IfOk (f x) Q) → IfOk (r >>= f) Q
@@ -135,9 +125,6 @@ cell_says v t = go (scan (structure_fault v) 0 (structures t)) refl
     go (Ok n) w = ((n, w), refl)
     go (Err e) w = tt
 
-told_cell : (v : Version) (t c : Tree) → Form v c t → cell_of_field v t ≡ Ok c
-told_cell v t c f = ap (λ r. cell_by r t) f.0.1 ∙ ap Ok (sym f.1)
-
 -- a dictionary with named entries is always the last field
 abbrev IsExtraLast : List Field → Type 0
 IsExtraLast [] = Unit {0}
@@ -181,9 +168,9 @@ told_fields v _ _ _ _ l no_fields = (refl, refl, refl)
 told_fields v _ _ _ _ l (then_field _ ks _ ts _ fs _ xs (of_text s) r) =
     let p = told_fields v ks ts fs xs l r in (p.0, p.1, rw p.2 refl)
 told_fields v _ _ _ _ l (then_field _ ks _ ts _ fs _ xs (of_cells c es f) r) =
-    let p = told_fields v ks ts fs xs l r in (p.0, p.1, rw (told_cell v (dict es) c f, p.2) refl)
+    let p = told_fields v ks ts fs xs l r in (p.0, p.1, rw (told_cell v c (dict es) f, p.2) refl)
 told_fields v _ _ _ _ l (then_field _ ks _ ts _ fs _ xs (of_list c us f) r) =
-    let p = told_fields v ks ts fs xs l r in (p.0, p.1, rw (told_cell v (list us) c f, p.2) refl)
+    let p = told_fields v ks ts fs xs l r in (p.0, p.1, rw (told_cell v c (list us) f, p.2) refl)
 told_fields v _ _ _ _ l (then_field _ _ _ _ _ _ _ _ (of_extra o ns es ys h s) no_fields) = rw (append-nil ys) (refl, told_extra v o ns es ys h s, refl)
 told_fields v _ _ _ _ l (then_field _ _ _ _ _ _ _ _ (of_extra o ns es ys h s) r) = absurd l
 

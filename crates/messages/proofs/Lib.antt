@@ -1,3 +1,4 @@
+pub mod Words
 pub mod Fields
 pub mod Rounds
 pub mod Sayings

@@ -1,16 +1,7 @@
 -- Named entries that are texts, and those of a token, added one after the other.
-use Rattle.std.proofs.Common.{◌≡◌, ◌≤◌, ◌<◌, ℕ, suc, true, false, List, [], ◌∷◌, ◌++◌, length, map, None, Some, Result, Ok, codes, refl, ap, sym, subst, ◌∙◌, append_assoc, arith, IsUtf8, String, Global, string_bytes}
-use Rattle.std.specs.Borrow.{Bor}
-use Rattle.std.proofs.lemmas.List.{append-nil}
-use Rattle.std.proofs.lemmas.Str.{IsUtf8-string_bytes}
-use Rattle.packstream.specs.Prelude.{Tree, text, dict, structure, no_trees, Entries, no_entries, entry_then, entry_count, head, text_bytes, canon, canon_entries, IsGood, depth, entries_of}
-use Rattle.wire.specs.declared.Version.{Version}
-use Rattle.wire.specs.Versions.{hello_has_login, has_logon}
-use Rattle.messages.specs.declared.request.Auth.{Auth}
-use Rattle.messages.specs.declared.request.Mode.TheVariants.{Read, Write}
+use Rattle.std.proofs.Common.{◌≡◌, ◌≤◌, ◌<◌, ℕ, suc, true, false, List, [], ◌∷◌, ◌++◌, length, map, None, Some, Result, Ok, codes, refl, ap, sym, subst, ◌∙◌, append_assoc, arith, IsUtf8, String, Global, string_bytes, Bor, append-nil}
+use Rattle.messages.proofs.Words.{first_fault, good_when, IsUtf8-string_bytes, Tree, text, dict, structure, no_trees, Entries, no_entries, entry_then, entry_count, head, text_bytes, canon, canon_entries, IsGood, depth, entries_of, Version, hello_has_login, has_logon, Auth, Read, Write, HasTexts, MsgFault}
 use Rattle.messages.specs.Prelude.{AuthView, auth_view, Hello, Logon, Logoff, Failure, request_contents, response_contents, form_put, is_token, transaction_put, token_dict, named_text, of_texts, login_pairs, hello_pairs, error_pairs, Adds, AddsEntries}
-use Rattle.messages.specs.Sound.{HasTexts}
-use Rattle.messages.specs.declared.fault.MsgFault.{MsgFault}
 use Rattle.messages.proofs.Added.{field_good, mode_good, mode_deep}
 
 -- the head of a dictionary, then its entries
@@ -32,12 +23,8 @@ unfolding lib.Utf8.encode
 write_good s u = record { deep = omega arith; sound = ((refl, tt), (((refl, tt), (tt, tt)), tt)); plain = ((codes "tx_metadata", (refl, refl)), ((codes "token", (refl, refl)), u, tt), tt) }
 
 pub read_good : (s : List ℕ) → IsUtf8 s → IsGood (dict (entry_then (codes "mode") (text (codes "r")) (token_entries s)))
-unfolding lib.Utf8.encode
-read_good s u = record {
-  deep = omega arith;
-  sound = ((refl, (refl, tt)), (tt, (((refl, tt), (tt, tt)), tt)));
-  plain = ((codes "mode", (refl, refl)), (codes "r", (refl, refl)), ((codes "tx_metadata", (refl, refl)), ((codes "token", (refl, refl)), u, tt), tt));
-}
+unfolding lib.Utf8.encode first_fault
+read_good s u = good_when _ 4 refl ((codes "mode", (refl, refl)), (codes "r", (refl, refl)), ((codes "tx_metadata", (refl, refl)), ((codes "token", (refl, refl)), u, tt), tt))
 
 pub token_added : (s old a new : List ℕ) → is_token s ≡ true → IsUtf8 s → a ≡ old ++ 0xA1 ∷ [] → new ≡ a ++ canon_entries (token_entries s) → AddsEntries (transaction_put Write (Some s)) old new
 unfolding head
@@ -79,25 +66,17 @@ texts_put tag xs old a b new p q r =
 texts_added : (f : Result Tree MsgFault) (tag : ℕ) (ps qs : List (List ℕ × Tree)) (old new : List ℕ) → tag < 256 → f ≡ Ok (of_texts tag qs) → ps ≡ qs → new ≡ old ++ canon (of_texts tag ps) → IsGood (dict (entries_of qs)) → depth (dict (entries_of qs)) ≤ 31 → Adds f old new
 texts_added f tag ps qs old new h is e a g d = record { value = of_texts tag qs; is = is; good = field_good tag (dict (entries_of qs)) h g d; added = a ∙ ap (λ x. old ++ canon (of_texts tag x)) e }
 
-login_good : (l : AuthView) → HasTexts l → IsGood (dict (entries_of (login_pairs l)))
-unfolding lib.Utf8.encode
-login_good l t = record {
-  deep = omega arith;
-  sound = ((refl, (refl, (refl, tt))), (tt, (tt, (tt, tt))));
-  plain = ((codes "scheme", (refl, refl)), t.scheme, ((codes "principal", (refl, refl)), t.principal, ((codes "credentials", (refl, refl)), t.credentials, tt)));
-}
+pub login_good : (l : AuthView) → HasTexts l → IsGood (dict (entries_of (login_pairs l)))
+unfolding lib.Utf8.encode first_fault
+login_good l t = good_when _ 4 refl ((codes "scheme", (refl, refl)), t.scheme, ((codes "principal", (refl, refl)), t.principal, ((codes "credentials", (refl, refl)), t.credentials, tt)))
 
 agent_good : (s : List ℕ) → IsUtf8 s → IsGood (dict (entries_of (hello_pairs s None)))
 unfolding lib.Utf8.encode
 agent_good s u = record { deep = omega arith; sound = ((refl, tt), (tt, tt)); plain = ((codes "user_agent", (refl, refl)), u, tt) }
 
 agent_and_login_good : (s : List ℕ) (l : AuthView) → IsUtf8 s → HasTexts l → IsGood (dict (entries_of (hello_pairs s (Some l))))
-unfolding lib.Utf8.encode
-agent_and_login_good s l u t = record {
-  deep = omega arith;
-  sound = ((refl, (refl, (refl, (refl, tt)))), (tt, (tt, (tt, (tt, tt)))));
-  plain = ((codes "user_agent", (refl, refl)), u, (login_good l t).plain);
-}
+unfolding lib.Utf8.encode first_fault
+agent_and_login_good s l u t = good_when _ 5 refl ((codes "user_agent", (refl, refl)), u, (login_good l t).plain)
 
 error_good : (c m : List ℕ) → IsUtf8 c → IsUtf8 m → IsGood (dict (entries_of (error_pairs c m)))
 unfolding lib.Utf8.encode

@@ -1,27 +1,10 @@
 -- What is written is told again, and is plain where the message is made of texts, of numbers in their ranges and of cells; so a spelling reads back.
 use Rattle.std.proofs.Common.{◌≡◌, ℕ, ℤ, pos, negsuc, int_le, ◌++◌, Bool, true, false, List, [], ◌∷◌, Option, None, Some, IfSome, Result, Ok, Err, codes, refl, ap, sym, subst, ◌∙◌, arith, IsUtf8, int_eq}
-use Rattle.packstream.specs.declared.fault.Reason.{Reason as PackReason, Reason}
-use Rattle.packstream.specs.Prelude.{Tree, text, dict, list, structure, no_trees, tree_then, Entries, entry_then, no_entries, entries_of, trees_of, IsPlain, HavePlain, first_fault, faults_in, IsGood}
-use Rattle.packstream.proofs.Ranges.{fits_neg}
-use Rattle.wire.specs.declared.Version.{Version}
-use Rattle.wire.specs.declared.Version.TheVariants.{V44, V50, V51}
-use Rattle.cells.specs.declared.fault.Reason.{Reason as CellReason}
-use Rattle.cells.specs.Prelude.{scan, structures, fault_of_structure, shape}
-use Rattle.cells.specs.declared.cell.Cell.{Cell, Dict as DictCell, List as ListCell}
-use Rattle.cells.proofs.Views.{shape-Dict, shape-List}
-use Rattle.cells.proofs.Fine.{fine_scan}
-use Rattle.structures.specs.Prelude.{form, form_under, form_all}
-use Rattle.structures.proofs.Formed.{form_is as formed_is}
-use Rattle.messages.specs.declared.request.Request.{Request}
-use Rattle.messages.specs.declared.response.Response.{Response}
-use Rattle.messages.specs.declared.request.Mode.{Mode}
-use Rattle.messages.specs.declared.request.Mode.TheVariants.{Read, Write}
-use Rattle.messages.specs.declared.request.Count.TheVariants.{All, Of}
-use Rattle.messages.specs.declared.fault.MsgFault.{MsgFault}
-use Rattle.messages.specs.Prelude.{Row, requests, responses, RUN, request_view, response_view, AuthView, RequestView, Hello, Logon, Logoff, Goodbye, Reset, Run, Begin, Commit, Rollback, Discard, Pull, ResponseView, Success, Record, Ignored, Failure, ◌>>=◌, Contents, contents, contents_of_message, contents_of_mode, is_token, contents_of_metadata, lookup, mode_tree, token_tree, cell_of_field, cell_by, request_contents, response_contents, value_by, form_by, cell_put, IsCell, IsRequest, IsResponse, RequestsReadBack, ResponsesReadBack, form_put, packed_by, spelling_within, spelling_of_tree, request_spelling, response_spelling, transaction_put, mode_pairs, token_dict, Means}
-use Rattle.messages.specs.Sound.{HasTexts}
-use Rattle.messages.proofs.Fields.{form_again}
-use Rattle.packstream.proofs.Checking.{good_when}
+use Rattle.messages.proofs.Words.{PackReason, Reason, Tree, text, dict, list, structure, no_trees, tree_then, Entries, entry_then, no_entries, entries_of, trees_of, IsPlain, HavePlain, first_fault, faults_in, IsGood, fits_neg, Version, V44, V50, V51, CellReason, scan, structures, fault_of_structure, shape, Cell, DictCell, ListCell, shape-Dict, shape-List, fine_scan, form, form_under, form_all, formed_is, Request, Response, Mode, Read, Write, All, Of, MsgFault, HasTexts, good_when}
+use Rattle.messages.specs.Prelude.{Row, requests, responses, RUN, request_view, response_view, AuthView, RequestView, Hello, Logon, Logoff, Goodbye, Reset, Run, Begin, Commit, Rollback, Discard, Pull, ResponseView, Success, Record, Ignored, Failure, ◌>>=◌, Contents, contents, contents_of_message, contents_of_mode, is_token, contents_of_metadata, lookup, mode_tree, token_tree, cell_of_field, request_contents, response_contents, value_by, form_by, cell_put, IsCell, IsRequest, IsResponse, RequestsReadBack, ResponsesReadBack, form_put, packed_by, spelling_within, spelling_of_tree, request_spelling, response_spelling, transaction_put, mode_pairs, token_dict, Means, Req, Resp}
+use Rattle.messages.proofs.Fields.{form_again, told_cell}
+use Rattle.messages.proofs.Added.{mode_good, rows_good}
+use Rattle.messages.proofs.Named.{token_entries, write_good, read_good, login_good}
 use Rattle.messages.proofs.Sent.{request_is, response_is, means_of}
 use Rattle.messages.specs.declared.request.Request.TheVariants as request
 use Rattle.messages.specs.declared.response.Response.TheVariants as response
@@ -72,12 +55,12 @@ not_minus (negsuc n) h = absurd cc
 
 pull_back : (v : Version) (z : ℤ) (b : Bool) (t : Tree) → int_le (pos 1) z ≡ b → form_put v (request_contents (Pull (Of z))) ≡ Ok t → Asks v (Pull (Of z)) t
 unfolding lib.Utf8.encode
-pull_back v z true t e h = back_from v requests _ _ _ t (rw e at h) (rw (not_minus z e, e) refl) (λ i. (omega arith, (((codes "n", (refl, refl)), i, tt), tt)))
+pull_back v z true t e h = back_from v requests _ _ _ t (rw e at h) (rw (not_minus z e, e) refl) (λ i. (omega arith, ((rows_good z i).plain, tt)))
 pull_back v z false t e h = let k = rw e at h in absurd cc
 
 discard_back : (v : Version) (z : ℤ) (b : Bool) (t : Tree) → int_le (pos 1) z ≡ b → form_put v (request_contents (Discard (Of z))) ≡ Ok t → Asks v (Discard (Of z)) t
 unfolding lib.Utf8.encode
-discard_back v z true t e h = back_from v requests _ _ _ t (rw e at h) (rw (not_minus z e, e) refl) (λ i. (omega arith, (((codes "n", (refl, refl)), i, tt), tt)))
+discard_back v z true t e h = back_from v requests _ _ _ t (rw e at h) (rw (not_minus z e, e) refl) (λ i. (omega arith, ((rows_good z i).plain, tt)))
 discard_back v z false t e h = let k = rw e at h in absurd cc
 
 -- entries that say this mode and this token, and are plain where the token is UTF-8
@@ -85,10 +68,6 @@ abbrev TellTransaction : Entries → Mode → Option (List ℕ) → Type 0
 TellTransaction es m token = (contents_of_mode (lookup (codes "mode") es) ≡ Ok (mode_tree m ∷ []))
     × (contents_of_metadata (lookup (codes "tx_metadata") es) ≡ Ok (token_tree token ∷ []))
     × (IfSome token IsUtf8 → HavePlain es)
-
--- the entry of a token
-abbrev token_entry : List ℕ → Entries
-token_entry s = entry_then (codes "tx_metadata") (dict (entry_then (codes "token") (text s) no_entries)) no_entries
 
 -- a mode is written alone, and with a token before it
 pub put_alone : (m : Mode) → transaction_put m None ≡ Ok (entries_of (mode_pairs m))
@@ -106,20 +85,13 @@ not_put Write s e = rw e refl
 same_entries : (m : Mode) (token : Option (List ℕ)) (x es : Entries) → ◌≡◌ {A = Result Entries MsgFault} (Ok x) (Ok es) → TellTransaction x m token → TellTransaction es m token
 same_entries m token x es e t = let same : x ≡ es = cc in subst (λ (y : Entries). TellTransaction y m token) same t
 
-entry_plain : (s : List ℕ) → IsUtf8 s → HavePlain (token_entry s)
-unfolding lib.Utf8.encode
-entry_plain s u = ((codes "tx_metadata", (refl, refl)), ((codes "token", (refl, refl)), u, tt), tt)
-
 token_told : (m : Mode) (s : List ℕ) (b : Bool) (es : Entries) → is_token s ≡ b → transaction_put m (Some s) ≡ Ok es → TellTransaction es m (Some s)
-unfolding lib.Utf8.encode
-token_told Read s true es w h = same_entries Read (Some s) (entry_then (codes "mode") (text (codes "r")) (token_entry s)) es (rw w at h) (refl, rw w refl, (λ u. ((codes "mode", (refl, refl)), (codes "r", (refl, refl)), entry_plain s u)))
-token_told Write s true es w h = same_entries Write (Some s) (token_entry s) es (rw w at h) (refl, rw w refl, entry_plain s)
-token_told Read s false es w h = let k = rw w at h in absurd cc
-token_told Write s false es w h = let k = rw w at h in absurd cc
+token_told Read s true es w h = same_entries Read (Some s) (entry_then (codes "mode") (text (codes "r")) (token_entries s)) es (rw w at h) (refl, rw w refl, λ u. (read_good s u).plain)
+token_told Write s true es w h = same_entries Write (Some s) (token_entries s) es (rw w at h) (refl, rw w refl, λ u. (write_good s u).plain)
+token_told m s false es w h = let k = sym (not_put m s w) ∙ h in absurd cc
 
 transaction_told : (m : Mode) (token : Option (List ℕ)) (es : Entries) → transaction_put m token ≡ Ok es → TellTransaction es m token
-unfolding lib.Utf8.encode
-transaction_told Read None es h = same_entries Read None (entry_then (codes "mode") (text (codes "r")) no_entries) es h (refl, refl, (λ u. ((codes "mode", (refl, refl)), (codes "r", (refl, refl)), tt)))
+transaction_told Read None es h = same_entries Read None (entry_then (codes "mode") (text (codes "r")) no_entries) es h (refl, refl, (λ u. (mode_good Read).plain))
 transaction_told Write None es h = same_entries Write None no_entries es h (refl, refl, (λ u. tt))
 transaction_told m (Some s) es h = token_told m s (is_token s) es refl h
 
@@ -134,7 +106,7 @@ written_form : (v : Version) (s u : Tree) (c : IsCell v s) → cell_put v s ≡ 
 written_form v s u c h = put_is v s u h ∙ form_again v s c.0 c.2
 
 pub cell_again : (v : Version) (s : Tree) → IsCell v s → IsBack v s
-cell_again v s c u h = ap (cell_of_field v) (written_form v s u c h) ∙ ap (λ r. cell_by r c.0) c.2.0.1 ∙ ap Ok (sym c.2.1)
+cell_again v s c u h = ap (cell_of_field v) (written_form v s u c h) ∙ told_cell v s c.0 c.2
 
 cell_plain : (v : Version) (s u : Tree) → IsCell v s → cell_put v s ≡ Ok u → IsPlain u
 cell_plain v s u c h = subst IsPlain (sym (written_form v s u c h)) c.1
@@ -155,25 +127,12 @@ run_back v s ps m token (Ok es) (Ok u) t w e p h =
 run_back v s ps m token (Ok es) (Err x) t w e p h = let k = rw (w, e) at h in absurd cc
 run_back v s ps m token (Err x) r t w e p h = let k = rw w at h in absurd cc
 
--- the entries of a login
-abbrev login_entries : AuthView → Entries
-login_entries l = entry_then (codes "scheme") (text l.scheme) (entry_then (codes "principal") (text l.principal)
-    (entry_then (codes "credentials") (text l.credentials) no_entries))
-
-texts_plain : (l : AuthView) → HasTexts l → HavePlain (login_entries l)
-unfolding lib.Utf8.encode
-texts_plain l i = (
-  (codes "scheme", (refl, refl)),
-  i.scheme,
-  ((codes "principal", (refl, refl)), i.principal, ((codes "credentials", (refl, refl)), i.credentials, tt)),
-)
-
 pub asks_back : (v : Version) (m : RequestView) (t : Tree) → AreBack v m → form_put v (request_contents m) ≡ Ok t → Asks v m t
 unfolding lib.Utf8.encode
 asks_back V51 (Hello a None) t p h = back_from V51 requests _ _ _ t h refl (λ i. (omega arith, (((codes "user_agent", (refl, refl)), i.0, tt), tt)))
-asks_back V44 (Hello a (Some l)) t p h = back_from V44 requests _ _ _ t h refl (λ i. (omega arith, (((codes "user_agent", (refl, refl)), i.0, texts_plain l i.1), tt)))
-asks_back V50 (Hello a (Some l)) t p h = back_from V50 requests _ _ _ t h refl (λ i. (omega arith, (((codes "user_agent", (refl, refl)), i.0, texts_plain l i.1), tt)))
-asks_back V51 (Logon l) t p h = back_from V51 requests _ _ _ t h refl (λ i. (omega arith, (texts_plain l i, tt)))
+asks_back V44 (Hello a (Some l)) t p h = back_from V44 requests _ _ _ t h refl (λ i. (omega arith, (((codes "user_agent", (refl, refl)), i.0, (login_good l i.1).plain), tt)))
+asks_back V50 (Hello a (Some l)) t p h = back_from V50 requests _ _ _ t h refl (λ i. (omega arith, (((codes "user_agent", (refl, refl)), i.0, (login_good l i.1).plain), tt)))
+asks_back V51 (Logon l) t p h = back_from V51 requests _ _ _ t h refl (λ i. (omega arith, ((login_good l i).plain, tt)))
 asks_back V51 Logoff t p h = back_from V51 requests _ _ _ t h refl (λ i. (omega arith, tt))
 asks_back v Goodbye t p h = back_from v requests _ _ _ t h refl (λ i. (omega arith, tt))
 asks_back v Reset t p h = back_from v requests _ _ _ t h refl (λ i. (omega arith, tt))
@@ -217,7 +176,7 @@ cell_back : (v : Version) (c : Cell) → IsBack v (shape c)
 cell_back v c u h =
     let w = writable_in (scan (fault_of_structure v) 0 (structures (shape c))) (form v (shape c)) u h in
     let f = formed_is v c (fine_scan (fault_of_structure v) 0 w.0 (structures (shape c)) w.1) in
-    ap (cell_of_field v) (put_is v (shape c) u h) ∙ ap (λ r. cell_by r (form v (shape c))) f.0.1 ∙ ap Ok (sym f.1)
+    ap (cell_of_field v) (put_is v (shape c) u h) ∙ told_cell v (shape c) (form v (shape c)) f
 
 pub request_back : (v : Version) (r : Request) → AreBack v (request_view r)
 request_back v (request.Run s ps m token) = subst (IsBack v) (shape-Dict ps) (cell_back v (DictCell ps))
@@ -227,6 +186,15 @@ pub response_back : (v : Version) (r : Response) → AreAnsweredBack v (response
 response_back v (response.Success ms) = subst (IsBack v) (shape-Dict ms) (cell_back v (DictCell ms))
 response_back v (response.Record cs) = subst (IsBack v) (shape-List cs) (cell_back v (ListCell cs))
 response_back v r = tt
+
+-- A good form is told again as the message that it was made of.
+pub asks_again : (v : Version) (r : Request) (t : Tree) (b : List ℕ) → form_put v (request_contents (request_view r)) ≡ Ok t → IsGood t → request_spelling v (request_view r) ≡ Ok b → Req v (request_view r) b
+unfolding request_spelling
+asks_again v r t b e g h = means_of (form_put v (request_contents (request_view r))) t v requests (request_contents (request_view r)) b e g (asks_back v (request_view r) t (request_back v r) e).told h
+
+pub tells_again : (v : Version) (r : Response) (t : Tree) (b : List ℕ) → form_put v (response_contents (response_view r)) ≡ Ok t → IsGood t → response_spelling v (response_view r) ≡ Ok b → Resp v (response_view r) b
+unfolding response_spelling
+tells_again v r t b e g h = means_of (form_put v (response_contents (response_view r))) t v responses (response_contents (response_view r)) b e g (tells_back v (response_view r) t (response_back v r) e).told h
 
 asked_again : (v : Version) (m : RequestView) → IsRequest v m → AreBack v m
 asked_again v (Run s ps m token) h = cell_again v (dict (entries_of ps)) h.1

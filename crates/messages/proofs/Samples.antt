@@ -1,11 +1,8 @@
 -- Streams by their bytes.
 use Rattle.std.proofs.Common.{◌≡◌, [], ◌∷◌, ◌++◌, None, Some, refl}
-use Rattle.packstream.specs.Prelude.{marker, items_at, struct_at, form_at, layer, inner, whole_of}
-use Rattle.wire.specs.declared.Version.TheVariants.{V51}
-use Rattle.wire.specs.declared.Wish.TheVariants.{Newest}
-use Rattle.wire.specs.Prelude.{offer_of, version_answer}
-use Rattle.messages.specs.declared.fault.MsgFault.TheVariants as fault
+use Rattle.messages.proofs.Words.{marker, items_at, struct_at, form_at, layer, inner, whole_of, V51, Newest, offer_of, version_answer}
 use Rattle.messages.specs.Prelude.{Reset, Ignored, request_of, response_of, Shook, NoMagic, Idle, Asked, Unread, arrivals, Chosen, Strange, Quiet, Told, hears}
+use Rattle.messages.specs.declared.fault.MsgFault.TheVariants as fault
 
 -- the offer of 5.1 and 4.4, a no-op, RESET, and half of a header
 a_reset_arrives : arrivals (offer_of Newest ++ 0 ∷ 0 ∷ 0 ∷ 2 ∷ 0xB0 ∷ 0x0F ∷ 0 ∷ 0 ∷ 0 ∷ []) ≡ Shook (Some V51) ∷ Idle ∷ Asked Reset ∷ []

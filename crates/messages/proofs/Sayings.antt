@@ -1,14 +1,6 @@
 -- What a row of the table says of a plain value is what some message holds, made of texts, of numbers in their ranges and of cells; and no value is a request and a response.
 use Rattle.std.proofs.Common.{◌≡◌, ℕ, pos, List, [], ◌∷◌, ◌++◌, Bool, true, false, Option, None, Some, IfSome, Result, Ok, Err, codes, refl, ap, sym, subst, ◌∙◌, IsUtf8}
-use Rattle.packstream.specs.Prelude.{Tree, text, list, dict, Trees, no_trees, tree_then, Entries, no_entries, entry_then, structure, entries_of, trees_of, AreBytes, IsPlain, ArePlain, HavePlain}
-use Rattle.wire.specs.declared.Version.{Version}
-use Rattle.wire.specs.declared.Version.TheVariants.{V51}
-use Rattle.structures.specs.Prelude.{typed_all, typed_under}
-use Rattle.messages.specs.declared.request.Mode.{Mode}
-use Rattle.messages.specs.declared.request.Mode.TheVariants.{Read, Write}
-use Rattle.messages.specs.declared.request.Count.{Count}
-use Rattle.messages.specs.declared.request.Count.TheVariants.{All, Of}
-use Rattle.messages.specs.declared.fault.MsgFault.{MsgFault}
+use Rattle.messages.proofs.Words.{Tree, text, list, dict, Trees, no_trees, tree_then, Entries, no_entries, entry_then, structure, entries_of, trees_of, AreBytes, IsPlain, ArePlain, HavePlain, Version, V51, typed_all, typed_under, Mode, Read, Write, Count, All, Of, MsgFault}
 use Rattle.messages.specs.Prelude.{Holds, a_text, a_mode, a_count, last_query, a_token, Named, Field, text_field, cells, cell_list, extra, Name, HELLO, LOGON, LOGOFF, GOODBYE, RESET, RUN, BEGIN, COMMIT, ROLLBACK, DISCARD, PULL, SUCCESS, RECORD, IGNORED, FAILURE, Row, layout, requests, responses, row_in, ◌>>=◌, Contents, contents, contents_of_message, mode_tree, token_tree, count_tree, request_contents, response_contents, Means, contents_in, request_held, response_held, pairs_of, list_of, IsEntry, absent, here, further, SaysEntry, the_text, reads, writes, writes_unsaid, all_rows, some_rows, of_last, of_last_unsaid, the_token, token_unsaid, metadata_unsaid, SaysNamed, no_more, passed_over, then_named, of_text, of_cells, of_list, of_extra, SaysFields, no_fields, then_field, SaysRow, of_row, IsCell, IsCount, IsRequest, IsResponse, RequestsAreMade, ResponsesAreMade}
 use Rattle.messages.proofs.Sent.{said_means, mode_back, token_back, count_back, asked_back, answered_back}
 use Rattle.messages.proofs.Layouts.{message_says, is_laid, requests_laid, responses_laid}

@@ -1,23 +1,9 @@
 -- A message that is read without a value: what was read of its parts one after the other is read of it.
-use Rattle.std.proofs.Common.{◌≡◌, ◌≤◌, ◌<◌, ℕ, ℤ, true, List, [], ◌∷◌, ◌++◌, Option, None, Ok, codes, refl, ap, sym, subst, ◌∙◌, arith, IsUtf8, Vec, Global}
-use Rattle.std.proofs.lemmas.List.{append-nil}
-use Rattle.packstream.specs.Prelude.{Tree, int, text, list, dict, structure, no_trees, tree_then, Entries, no_entries, entry_then, head, canon, IsGood, depth, entries_of, trees_of, marker, AreBytes, Spells}
-use Rattle.packstream.specs.Spelling.{SpellsEntries}
-use Rattle.packstream.specs.declared.marker.Size.TheVariants.{Here}
-use Rattle.packstream.proofs.Only.{canon_spells}
-use Rattle.wire.specs.declared.Version.{Version}
-use Rattle.wire.specs.Versions.{every_version, has_logon}
-use Rattle.cells.specs.declared.cell.Cell.{Cell, Dict as DictCase, List as ListCase}
-use Rattle.cells.specs.Prelude.{entries, shapes, IsWritable}
-use Rattle.cells.proofs.Views.{Pair, shape-Dict, shape-List}
-use Rattle.structures.specs.Prelude.{Form, form, form_all, form_under}
-use Rattle.structures.proofs.Formed.{form_of}
-use Rattle.scanner.specs.Fronts.{SpellsFront}
-use Rattle.messages.specs.declared.request.Mode.{Mode}
-use Rattle.messages.specs.declared.request.Mode.TheVariants.{Read, Write}
-use Rattle.messages.specs.declared.request.Count.{Count}
-use Rattle.messages.specs.Prelude.{AuthView, RequestView, ResponseView, request_contents, response_contents, Row, Name, Named, Others, ignored, refused, extra, requests, responses, HELLO, LOGON, RUN, BEGIN, PULL, DISCARD, SUCCESS, RECORD, IGNORED, FAILURE, hello, credentials, of_transaction, how_many, of_error, ◌>>=◌, Contents, contents, contents_of_number, contents_of_login, contents_of_dict, contents_of_extra, contents_of_row, contents_of_message, cell_by, cell_of_field, is_token, count_tree, mode_tree, token_tree, login_trees, Logon, Run, Begin, Pull, Discard, Success, Record, Ignored, Means, Req, Resp, mode_pairs, SpellsEntry, SpellsExtra, SpellsNamed, SpellsDict, SpellsList}
-use Rattle.messages.proofs.Added.{plain_good, field_good, run_good, mode_good, mode_deep}
+use Rattle.std.proofs.Common.{◌≡◌, ◌≤◌, ◌<◌, ℕ, ℤ, true, List, [], ◌∷◌, ◌++◌, Option, None, Ok, codes, refl, ap, sym, subst, ◌∙◌, arith, IsUtf8, Vec, Global, append-nil}
+use Rattle.messages.proofs.Words.{SpellsText, SpellsTree, Tree, int, text, list, dict, structure, no_trees, tree_then, Entries, no_entries, entry_then, head, canon, IsGood, depth, entries_of, trees_of, marker, AreBytes, Spells, SpellsEntries, Here, canon_spells, Version, every_version, has_logon, Cell, DictCell, ListCell, entries, shapes, IsWritable, Pair, shape-Dict, shape-List, Form, form, form_all, form_under, form_of, SpellsFront, Mode, Read, Write, Count}
+use Rattle.messages.specs.Prelude.{AuthView, RequestView, ResponseView, request_contents, response_contents, Row, Name, Named, Others, ignored, refused, extra, requests, responses, HELLO, LOGON, RUN, BEGIN, PULL, DISCARD, SUCCESS, RECORD, IGNORED, FAILURE, hello, credentials, of_transaction, how_many, of_error, ◌>>=◌, Contents, contents, contents_of_number, contents_of_login, contents_of_dict, contents_of_extra, contents_of_row, contents_of_message, cell_of_field, is_token, count_tree, mode_tree, token_tree, login_trees, Logon, Run, Begin, Pull, Discard, Success, Record, Ignored, Means, Req, Resp, mode_pairs, mode_front, token_dict, SpellsEntry, SpellsExtra, SpellsNamed, SpellsDict, SpellsList}
+use Rattle.messages.proofs.Added.{plain_good, field_good, run_good, rows_good, mode_good, mode_deep}
+use Rattle.messages.proofs.Fields.{told_cell}
 use Rattle.messages.proofs.Kept.{extra_kept}
 use Rattle.messages.proofs.Named.{token_entries, write_good, read_good}
 
@@ -84,16 +70,12 @@ failure_means v r es b = named_means v responses FAILURE 0x7F of_error (response
 
 -- ---- cells
 
--- the form of a cell is told as that cell
-told_cell : (v : Version) (s t : Tree) → Form v s t → cell_of_field v t ≡ Ok s
-told_cell v s t f = ap (λ r. cell_by r t) f.0.1 ∙ ap Ok (sym f.1)
-
 -- cells that can be written have a form
 dict_form : (v : Version) (ps : Vec Pair Global) → IsWritable v (dict (entries_of (entries ps.items))) → Form v (dict (entries_of (entries ps.items))) (form v (dict (entries_of (entries ps.items))))
-dict_form v ps = subst (λ s. IsWritable v s → Form v s (form v s)) (shape-Dict ps) (form_of v (DictCase ps))
+dict_form v ps = subst (λ s. IsWritable v s → Form v s (form v s)) (shape-Dict ps) (form_of v (DictCell ps))
 
 list_form : (v : Version) (cs : Vec Cell Global) → IsWritable v (list (trees_of (shapes cs.items))) → Form v (list (trees_of (shapes cs.items))) (form v (list (trees_of (shapes cs.items))))
-list_form v cs = subst (λ s. IsWritable v s → Form v s (form v s)) (shape-List cs) (form_of v (ListCase cs))
+list_form v cs = subst (λ s. IsWritable v s → Form v s (form v s)) (shape-List cs) (form_of v (ListCell cs))
 
 pub dict_scanned : (v : Version) (ps : Vec Pair Global) (rest b : List ℕ) → SpellsFront (form v (dict (entries_of (entries ps.items)))) rest b → IsGood (form v (dict (entries_of (entries ps.items))))
     → depth (form v (dict (entries_of (entries ps.items)))) ≤ 31 → IsWritable v (dict (entries_of (entries ps.items))) → SpellsDict v (dict (entries_of (entries ps.items))) rest b
@@ -154,15 +136,11 @@ number_entry : (z : ℤ) (b c rest : List ℕ) → b ≡ 0x81 ∷ 0x6E ∷ c →
 unfolding marker lib.Utf8.encode
 number_entry z b c rest is s = (0x81 ∷ 0x6E ∷ [], s.0, record { size = Here 1; field = []; sized = (refl, refl); utf8 = (codes "n", (refl, refl)); begins = (0x81, refl, refl) }, s.1.1, is ∙ ap (λ x. 0x81 ∷ 0x6E ∷ x) s.2)
 
-number_good : (z : ℤ) → IsGood (int z) → IsGood (dict (entry_then (codes "n") (int z) no_entries))
-unfolding lib.Utf8.encode
-number_good z g = record { deep = omega arith; sound = ((refl, tt), (tt, tt)); plain = ((codes "n", (refl, refl)), g.plain, tt) }
-
 pub rows_scanned : (v : Version) (c : Count) (z : ℤ) (w d rest : List ℕ) → AreBytes w → w ≡ 0xA1 ∷ 0x81 ∷ 0x6E ∷ d → SpellsFront (int z) rest d → IsGood (int z) → rest ≡ [] → contents_of_number z ≡ Ok (count_tree c ∷ [])
     → SpellsExtra v refused how_many (count_tree c ∷ []) w
 rows_scanned v c z w d rest bytes is s g none h = record {
   entries = entry_then (codes "n") (int z) no_entries;
-  good = number_good z g;
+  good = rows_good z g.plain;
   deep = omega arith;
   spelled = one_spelled (codes "n") (int z) w (0x81 ∷ 0x6E ∷ d) rest bytes is (number_entry z (0x81 ∷ 0x6E ∷ d) d rest refl s) none;
   told = ap (λ r. r >>= λ x. Ok (x ++ [])) h;
@@ -182,68 +160,33 @@ pub mode_scanned : (v : Version) (m : Mode) (b : List ℕ) → b ≡ canon (dict
 mode_scanned v m b e = record { entries = entries_of (mode_pairs m); good = mode_good m; deep = mode_deep m; spelled = mode_spelled m b e; told = mode_told v m }
 
 -- the entry of a token, the last
-pub token_entry : (s b d rest : List ℕ) → b ≡ 0x8B ∷ codes "tx_metadata" ++ 0xA1 ∷ 0x85 ∷ codes "token" ++ d → SpellsFront (text s) rest d → rest ≡ [] → SpellsEntries (token_entries s) b
+token_entry : (s b d rest : List ℕ) → b ≡ 0x8B ∷ codes "tx_metadata" ++ 0xA1 ∷ 0x85 ∷ codes "token" ++ d → SpellsFront (text s) rest d → rest ≡ [] → SpellsEntries (token_entries s) b
 unfolding marker lib.Utf8.encode
-token_entry s b d rest is t none = (
-  0x8B ∷ codes "tx_metadata",
-  0xA1 ∷ 0x85 ∷ codes "token" ++ d,
-  [],
-  record { size = Here 11; field = []; sized = (refl, refl); utf8 = (codes "tx_metadata", (refl, refl)); begins = (0x8B, refl, refl) },
-  (
-    Here 1,
-    [],
-    0x85 ∷ codes "token" ++ d,
-    (refl, refl),
-    (
-      0x85 ∷ codes "token",
-      t.0,
-      rest,
-      record { size = Here 5; field = []; sized = (refl, refl); utf8 = (codes "token", (refl, refl)); begins = (0x85, refl, refl) },
-      t.1.1,
-      none,
-      ap (λ x. 0x85 ∷ codes "token" ++ x) t.2,
-    ),
-    (0xA1, refl, refl),
-  ),
-  refl,
-  is ∙ ap (λ x. 0x8B ∷ codes "tx_metadata" ++ x) (sym (append-nil (0xA1 ∷ 0x85 ∷ codes "token" ++ d))),
-)
+token_entry s b d rest is t none =
+    let name : SpellsText (codes "tx_metadata") (0x8B ∷ codes "tx_metadata") = record { size = Here 11; field = []; sized = (refl, refl); utf8 = (codes "tx_metadata", (refl, refl)); begins = (0x8B, refl, refl) } in
+    let key : SpellsText (codes "token") (0x85 ∷ codes "token") = record { size = Here 5; field = []; sized = (refl, refl); utf8 = (codes "token", (refl, refl)); begins = (0x85, refl, refl) } in
+    let first = entry_first (codes "token") (text s) no_entries rest (0x85 ∷ codes "token" ++ d) (0x85 ∷ codes "token", t.0, key, t.1.1, ap (λ x. 0x85 ∷ codes "token" ++ x) t.2) none in
+    let words : SpellsTree (token_dict s) (0xA1 ∷ 0x85 ∷ codes "token" ++ d) = (Here 1, [], 0x85 ∷ codes "token" ++ d, (refl, refl), first, (0xA1, refl, refl)) in
+    (0x8B ∷ codes "tx_metadata", 0xA1 ∷ 0x85 ∷ codes "token" ++ d, [], name, words, refl, is ∙ ap (λ x. 0x8B ∷ codes "tx_metadata" ++ x) (sym (append-nil (0xA1 ∷ 0x85 ∷ codes "token" ++ d))))
 
-pub token_scanned : (v : Version) (s w b : List ℕ) → AreBytes w → w ≡ 0xA1 ∷ b → SpellsEntries (token_entries s) b → is_token s ≡ true → IsUtf8 s → SpellsExtra v ignored of_transaction (mode_tree Write ∷ text s ∷ []) w
-unfolding marker
-token_scanned v s w b bytes is q f u = record {
+-- a token behind the mode
+pub token_scanned : (v : Version) (m : Mode) (s w b d rest : List ℕ) → AreBytes w → w ≡ mode_front m ++ b → b ≡ 0x8B ∷ codes "tx_metadata" ++ 0xA1 ∷ 0x85 ∷ codes "token" ++ d → SpellsFront (text s) rest d → rest ≡ [] → is_token s ≡ true → IsGood (text s)
+    → SpellsExtra v ignored of_transaction (mode_tree m ∷ text s ∷ []) w
+unfolding marker lib.Utf8.encode
+token_scanned v Write s w b d rest bytes is at t none f g = record {
   entries = token_entries s;
-  good = write_good s u;
+  good = write_good s g.plain;
   deep = omega arith;
-  spelled = (bytes, (Here 1, [], b, (refl, refl), q, (0xA1, refl, is)));
+  spelled = (bytes, (Here 1, [], b, (refl, refl), token_entry s b d rest at t none, (0xA1, refl, is)));
   told = rw f refl;
 }
-
-pub mode_and_token_scanned : (v : Version) (s w b : List ℕ) → AreBytes w → w ≡ 0xA2 ∷ 0x84 ∷ codes "mode" ++ 0x81 ∷ 0x72 ∷ b → SpellsEntries (token_entries s) b → is_token s ≡ true → IsUtf8 s
-    → SpellsExtra v ignored of_transaction (mode_tree Read ∷ text s ∷ []) w
-unfolding marker lib.Utf8.encode
-mode_and_token_scanned v s w b bytes is q f u = record {
-  entries = entry_then (codes "mode") (text (codes "r")) (token_entries s);
-  good = read_good s u;
-  deep = omega arith;
-  spelled = (
-    bytes,
-    (
-      Here 2,
-      [],
-      0x84 ∷ codes "mode" ++ 0x81 ∷ 0x72 ∷ b,
-      (refl, refl),
-      (
-        0x84 ∷ codes "mode",
-        0x81 ∷ 0x72 ∷ [],
-        b,
-        record { size = Here 4; field = []; sized = (refl, refl); utf8 = (codes "mode", (refl, refl)); begins = (0x84, refl, refl) },
-        record { size = Here 1; field = []; sized = (refl, refl); utf8 = (codes "r", (refl, refl)); begins = (0x81, refl, refl) },
-        q,
-        refl,
-      ),
-      (0xA2, refl, is),
-    ),
-  );
-  told = rw f refl;
-}
+token_scanned v Read s w b d rest bytes is at t none f g =
+    let key : SpellsText (codes "mode") (0x84 ∷ codes "mode") = record { size = Here 4; field = []; sized = (refl, refl); utf8 = (codes "mode", (refl, refl)); begins = (0x84, refl, refl) } in
+    let mode : SpellsText (codes "r") (0x81 ∷ 0x72 ∷ []) = record { size = Here 1; field = []; sized = (refl, refl); utf8 = (codes "r", (refl, refl)); begins = (0x81, refl, refl) } in
+    record {
+      entries = entry_then (codes "mode") (text (codes "r")) (token_entries s);
+      good = read_good s g.plain;
+      deep = omega arith;
+      spelled = (bytes, (Here 2, [], 0x84 ∷ codes "mode" ++ 0x81 ∷ 0x72 ∷ b, (refl, refl), (0x84 ∷ codes "mode", 0x81 ∷ 0x72 ∷ [], b, key, mode, token_entry s b d rest at t none, refl), (0xA2, refl, is)));
+      told = rw f refl;
+    }

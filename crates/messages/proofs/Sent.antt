@@ -1,24 +1,12 @@
 -- What bytes mean, by the relations and by the functions; and what is written of a message, which is a message of the wire and is read as that message.
-use Rattle.std.proofs.Common.{◌++◌, append-nil, ◌≡◌, ◌↔◌, ℕ, List, [], ◌∷◌, Option, None, Some, Result, Ok, Err, IsErrAnd, inl, inr, sym, ap, ◌∙◌, refl, ◌<◌, ◌≤◌, length, Bool, true, false, cond, nat_lt, arith, subst}
-use Rattle.packstream.specs.declared.fault.Reason.{Reason}
-use Rattle.packstream.specs.declared.fault.PackFault.{PackFault}
-use Rattle.packstream.specs.Prelude.{Tree, structure, IsGood, Spells, SpellsTree, AreBytes, Bad, entries_of, trees_of, whole_of, UnlessMemory as PackUnless, canon, first_fault, faults_in}
-use Rattle.packstream.proofs.Deciding.{whole_value, whole_fault, no_proper_beginning_is}
-use Rattle.wire.specs.declared.Version.{Version}
-use Rattle.messages.specs.declared.request.Mode.{Mode}
-use Rattle.messages.specs.declared.request.Mode.TheVariants.{Read, Write}
-use Rattle.messages.specs.declared.request.Count.{Count}
-use Rattle.messages.specs.declared.request.Count.TheVariants.{All, Of}
-use Rattle.messages.specs.declared.fault.MsgFault.{MsgFault}
-use Rattle.messages.specs.Prelude.{Row, requests, responses, RequestView, Hello, Run, Begin, Discard, Pull, ResponseView, Success, Record, Ignored, Failure, of_pack, ◌>>=◌, Contents, contents_of_message, Answers, mode_tree, token_tree, count_tree, request_contents, response_contents, Means, IsNone, Gave, UnlessMemory, contents_by, contents_in, request_held, response_held, pairs_of, list_of, mode_in, token_in, count_in, Req, Resp, request_of, response_of, packed_by, spelling_within, spelling_of_tree, Appends, form_put, request_spelling, response_spelling, run_of_result}
-use borrow.Author.Tests.{ltb-true, ltb-false}
-use Rattle.packstream.proofs.Only.{canon_spells}
-use Rattle.wire.specs.Prelude.{Item, Opening, Message, item_bytes}
+use Rattle.std.proofs.Common.{◌++◌, ◌≡◌, ◌↔◌, ℕ, List, [], ◌∷◌, Option, None, Some, Result, Ok, Err, IsErrAnd, inl, inr, sym, ap, ◌∙◌, refl, ◌<◌, ◌≤◌, length, Bool, true, false, cond, nat_lt, arith, subst}
+use Rattle.messages.proofs.Words.{Request, Response, Reason, PackFault, Tree, structure, IsGood, Spells, SpellsTree, AreBytes, Bad, entries_of, trees_of, whole_of, PackUnless, canon, first_fault, faults_in, whole_value, whole_fault, no_proper_beginning_is, Version, Mode, Read, Write, Count, All, Of, MsgFault, ltb-true, ltb-false, canon_spells, Item, Opening, Message, item_bytes}
+use Rattle.messages.specs.Prelude.{request_view, response_view, Row, requests, responses, RequestView, Hello, Run, Begin, Discard, Pull, ResponseView, Success, Record, Ignored, Failure, of_pack, ◌>>=◌, Contents, contents_of_message, Answers, mode_tree, token_tree, count_tree, request_contents, response_contents, Means, IsNone, Gave, UnlessMemory, value_told, contents_by, contents_in, request_held, response_held, pairs_of, list_of, mode_in, token_in, count_in, Req, Resp, request_of, response_of, packed_by, spelling_within, spelling_of_tree, Appends, form_put, request_spelling, response_spelling, run_of_result}
 use Rattle.packstream.specs.declared.fault.PackFault.TheVariants as pack
 use Rattle.messages.specs.declared.fault.MsgFault.TheVariants as fault
 
-pub means_said : (v : Version) (table : List Row) (s : Contents) (b : List ℕ) (bytes : AreBytes b) → Means v table s b → contents_in v table b ≡ Ok s
-means_said v table s b bytes h = ap (contents_by v table) ((whole_value b bytes h.value).1 (h.good, h.spelled)) ∙ h.says
+pub means_said : (v : Version) (table : List Row) (s : Contents) (b : List ℕ) → Means v table s b → contents_in v table b ≡ Ok s
+means_said v table s b h = ap (contents_by v table) ((whole_value b h.spelled.0 h.value).1 (h.good, h.spelled)) ∙ h.says
 
 -- what is read of a value is what is read of every spelling of it
 pub spelled_answers : {X : Type 0} (view : X → Contents) (v : Version) (table : List Row) (u t : Tree) (b : List ℕ) (r : Result X MsgFault) → u ≡ t → IsGood t → Spells t b
@@ -51,13 +39,18 @@ pub err_is : {X : Type 0} (r : Result X MsgFault) (x : MsgFault) → IsErrAnd r 
 err_is (Ok y) x h = absurd h
 err_is (Err e) x h = ap Err h
 
+-- what is read of the value that bytes spell
+pub by_value : (v : Version) (table : List Row) (r : Result Tree (Reason × ℕ)) → contents_by v table r ≡ (value_told r >>= λ t. contents_of_message v table t)
+by_value v table (Ok t) = refl
+by_value v table (Err e) = refl
+
 -- the decoder's fault is what the bytes say
-pub bad_answers : {X : Type 0} (view : X → Contents) (v : Version) (table : List Row) (b : List ℕ) (bytes : AreBytes b) (p : PackFault) (r : Result X MsgFault)
-    → ((q : Reason) (o : ℕ) → PackUnless {A = Tree} (Err p) (◌≡◌ {A = Result Tree PackFault} (Err p) (Err (pack.Refused q o)) ↔ Bad b o q)) → r ≡ Err (of_pack p) → Answers view r (contents_in v table b)
-bad_answers view v table b bytes (pack.Refused q o) r h e =
-    let w : contents_in v table b ≡ Err (fault.Pack q o) = ap (contents_by v table) ((whole_fault b bytes q o).1 ((h q o).0 refl)) in
+pub bad_answers : {X : Type 0} (view : X → Tree) (b : List ℕ) (bytes : AreBytes b) (p : PackFault) (r : Result X MsgFault)
+    → ((q : Reason) (o : ℕ) → PackUnless {A = Tree} (Err p) (◌≡◌ {A = Result Tree PackFault} (Err p) (Err (pack.Refused q o)) ↔ Bad b o q)) → r ≡ Err (of_pack p) → Answers view r (value_told (whole_of b))
+bad_answers view b bytes (pack.Refused q o) r h e =
+    let w : value_told (whole_of b) ≡ Err (fault.Pack q o) = ap value_told ((whole_fault b bytes q o).1 ((h q o).0 refl)) in
     rw e (λ n. w)
-bad_answers view v table b bytes pack.Memory r h e = rw e (λ n. absurd (n refl))
+bad_answers view b bytes pack.Memory r h e = rw e (λ n. absurd (n refl))
 
 -- What a message holds tells it.
 pairs_back : (es : List (List ℕ × Tree)) → pairs_of (entries_of es) ≡ es
@@ -99,11 +92,11 @@ pub gives_message : {X Y : Type 0} (see : X → Y) (holds : Y → Contents) (bac
     → Answers (λ x. holds (see x)) r (contents_in v table b) → (m : Y) → UnlessMemory r (Gave see r m ↔ Means v table (holds m) b)
 gives_message see holds back tells v table b bytes (Ok x) h m = (
   (λ (e : see x ≡ m). said_means v table (holds m) b bytes (h ∙ ap (λ y. Ok (holds y)) e)),
-  (λ (w : Means v table (holds m) b). let same : holds (see x) ≡ holds m = (let k = means_said v table (holds m) b bytes w in cc) in sym (tells (see x)) ∙ ap back same ∙ tells m),
+  (λ (w : Means v table (holds m) b). let same : holds (see x) ≡ holds m = (let k = means_said v table (holds m) b w in cc) in sym (tells (see x)) ∙ ap back same ∙ tells m),
 )
 gives_message see holds back tells v table b bytes (Err e) h m = λ n. (
   (λ (w : ⊥). absurd w),
-  (λ (w : Means v table (holds m) b). let k = means_said v table (holds m) b bytes w in let f = h n in absurd cc),
+  (λ (w : Means v table (holds m) b). let k = means_said v table (holds m) b w in let f = h n in absurd cc),
 )
 
 pub gives_fault : {X : Type 0} (view : X → Contents) (v : Version) (table : List Row) (b : List ℕ) (bytes : AreBytes b) (r : Result X MsgFault)
@@ -126,21 +119,28 @@ pub gives_same : {X Y : Type 0} (see : X → Y) (holds : Y → Contents) (back :
 gives_same see holds back tells (Ok x) s h = ap (λ r. r >>= λ y. Ok (back y)) h ∙ ap Ok (tells (see x))
 gives_same see holds back tells (Err e) s h = λ n. ap (λ r. r >>= λ y. Ok (back y)) (h n)
 
+-- the same of what is read as a request
+pub reads_request : (v : Version) (b : List ℕ) (r : Result Request MsgFault) (m : RequestView) → AreBytes b → Answers (λ x. request_contents (request_view x)) r (contents_in v requests b) → UnlessMemory r (Gave request_view r m ↔ Req v m b)
+reads_request v b r m bytes h = gives_message request_view request_contents request_held asked_back v requests b bytes r h m
+
+pub same_request : (v : Version) (b : List ℕ) (r : Result Request MsgFault) → Answers (λ x. request_contents (request_view x)) r (contents_in v requests b) → Answers request_view r (request_of v b)
+unfolding request_of
+same_request v b r h = gives_same request_view request_contents request_held asked_back r (contents_in v requests b) h
+
+-- and of what is read as a response
+pub reads_response : (v : Version) (b : List ℕ) (r : Result Response MsgFault) (m : ResponseView) → AreBytes b → Answers (λ x. response_contents (response_view x)) r (contents_in v responses b) → UnlessMemory r (Gave response_view r m ↔ Resp v m b)
+reads_response v b r m bytes h = gives_message response_view response_contents response_held answered_back v responses b bytes r h m
+
+pub same_response : (v : Version) (b : List ℕ) (r : Result Response MsgFault) → Answers (λ x. response_contents (response_view x)) r (contents_in v responses b) → Answers response_view r (response_of v b)
+unfolding response_of
+same_response v b r h = gives_same response_view response_contents response_held answered_back r (contents_in v responses b) h
+
 -- bytes and more that say something spell one value
 pub one_value : (v w : Version) (table other : List Row) (s u : Contents) (b more : List ℕ) → Means v table s b → Means w other u (b ++ more) → (t : Tree) × (contents_of_message v table t ≡ Ok s) × (contents_of_message w other t ≡ Ok u)
 one_value v w table other s u b more p q =
     let same : p.value ≡ q.value =
     (no_proper_beginning_is p.value q.value b more p.good q.good p.spelled q.spelled).1 in
     (q.value, ap (contents_of_message v table) (sym same) ∙ p.says, q.says)
-
--- bytes say one thing at most
-pub means_one : (v : Version) (table : List Row) (s u : Contents) (b : List ℕ) → Means v table s b → Means v table u b → s ≡ u
-means_one v table s u b p q =
-    let again : Means v table u (b ++ []) = rw append-nil q in
-    let t = one_value v v table table s u b [] p again in
-    let told : contents_of_message v table t.0 ≡ Ok s = t.1 in
-    let other : contents_of_message v table t.0 ≡ Ok u = t.2 in
-    cc
 
 size_fits : (n : ℕ) (b : Bool) (s : List ℕ) → nat_lt 65536 n ≡ b → (65536 < n → ⊥) → cond {A = Result (List ℕ) MsgFault} b (Err fault.Size) (Ok s) ≡ Ok s
 size_fits n true s e h = absurd (h (ltb-true _ _ e))
@@ -214,11 +214,11 @@ response_fits v m b e h = (some_means v responses (response_contents m) b h, sho
 
 pub request_is : (v : Version) (m : RequestView) (b : List ℕ) → Req v m b → request_of v b ≡ Ok m
 unfolding request_of
-request_is v m b h = ap (λ r. r >>= λ s. Ok (request_held s)) (means_said v requests (request_contents m) b h.spelled.0 h) ∙ ap Ok (asked_back m)
+request_is v m b h = ap (λ r. r >>= λ s. Ok (request_held s)) (means_said v requests (request_contents m) b h) ∙ ap Ok (asked_back m)
 
 pub response_is : (v : Version) (m : ResponseView) (b : List ℕ) → Resp v m b → response_of v b ≡ Ok m
 unfolding response_of
-response_is v m b h = ap (λ r. r >>= λ s. Ok (response_held s)) (means_said v responses (response_contents m) b h.spelled.0 h) ∙ ap Ok (answered_back m)
+response_is v m b h = ap (λ r. r >>= λ s. Ok (response_held s)) (means_said v responses (response_contents m) b h) ∙ ap Ok (answered_back m)
 
 -- the item of a spelling, or one of no bytes
 abbrev pub sent : Result (List ℕ) MsgFault → Item

@@ -1,8 +1,9 @@
 -- Messages a part at a time, as the code reads and builds them. Private functions and proofs alone need it: what it says is compared with the table.
-use Rattle.std.specs.Prelude.{if◌then◌else◌, ◌≡◌, ℕ, map, String, string_bytes, pos, negsuc, int_le, List, [], ◌∷◌, codes, Option, None, Some, Result, Ok, Err}
+use Rattle.std.specs.Prelude.{if◌then◌else◌, ◌≡◌, ℕ, map, String, string_bytes, pos, negsuc, int_le, List, [], ◌∷◌, ◌++◌, codes, Option, None, Some, Result, Ok, Err}
 use Rattle.std.specs.Borrow.{Bor}
 use Rattle.std.specs.declared.alloc.Global.{Global}
 use Rattle.cells.specs.Shape.{text_of}
+use Rattle.packstream.specs.declared.fault.Reason.{Reason}
 use Rattle.packstream.specs.Tree.{Tree, null, int, text, list, dict, structure, Trees, no_trees, tree_then, Entries}
 use Rattle.packstream.specs.View.{entries_of}
 use Rattle.wire.specs.declared.Version.{Version}
@@ -41,6 +42,11 @@ IsKind seen (Int z) o = o ≡ Some (int z)
 IsKind seen (Dict es) o = o ≡ Some (dict (entries_seen seen es.now))
 IsKind seen Other o = IsOther o
 
+-- the value that the decoder tells of bytes, or their fault
+abbrev pub value_told : Result Tree (Reason × ℕ) → Result Tree MsgFault
+value_told (Ok t) = Ok t
+value_told (Err e) = Err (fault.Pack e.0 e.1)
+
 -- no field; any field is a fault
 abbrev pub no_field : Trees → Result (Unit {0}) MsgFault
 no_field no_trees = Ok tt
@@ -50,6 +56,11 @@ no_field (tree_then t ts) = Err fault.Fields
 abbrev pub one_field : Trees → Result Tree MsgFault
 one_field (tree_then t no_trees) = Ok t
 one_field ts = Err fault.Fields
+
+-- three fields; another number of them is a fault
+abbrev pub three_fields : Trees → Result (Tree × Tree × Tree) MsgFault
+three_fields (tree_then t (tree_then u (tree_then w no_trees))) = Ok (t, u, w)
+three_fields ts = Err fault.Fields
 
 -- the entries of a field that is a dictionary; another kind is a fault
 abbrev pub entries_of_dict : Tree → Result Entries MsgFault
@@ -64,24 +75,6 @@ only_dict ts = one_field ts >>= entries_of_dict
 abbrev pub members_of_list : Tree → Result Trees MsgFault
 members_of_list (list ts) = Ok ts
 members_of_list t = Err fault.Fields
-
--- what the fields of a RUN are
-pub record RunParts : Type 0 where
-  pub text : List ℕ
-  -- a dictionary of cells as it stands
-  pub parameters : Tree
-  -- the entries of the last field
-  pub entries : Entries
-
--- the parts of a RUN
-abbrev pub parts : List ℕ → Tree → Entries → RunParts
-parts s t es = record { text = s; parameters = t; entries = es }
-
--- the parts of three fields: a text and two dictionaries; other fields are a fault
-abbrev pub run_parts : Trees → Result RunParts MsgFault
-run_parts (tree_then (text s) (tree_then (dict ps) (tree_then (dict es) no_trees))) =
-    Ok (parts s (dict ps) es)
-run_parts ts = Err fault.Fields
 
 -- who a client is, the same at each version
 abbrev pub contents_of_login : Entries → Result (List Tree) MsgFault
@@ -106,13 +99,13 @@ abbrev pub as_list : Tree → Result Tree MsgFault
 as_list (list ts) = Ok (list ts)
 as_list t = Err fault.Fields
 
--- a field as a dictionary of cells of the version; a fault of the cells comes before one of its kind
+-- a field as a dictionary of cells of the version; a fault of its kind comes before one of the cells
 abbrev pub dict_of_cells : Version → Tree → Result Tree MsgFault
-dict_of_cells v t = cell_of_field v t >>= as_dict
+dict_of_cells v t = entries_of_dict t >>= λ es. cell_of_field v t >>= as_dict
 
--- a field as a list of cells of the version; a fault of the cells comes before one of its kind
+-- a field as a list of cells of the version; a fault of its kind comes before one of the cells
 abbrev pub list_of_cells : Version → Tree → Result Tree MsgFault
-list_of_cells v t = cell_of_field v t >>= as_list
+list_of_cells v t = members_of_list t >>= λ ts. cell_of_field v t >>= as_list
 
 -- a message without fields
 abbrev pub contents_of_plain : Contents → Trees → Result Contents MsgFault
@@ -140,6 +133,11 @@ rows_put c = named_put V51 how_many (count_tree c ∷ [])
 abbrev pub mode_pairs : Mode → List (List ℕ × Tree)
 mode_pairs Read = (codes "mode", text (codes "r")) ∷ []
 mode_pairs Write = []
+
+-- the bytes before the entry of a token: how many entries there are, and that of the mode, if it is written
+abbrev pub mode_front : Mode → List ℕ
+mode_front Read = 0xA2 ∷ 0x84 ∷ codes "mode" ++ 0x81 ∷ 0x72 ∷ []
+mode_front Write = 0xA1 ∷ []
 
 -- a dictionary of a token alone
 abbrev pub token_dict : List ℕ → Tree

@@ -2,8 +2,8 @@
 pub use Rattle.messages.specs.View.{AuthView, auth_view, auth_in, RequestView, Hello, Logon, Logoff, Goodbye, Reset, Run, Begin, Commit, Rollback, Discard, Pull, ResponseView, Success, Record, Ignored, Failure, token_view, request_view, response_view}
 pub use Rattle.messages.specs.Table.{hello, of_error, LOGON, LOGOFF, GOODBYE, RESET, RUN, BEGIN, COMMIT, ROLLBACK, DISCARD, PULL, SUCCESS, RECORD, IGNORED, ignored, FAILURE, Holds, a_text, a_mode, a_count, last_query, a_token, Name, Named, Others, refused, cells, Field, text_field, cell_list, extra, HELLO, Row, credentials, of_transaction, how_many, layout, requests, responses, row_in, run_tag}
 pub use Rattle.messages.specs.Faults.{of_pack, of_cell}
-pub use Rattle.messages.specs.Reading.{◌>>=◌, contents, Contents, are_kinds, lookup, contents_of_text, contents_of_mode, contents_of_number, is_token, contents_of_token, contents_of_metadata, contents_of_entry, contents_of_named, is_named, all_named, contents_of_extra, contents_of_entries, cell_by, cell_of_field, contents_of_fields, contents_of_row, row_at, contents_by_row, contents_of_message, mode_tree, count_tree, token_tree, request_contents, response_contents, login_trees, Answers, contents_at_tag, contents_of_count}
-pub use Rattle.messages.specs.Parts.{no_field, one_field, entries_of_dict, only_dict, members_of_list, run_parts, entries_seen, contents_of_login, contents_of_dict, as_dict, as_list, contents_of_run, with_dict, transaction_put, rows_put, mode_pairs, token_dict, count_number, named_text, of_texts, login_pairs, hello_pairs, error_pairs, IsKind, contents_of_plain, dict_of_cells, field_text, list_of_cells, parts}
+pub use Rattle.messages.specs.Reading.{◌>>=◌, contents, Contents, are_kinds, lookup, contents_of_text, contents_of_mode, contents_of_number, is_token, contents_of_token, contents_of_query, contents_of_metadata, contents_of_entry, contents_of_named, is_named, all_named, contents_of_extra, contents_of_entries, cell_by, cell_of_field, contents_of_fields, contents_of_row, row_at, contents_by_row, contents_of_message, mode_tree, count_tree, token_tree, request_contents, response_contents, login_trees, Answers, contents_at_tag, contents_of_count}
+pub use Rattle.messages.specs.Parts.{value_told, no_field, one_field, entries_of_dict, only_dict, members_of_list, three_fields, entries_seen, contents_of_login, contents_of_dict, as_dict, as_list, contents_of_run, with_dict, transaction_put, rows_put, mode_pairs, mode_front, token_dict, count_number, named_text, of_texts, login_pairs, hello_pairs, error_pairs, IsKind, contents_of_plain, dict_of_cells, field_text, list_of_cells}
 pub use Rattle.messages.specs.Messages.{SpellsWhere, Means, IsNone, Req, Resp, Gave, UnlessMemory, contents_by, contents_in, pairs_of, list_of, mode_in, token_in, count_in, request_held, response_held, NoRequest, NoResponse}
 unfoldable pub use Rattle.messages.specs.Messages.{request_of, response_of}
 pub use Rattle.messages.specs.Cells.{value_by, form_by, cell_put}

@@ -1,8 +1,8 @@
 //! Messages of bytes.
 ghost use Rattle.std.specs.Prelude.{◌≡◌, ◌↔◌, ℕ, List, Ok, Err, OnOk};
-ghost use Rattle.packstream.specs.Prelude.{canon, IsGood, Spells, tree};
+ghost use Rattle.packstream.specs.Prelude.{canon, IsGood, Spells, tree, whole_of};
 ghost use Rattle.messages.specs.declared.fault.MsgFault.{MsgFault as AnyFault};
-ghost use Rattle.messages.specs.Prelude.{requests, responses, request_view, response_view, RequestView, ResponseView, Answers, request_contents, response_contents, Req, Resp, NoRequest, NoResponse, Gave, UnlessMemory, contents_in, request_of, response_of, Appends, spelling_within, spelling_of_tree, request_spelling, response_spelling};
+ghost use Rattle.messages.specs.Prelude.{requests, responses, request_view, response_view, RequestView, ResponseView, Answers, request_contents, response_contents, Req, Resp, NoRequest, NoResponse, Gave, UnlessMemory, value_told, contents_in, request_of, response_of, Appends, spelling_within, spelling_of_tree, request_spelling, response_spelling};
 
 use crate::fault::MsgFault;
 use crate::read_requests::{request_of_value, scan_request};
@@ -16,6 +16,15 @@ use packstream::{PackFault, Packed, Value, decode, encode};
 use std::alloc::Global;
 use wire::Version;
 
+/// The value that the bytes of a message spell.
+fn value_in(alloc: Global, bytes: &[u8]) -> Result<Packed, MsgFault>
+    ensures { Answers (λ p. p) result (value_told (whole_of bytes.now)) }
+{
+    let packed = decode(alloc, bytes)?;
+    Ok(packed)
+}
+
+#[tactic(auto, using(crate::proofs::Sent::by_value, crate::proofs::Sent::means_said))]
 fn request_in(alloc: Global, version: Version, bytes: &[u8]) -> Result<Request, MsgFault>
     ensures { Answers (λ r. request_contents (request_view r)) result
         (contents_in version requests bytes.now) }
@@ -23,10 +32,11 @@ fn request_in(alloc: Global, version: Version, bytes: &[u8]) -> Result<Request, 
     if let Ok(request) = scan_request(alloc, version, bytes) {
         return Ok(request);
     }
-    let packed = decode(alloc, bytes)?;
+    let packed = value_in(alloc, bytes)?;
     request_of_value(alloc, version, packed.value())
 }
 
+#[tactic(auto, using(crate::proofs::Sent::by_value, crate::proofs::Sent::means_said))]
 fn response_in(alloc: Global, version: Version, bytes: &[u8]) -> Result<Response, MsgFault>
     ensures { Answers (λ r. response_contents (response_view r)) result
         (contents_in version responses bytes.now) }
@@ -34,7 +44,7 @@ fn response_in(alloc: Global, version: Version, bytes: &[u8]) -> Result<Response
     if let Ok(response) = scan_response(alloc, version, bytes) {
         return Ok(response);
     }
-    let packed = decode(alloc, bytes)?;
+    let packed = value_in(alloc, bytes)?;
     response_of_value(alloc, version, packed.value())
 }
 

@@ -6,12 +6,15 @@ ghost use Rattle.messages.specs.Prelude.{Answers, lookup, contents_of_text, cont
 ghost use Rattle.wire.specs.declared.Version.TheVariants.{V51};
 
 use crate::MAX_TOKEN;
-use crate::fault::MsgFault;
+use crate::fault::{Answer, MsgFault};
 use crate::request::{Auth, Count, Mode, Request};
 use crate::response::Response;
 use packstream::Value;
 use structures::Cell;
 use wire::Version;
+
+/// The mode of a transaction, and its token if it has one.
+pub(crate) type Transaction = (Mode, Option<String>);
 
 /// What stands under a name.
 #[derive(Drop)]
@@ -89,15 +92,8 @@ fn mode_in<T: Item>(pairs: &[(String, T)]) -> Result<Mode, MsgFault>
 {
     match entry(pairs, "mode") {
         Kind::Absent => Ok(Mode::Write),
-        Kind::Text(text) => {
-            if text.as_str() == "r" {
-                return Ok(Mode::Read);
-            }
-            if text.as_str() == "w" {
-                return Ok(Mode::Write);
-            }
-            Err(MsgFault::Extra)
-        }
+        Kind::Text(text) if text.as_str() == "r" => Ok(Mode::Read),
+        Kind::Text(text) if text.as_str() == "w" => Ok(Mode::Write),
         _ => Err(MsgFault::Extra),
     }
 }
@@ -122,9 +118,7 @@ fn token_among<T: Item>(words: &[(String, T)]) -> Result<Option<String>, MsgFaul
 }
 
 /// The mode of a transaction, and its token if it has one.
-pub(crate) fn transaction_of<T: Item>(
-    pairs: &[(String, T)],
-) -> Result<(Mode, Option<String>), MsgFault>
+pub(crate) fn transaction_of<T: Item>(pairs: &[(String, T)]) -> Answer<Transaction>
     ensures { Answers (λ x. mode_tree x.0 ∷ token_tree (token_view x.1) ∷ []) result
         (contents_of_named V51 of_transaction (entries_seen T.seen pairs.now)) }
 {
@@ -191,10 +185,7 @@ pub(crate) fn auth_of<T: Item>(pairs: &[(String, T)]) -> Result<Auth, MsgFault>
 
 /// A HELLO: the client's name, and who it is if the version tells that with it.
 #[tactic(auto, using(crate::proofs::Fields::login_here))]
-pub(crate) fn hello_of<T: Item>(
-    version: Version,
-    pairs: &[(String, T)],
-) -> Result<Request, MsgFault>
+pub(crate) fn hello_of<T: Item>(version: Version, pairs: &[(String, T)]) -> Answer<Request>
     ensures { Answers (λ r. request_contents (request_view r)) result
         (contents_of_dict version HELLO hello (entries_seen T.seen pairs.now)) }
 {

@@ -42,6 +42,9 @@ pub enum MsgFault {
     Size,
 }
 
+/// What is read or written, or the fault.
+pub(crate) type Answer<T> = Result<T, MsgFault>;
+
 impl From<AllocError> for MsgFault {
     ghost from_gives = { λ _ e. e ≡ Memory };
 

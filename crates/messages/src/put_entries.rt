@@ -1,28 +1,13 @@
 //! The named entries of a dictionary, written straight into an output.
 ghost use Rattle.std.specs.Prelude.{◌≡◌, ◌≤◌, ◌++◌, ◌∷◌, [], Some, true, OnOk, codes, length, map, string_bytes};
 ghost use Rattle.packstream.specs.Prelude.{canon, canon_entries, entries_of};
-ghost use Rattle.messages.specs.Prelude.{AddsEntries, is_token as token_fits, transaction_put, rows_put, token_dict, named_text, of_texts, login_pairs, hello_pairs, error_pairs, auth_view, token_view};
+ghost use Rattle.messages.specs.Prelude.{AddsEntries, is_token as token_fits, transaction_put, token_dict, named_text, of_texts, login_pairs, hello_pairs, error_pairs, auth_view, token_view};
 
 use crate::entries::is_token;
-use crate::request::{Auth, Count, Mode};
-use crate::write_parts::put_structure;
-use crate::write_requests::number_of;
+use crate::request::{Auth, Mode};
+use crate::write_parts::{Spelled, put_structure};
 use packstream::writing::put_head;
-use speller::{Output, Unspelled, put_int, put_text};
-
-/// The entry of a count.
-pub(crate) fn put_number(out: &mut Output, count: Count) -> Result<(), Unspelled>
-    ensures before { out.new.before ≡ out.old.before }
-    ensures adds { OnOk result (AddsEntries (rows_put count) out.old.more out.new.more) }
-{
-    let Ok(number) = number_of(count) else {
-        return Err(Unspelled);
-    };
-    out.push(0xA1)?;
-    put_text(out, "n")?;
-    put_int(out, number)?;
-    Ok(())
-}
+use speller::{Output, Unspelled, put_text};
 
 /// The entry of a token, the last.
 #[tactic(auto, using(crate::proofs::Named::token_entry_added))]
@@ -41,11 +26,7 @@ fn put_token(out: &mut Output, token: &String) -> Result<(), Unspelled>
 
 /// The entries of a transaction: its mode, where that of writing isn't written, and its token if it has one.
 #[tactic(auto, using(crate::proofs::Named::of_writing, crate::proofs::Named::of_reading, crate::proofs::Named::token_added, crate::proofs::Named::mode_and_token_added))]
-pub(crate) fn put_transaction(
-    out: &mut Output,
-    mode: Mode,
-    token: &Option<String>,
-) -> Result<(), Unspelled>
+pub(crate) fn put_transaction(out: &mut Output, mode: Mode, token: &Option<String>) -> Spelled
     ensures before { out.new.before ≡ out.old.before }
     ensures adds { OnOk result
         (AddsEntries (transaction_put mode (token_view token.now)) out.old.more out.new.more) }

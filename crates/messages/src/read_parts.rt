@@ -1,15 +1,21 @@
 //! Parts of a message that are read of requests and of responses.
 ghost use Rattle.std.specs.Prelude.{◌≡◌, [], ◌++◌, IfOk, OnOk};
-ghost use Rattle.messages.specs.Prelude.{SpellsDict, Answers, cell_of_field, entries_of_dict, only_dict, no_field, one_field, dict_of_cells, list_of_cells};
+ghost use Rattle.messages.specs.Prelude.{SpellsDict, Answers, cell_of_field, entries_of_dict, only_dict, no_field, one_field, three_fields, dict_of_cells, list_of_cells};
 ghost use Rattle.packstream.specs.Prelude.{list, dict, tree, trees, trees_of, entries as value_entries, entries_of};
 ghost use Rattle.cells.specs.Shape.{entries, shape, shapes};
 
-use crate::fault::MsgFault;
+use crate::fault::{Answer, MsgFault};
 use packstream::Value;
 use scanner::{Unscanned, scan_dict};
 use std::alloc::Global;
 use structures::{Cell, read_value};
 use wire::Version;
+
+/// The entries of a dictionary of cells.
+pub(crate) type Cells = Vec<(String, Cell)>;
+
+/// What is read straight from the bytes, or nothing.
+pub(crate) type Scanned<T> = Result<T, Unscanned>;
 
 /// No field.
 #[tactic(auto, using(crate::proofs::Fields::some_field))]
@@ -32,6 +38,18 @@ pub(crate) fn one(fields: &[Value]) -> Result<&Value, MsgFault>
         return Err(MsgFault::Fields);
     }
     Ok(&fields[0])
+}
+
+/// Three fields.
+#[tactic(auto, using(crate::proofs::Fields::not_three))]
+pub(crate) fn three(fields: &[Value]) -> Result<(&Value, &Value, &Value), MsgFault>
+    ensures { Answers (λ x. (tree x.0.now, tree x.1.now, tree x.2.now)) result
+        (three_fields (trees_of (trees fields.now))) }
+{
+    if fields.len() != 3 {
+        return Err(MsgFault::Fields);
+    }
+    Ok((&fields[0], &fields[1], &fields[2]))
 }
 
 /// A dictionary.
@@ -63,14 +81,11 @@ fn cell_in(alloc: Global, version: Version, field: &Value) -> Result<Cell, MsgFa
 
 /// A dictionary of cells.
 #[tactic(auto, using(speller::proofs::Flat::shape_of_dict))]
-pub(crate) fn cells_in(
-    alloc: Global,
-    version: Version,
-    field: &Value,
-) -> Result<Vec<(String, Cell)>, MsgFault>
+pub(crate) fn cells_in(alloc: Global, version: Version, field: &Value) -> Answer<Cells>
     ensures { Answers (λ v. dict (entries_of (entries v.items))) result
         (dict_of_cells version (tree field.now)) }
 {
+    let _ = entries_in(field)?;
     match cell_in(alloc, version, field)? {
         Cell::Dict(pairs) => Ok(pairs),
         _ => Err(MsgFault::Fields),
@@ -82,8 +97,11 @@ pub(crate) fn row_in(alloc: Global, version: Version, field: &Value) -> Result<V
     ensures { Answers (λ v. list (trees_of (shapes v.items))) result
         (list_of_cells version (tree field.now)) }
 {
-    match cell_in(alloc, version, field)? {
-        Cell::List(members) => Ok(members),
+    match field {
+        Value::List(_) => match cell_in(alloc, version, field)? {
+            Cell::List(members) => Ok(members),
+            _ => Err(MsgFault::Fields),
+        },
         _ => Err(MsgFault::Fields),
     }
 }
@@ -103,19 +121,14 @@ pub(crate) fn end(rest: &[u8]) -> Result<(), Unscanned>
 
 /// A dictionary of cells straight from the bytes, and what follows it. Many have no entries.
 #[tactic(auto, using(crate::proofs::Scanned::dict_scanned, crate::proofs::Scanned::empty_scanned))]
-pub(crate) fn scan_cells(
-    alloc: Global,
-    version: Version,
-    bytes: &[u8],
-) -> Result<(Vec<(String, Cell)>, &[u8]), Unscanned>
+pub(crate) fn scan_cells(alloc: Global, version: Version, bytes: &[u8]) -> Scanned<(Cells, &[u8])>
     ensures { IfOk result (λ x. SpellsDict version
         (dict (entries_of (entries x.0.items))) x.1.now bytes.now) }
 {
     if let Ok(rest) = behind(bytes, b"\xA0") {
         return Ok((Vec::new(alloc), rest));
     }
-    let (pairs, rest) = scan_dict(alloc, version, bytes, FIELD_DEPTH)?;
-    Ok((pairs, rest))
+    scan_dict(alloc, version, bytes, FIELD_DEPTH)
 }
 
 /// What follows these bytes.

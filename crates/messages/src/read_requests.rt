@@ -2,11 +2,11 @@
 //! read goes the first.
 ghost use Rattle.std.specs.Prelude.{◌∷◌, [], IfOk};
 ghost use Rattle.packstream.specs.View.{tree, trees, trees_of, entries as value_entries, entries_of};
-ghost use Rattle.messages.specs.Prelude.{ignored, extra, text_field, cells, of_transaction, HELLO, LOGON, LOGOFF, GOODBYE, RESET, RUN, BEGIN, COMMIT, ROLLBACK, DISCARD, PULL, requests, run_tag, request_view, Answers, contents_of_row, contents_at_tag, contents_of_message, request_contents, contents_of_plain, contents_of_run, parts, run_parts, field_text, Req};
+ghost use Rattle.messages.specs.Prelude.{ignored, extra, text_field, cells, of_transaction, HELLO, LOGON, LOGOFF, GOODBYE, RESET, RUN, BEGIN, COMMIT, ROLLBACK, DISCARD, PULL, requests, run_tag, request_view, Answers, contents_of_row, contents_at_tag, contents_of_message, request_contents, contents_of_plain, contents_of_run, field_text, Req};
 
 use crate::entries::{auth_of, count_in, hello_of, transaction_of};
-use crate::fault::MsgFault;
-use crate::read_parts::{cells_in, entries_in, extra_in, none, scan_cells};
+use crate::fault::{Answer, MsgFault};
+use crate::read_parts::{cells_in, entries_in, extra_in, none, scan_cells, three};
 use crate::request::Request;
 use crate::scan_entries::{cells_of_extra, rows_in, transaction_in};
 use crate::tags;
@@ -34,22 +34,6 @@ fn text_in_field(field: &Value) -> Result<&str, MsgFault>
     }
 }
 
-/// The text, the parameters and the other entries of a RUN.
-#[tactic(auto, using(crate::proofs::Fields::not_three))]
-fn run_fields(fields: &[Value]) -> Result<(&str, &Value, &[(String, Value)]), MsgFault>
-    ensures { Answers
-        (λ x. parts x.0.now (tree x.1.now) (entries_of (value_entries x.2.now)))
-        result (run_parts (trees_of (trees fields.now))) }
-{
-    if fields.len() != 3 {
-        return Err(MsgFault::Fields);
-    }
-    let text = text_in_field(&fields[0])?;
-    let _ = entries_in(&fields[1])?;
-    let pairs = entries_in(&fields[2])?;
-    Ok((text, &fields[1], pairs))
-}
-
 fn run_with(
     alloc: Global,
     version: Version,
@@ -72,24 +56,23 @@ fn run_with(
     })
 }
 
+/// A RUN of its three fields: the text, the parameters and the other entries.
 #[tactic(auto, using(crate::proofs::Fields::run_row))]
 fn run_of(alloc: Global, version: Version, fields: &[Value]) -> Result<Request, MsgFault>
     ensures { Answers (λ r. request_contents (request_view r)) result
         (contents_of_row version RUN (text_field ∷ cells ∷ extra ignored of_transaction ∷ [])
         (trees_of (trees fields.now))) }
 {
-    let (text, field, pairs) = run_fields(fields)?;
+    let (text, field, others) = three(fields)?;
+    let text = text_in_field(text)?;
+    let _ = entries_in(field)?;
+    let pairs = entries_in(others)?;
     run_with(alloc, version, text, field, pairs)
 }
 
 /// The request of a structure with this tag and these fields.
 #[tactic(auto, using(crate::proofs::Fields::none_row, crate::proofs::Fields::extra_row))]
-fn request_tagged(
-    alloc: Global,
-    version: Version,
-    tag: u8,
-    fields: &[Value],
-) -> Result<Request, MsgFault>
+fn request_tagged(alloc: Global, version: Version, tag: u8, fields: &[Value]) -> Answer<Request>
     ensures { Answers (λ r. request_contents (request_view r)) result
         (contents_at_tag version requests tag (trees_of (trees fields.now))) }
 {
@@ -113,11 +96,7 @@ fn request_tagged(
 }
 
 /// The request of a value, by the table of requests.
-pub(crate) fn request_of_value(
-    alloc: Global,
-    version: Version,
-    value: &Value,
-) -> Result<Request, MsgFault>
+pub(crate) fn request_of_value(alloc: Global, version: Version, value: &Value) -> Answer<Request>
     ensures { Answers (λ r. request_contents (request_view r)) result
         (contents_of_message version requests (tree value.now)) }
 {

@@ -1,12 +1,12 @@
 //! Responses, read in two ways: of a value, which also tells what is wrong, and straight from the bytes. What the second doesn't
 //! read goes the first.
 ghost use Rattle.std.specs.Prelude.{◌∷◌, [], IfOk};
-ghost use Rattle.packstream.specs.View.{tree, trees, trees_of};
 ghost use Rattle.wire.specs.declared.Version.{Version as AnyVersion};
-ghost use Rattle.messages.specs.Prelude.{cells, cell_list, SUCCESS, RECORD, IGNORED, FAILURE, responses, response_view, Answers, contents_of_row, contents_of_message, response_contents, Resp};
+ghost use Rattle.packstream.specs.View.{tree};
+ghost use Rattle.messages.specs.Prelude.{responses, response_view, Answers, contents_of_message, response_contents, Resp};
 
 use crate::entries::failure_of;
-use crate::fault::MsgFault;
+use crate::fault::{Answer, MsgFault};
 use crate::read_parts::{FIELD_DEPTH, cells_in, end, extra_in, none, one, row_in, scan_cells};
 use crate::response::Response;
 use crate::scan_entries::cells_of_extra;
@@ -16,35 +16,9 @@ use scanner::{Unscanned, scan_list};
 use std::alloc::Global;
 use wire::Version;
 
-#[tactic(auto, using(crate::proofs::Fields::cells_row))]
-fn success_of(alloc: Global, version: Version, fields: &[Value]) -> Result<Response, MsgFault>
-    ensures { Answers (λ r. response_contents (response_view r)) result
-        (contents_of_row version SUCCESS (cells ∷ []) (trees_of (trees fields.now))) }
-{
-    match one(fields)? {
-        field @ Value::Dict(_) => Ok(Response::Success(cells_in(alloc, version, field)?)),
-        _ => Err(MsgFault::Fields),
-    }
-}
-
-#[tactic(auto, using(crate::proofs::Fields::list_row))]
-fn record_of(alloc: Global, version: Version, fields: &[Value]) -> Result<Response, MsgFault>
-    ensures { Answers (λ r. response_contents (response_view r)) result
-        (contents_of_row version RECORD (cell_list ∷ []) (trees_of (trees fields.now))) }
-{
-    match one(fields)? {
-        field @ Value::List(_) => Ok(Response::Record(row_in(alloc, version, field)?)),
-        _ => Err(MsgFault::Fields),
-    }
-}
-
 /// The response of a value, by the table of responses.
-#[tactic(auto, using(crate::proofs::Fields::none_row, crate::proofs::Fields::extra_row))]
-pub(crate) fn response_of_value(
-    alloc: Global,
-    version: Version,
-    value: &Value,
-) -> Result<Response, MsgFault>
+#[tactic(auto, using(crate::proofs::Fields::none_row, crate::proofs::Fields::extra_row, crate::proofs::Fields::cells_row, crate::proofs::Fields::list_row))]
+pub(crate) fn response_of_value(alloc: Global, version: Version, value: &Value) -> Answer<Response>
     ensures { Answers (λ r. response_contents (response_view r)) result
         (contents_of_message version responses (tree value.now)) }
 {
@@ -52,8 +26,8 @@ pub(crate) fn response_of_value(
         return Err(MsgFault::NotAMessage);
     };
     match *tag {
-        tags::SUCCESS => success_of(alloc, version, fields),
-        tags::RECORD => record_of(alloc, version, fields),
+        tags::SUCCESS => Ok(Response::Success(cells_in(alloc, version, one(fields)?)?)),
+        tags::RECORD => Ok(Response::Record(row_in(alloc, version, one(fields)?)?)),
         tags::IGNORED => {
             none(fields)?;
             Ok(Response::Ignored)

@@ -114,8 +114,5 @@ fn write_long_run(version: Version, request: &Request, out: &mut Output) -> Resu
     out.set_mark();
     let mut text = BytesMut::new(out.allocator());
     write_request(version, request, &mut text)?;
-    match put_run(&text, out) {
-        Ok(()) => Ok(()),
-        Err(AllocError) => Err(MsgFault::Memory),
-    }
+    Ok(put_run(&text, out)?)
 }

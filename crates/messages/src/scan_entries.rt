@@ -1,19 +1,16 @@
 //! The named entries of a dictionary, the last field of a message, straight from its bytes. As a client of ours writes them they are
 //! read where they stand; other dictionaries are read as cells.
-ghost use Rattle.std.specs.Prelude.{◌≡◌, ◌∷◌, [], true, Ok, IfOk, codes};
-ghost use Rattle.std.specs.Str.{IsUtf8};
-ghost use Rattle.packstream.specs.Prelude.{canon, SpellsEntries, dict, text, entries_of};
+ghost use Rattle.std.specs.Prelude.{◌≡◌, ◌∷◌, ◌++◌, [], Ok, IfOk};
+ghost use Rattle.packstream.specs.Prelude.{canon, dict, text, entries_of};
 ghost use Rattle.cells.specs.Shape.{entries};
-ghost use Rattle.messages.specs.declared.request.Mode.TheVariants.{Read, Write};
-ghost use Rattle.messages.specs.Prelude.{mode_pairs, token_dict, contents_of_number, count_tree, mode_tree, token_tree, is_token as token_fits, SpellsExtra, SpellsNamed, ignored, refused, of_transaction, how_many, token_view};
+ghost use Rattle.messages.specs.Prelude.{mode_pairs, mode_front, contents_of_number, count_tree, mode_tree, token_tree, SpellsExtra, SpellsNamed, ignored, refused, of_transaction, how_many, token_view};
 ghost use Rattle.wire.specs.declared.Version.{Version as AnyVersion};
 
-use crate::entries::{count_in, is_token, transaction_of};
-use crate::read_parts::{FIELD_DEPTH, behind, end};
+use crate::entries::{Transaction, count_in, is_token, transaction_of};
+use crate::read_parts::{Cells, FIELD_DEPTH, Scanned, behind, end};
 use crate::request::{Count, Mode};
 use scanner::{Unscanned, scan_dict, scan_int, scan_text};
 use std::alloc::Global;
-use structures::Cell;
 use wire::Version;
 
 /// The count that a number of rows is.
@@ -52,49 +49,35 @@ fn mode_alone(bytes: &[u8]) -> Result<Mode, Unscanned>
     }
 }
 
-/// The entry of a token, the last.
-fn token_last(bytes: &[u8]) -> Result<&str, Unscanned>
-    ensures spelled { IfOk result (λ s. SpellsEntries
-        (entries_of ((codes "tx_metadata", token_dict s.now) ∷ [])) bytes.now) }
-    ensures fits { IfOk result (λ s. token_fits s.now ≡ true) }
-    ensures utf8 { IfOk result (λ s. IsUtf8 s.now) }
+/// The mode before the entry of a token.
+fn mode_first(bytes: &[u8]) -> Scanned<(Mode, &[u8])>
+    ensures { IfOk result (λ x. bytes.now ≡ mode_front x.0 ++ x.1.now) }
 {
-    let rest = behind(bytes, b"\x8Btx_metadata\xA1\x85token")?;
+    if let Ok(rest) = behind(bytes, b"\xA1") {
+        return Ok((Mode::Write, rest));
+    }
+    let rest = behind(bytes, b"\xA2\x84mode\x81r")?;
+    Ok((Mode::Read, rest))
+}
+
+/// The mode and the token.
+fn mode_and_token(bytes: &[u8]) -> Scanned<(Mode, &str)>
+    ensures { (v : AnyVersion) → IfOk result (λ x. SpellsExtra v ignored of_transaction
+        (mode_tree x.0 ∷ text x.1.now ∷ []) bytes.now) }
+{
+    let (mode, rest) = mode_first(bytes)?;
+    let rest = behind(rest, b"\x8Btx_metadata\xA1\x85token")?;
     let (token, rest) = scan_text(rest)?;
     end(rest)?;
     if !is_token(token) {
         return Err(Unscanned);
     }
-    Ok(token)
-}
-
-/// A token without a mode.
-fn token_alone(bytes: &[u8]) -> Result<&str, Unscanned>
-    ensures { (v : AnyVersion) → IfOk result (λ s. SpellsExtra v ignored of_transaction
-        (mode_tree Write ∷ text s.now ∷ []) bytes.now) }
-{
-    let rest = behind(bytes, b"\xA1")?;
-    let token = token_last(rest)?;
-    Ok(token)
-}
-
-/// A token behind the mode of reading.
-fn token_of_reading(bytes: &[u8]) -> Result<&str, Unscanned>
-    ensures { (v : AnyVersion) → IfOk result (λ s. SpellsExtra v ignored of_transaction
-        (mode_tree Read ∷ text s.now ∷ []) bytes.now) }
-{
-    let rest = behind(bytes, b"\xA2\x84mode\x81r")?;
-    let token = token_last(rest)?;
-    Ok(token)
+    Ok((mode, token))
 }
 
 /// The entries of a dictionary, read as cells.
 #[tactic(auto, using(crate::proofs::Scanned::extra_scanned))]
-pub(crate) fn cells_of_extra(
-    alloc: Global,
-    version: Version,
-    bytes: &[u8],
-) -> Result<Vec<(String, Cell)>, Unscanned>
+pub(crate) fn cells_of_extra(alloc: Global, version: Version, bytes: &[u8]) -> Scanned<Cells>
     ensures { IfOk result (λ x. SpellsNamed (entries_of (entries x.items)) bytes.now) }
 {
     let (pairs, rest) = scan_dict(alloc, version, bytes, FIELD_DEPTH)?;
@@ -115,24 +98,16 @@ pub(crate) fn rows_in(alloc: Global, version: Version, bytes: &[u8]) -> Result<C
 }
 
 /// The mode of a transaction, and its token if it has one.
-pub(crate) fn transaction_in(
-    alloc: Global,
-    version: Version,
-    bytes: &[u8],
-) -> Result<(Mode, Option<String>), Unscanned>
+pub(crate) fn transaction_in(alloc: Global, version: Version, bytes: &[u8]) -> Scanned<Transaction>
     ensures { (v : AnyVersion) → IfOk result (λ x. SpellsExtra v ignored of_transaction
         (mode_tree x.0 ∷ token_tree (token_view x.1) ∷ []) bytes.now) }
 {
     if let Ok(mode) = mode_alone(bytes) {
         return Ok((mode, None));
     }
-    if let Ok(token) = token_alone(bytes) {
+    if let Ok((mode, token)) = mode_and_token(bytes) {
         let token = String::from_str(alloc, token)?;
-        return Ok((Mode::Write, Some(token)));
-    }
-    if let Ok(token) = token_of_reading(bytes) {
-        let token = String::from_str(alloc, token)?;
-        return Ok((Mode::Read, Some(token)));
+        return Ok((mode, Some(token)));
     }
     let pairs = cells_of_extra(alloc, version, bytes)?;
     Ok(transaction_of(&pairs)?)

@@ -4,21 +4,23 @@ ghost use Rattle.packstream.specs.Prelude.{dict, structure, no_trees, tree_then,
 ghost use Rattle.cells.specs.Shape.{entries};
 ghost use Rattle.messages.specs.Prelude.{Answers, cell_put, named_text, of_texts, Adds, AddsCells};
 
-use crate::fault::MsgFault;
-use crate::read_parts::FIELD_DEPTH;
+use crate::fault::{Answer, MsgFault};
+use crate::read_parts::{Cells, FIELD_DEPTH};
 use bytes::BytesMut;
 use packstream::{MAX_SIZE, Value};
 use speller::{Output, Unspelled, put_dict};
 use std::alloc::{AllocError, Global};
-use structures::{Cell, write_entries};
+use structures::write_entries;
 use wire::Version;
 
+/// The entries of a dictionary.
+pub(crate) type Pairs = Vec<(String, Value)>;
+
+/// That it was added, or wasn't.
+pub(crate) type Spelled = Result<(), Unspelled>;
+
 /// Adds an entry.
-pub(crate) fn push(
-    pairs: &mut Vec<(String, Value)>,
-    name: &str,
-    value: Value,
-) -> Result<(), AllocError>
+pub(crate) fn push(pairs: &mut Pairs, name: &str, value: Value) -> Result<(), AllocError>
     ensures { OnOk result (value_entries pairs.new.items
         ≡ value_entries pairs.old.items ++ (name.now, tree value) ∷ []) }
 {
@@ -48,11 +50,7 @@ pub(crate) fn texts_value(alloc: Global, tag: u8, named: &[(&str, &str)]) -> Res
 }
 
 /// The value of a dictionary of cells.
-pub(crate) fn cells_value(
-    alloc: Global,
-    version: Version,
-    cells: &Vec<(String, Cell)>,
-) -> Result<Value, MsgFault>
+pub(crate) fn cells_value(alloc: Global, version: Version, cells: &Cells) -> Answer<Value>
     ensures { Answers tree result (cell_put version (dict (entries_of (entries cells.now.items)))) }
 {
     let packed = write_entries(alloc, version, cells)?;
@@ -65,8 +63,7 @@ pub(crate) fn put_structure(out: &mut Output, count: u8, tag: u8) -> Result<(), 
     ensures before { out.new.before ≡ out.old.before }
     ensures ok { OnOk result (out.new.more ≡ out.old.more ++ (0xB0 + count) ∷ tag ∷ []) }
 {
-    out.extend_from_slice(&[0xB0 + count, tag])?;
-    Ok(())
+    Ok(out.extend_from_slice(&[0xB0 + count, tag])?)
 }
 
 /// A structure without fields.
@@ -75,17 +72,17 @@ pub(crate) fn put_plain(out: &mut Output, tag: u8) -> Result<(), Unspelled>
     ensures before { out.new.before ≡ out.old.before }
     ensures adds { OnOk result (Adds (Ok (structure tag no_trees)) out.old.more out.new.more) }
 {
-    put_structure(out, 0, tag)?;
-    Ok(())
+    put_structure(out, 0, tag)
 }
 
-/// Gives the output back with what was added, if that is no longer than a message may be, else as it was.
-pub(crate) fn keep_short(out: &mut BytesMut, adding: Output) -> bool
+/// Gives the output back with what was added, if it was and is no longer than a message may be, else as it was.
+pub(crate) fn settle(out: &mut BytesMut, adding: Output, put: Spelled) -> bool
+    ensures ok { result ≡ true → put ≡ Ok tt }
     ensures kept { result ≡ true → out.new.items ≡ adding.before ++ adding.more }
     ensures short { result ≡ true → length adding.more ≤ max_size }
     ensures undone { result ≡ false → out.new.items ≡ adding.before }
 {
-    if adding.len() > MAX_SIZE {
+    if put.is_err() || adding.len() > MAX_SIZE {
         *out = adding.undo();
         return false;
     }
@@ -95,15 +92,10 @@ pub(crate) fn keep_short(out: &mut BytesMut, adding: Output) -> bool
 
 /// A dictionary of cells, in the form of the version.
 #[tactic(auto, using(crate::proofs::Added::formed_cells))]
-pub(crate) fn put_cells(
-    out: &mut Output,
-    version: Version,
-    cells: &Vec<(String, Cell)>,
-) -> Result<(), Unspelled>
+pub(crate) fn put_cells(out: &mut Output, version: Version, cells: &Cells) -> Spelled
     ensures before { out.new.before ≡ out.old.before }
     ensures adds { OnOk result
         (AddsCells version (dict (entries_of (entries cells.now.items))) out.old.more out.new.more) }
 {
-    put_dict(out, version, cells.as_slice(), FIELD_DEPTH)?;
-    Ok(())
+    put_dict(out, version, cells.as_slice(), FIELD_DEPTH)
 }

@@ -5,21 +5,21 @@ ghost use Rattle.packstream.specs.Prelude.{int, tree, entries as value_entries, 
 ghost use Rattle.messages.specs.Prelude.{request_view, token_view, Answers, request_contents, count_tree, form_put, with_dict, transaction_put, rows_put, mode_pairs, count_number, Adds};
 
 use crate::entries::is_token;
-use crate::fault::MsgFault;
-use crate::put_entries::{auth_texts, hello_texts, put_number, put_texts, put_transaction};
+use crate::fault::{Answer, MsgFault};
+use crate::put_entries::{auth_texts, hello_texts, put_texts, put_transaction};
 use crate::request::{Count, Mode, Request};
 use crate::tags;
 use crate::write_parts::{
-    cells_value, keep_short, push, put_cells, put_plain, put_structure, texts_value,
+    Pairs, Spelled, cells_value, push, put_cells, put_plain, put_structure, settle, texts_value,
 };
 use bytes::BytesMut;
 use packstream::Value;
-use speller::{Output, Unspelled, put_text};
+use speller::{Output, Unspelled, put_int, put_text};
 use std::alloc::{AllocError, Global};
 use wire::Version;
 
 /// The entry of a mode; that of writing isn't written.
-fn mode_entries(alloc: Global, mode: Mode) -> Result<Vec<(String, Value)>, AllocError>
+fn mode_entries(alloc: Global, mode: Mode) -> Result<Pairs, AllocError>
     ensures { IfOk result (λ pairs. value_entries pairs.items ≡ mode_pairs mode) }
 {
     let mut pairs = Vec::new(alloc);
@@ -32,11 +32,7 @@ fn mode_entries(alloc: Global, mode: Mode) -> Result<Vec<(String, Value)>, Alloc
 
 /// The entries of a transaction: its mode, and its token if it has one.
 #[tactic(auto, using(packstream::proofs::Putting::tree_of_dict, crate::proofs::Fields::tree_of_text, crate::proofs::Rounds::put_alone, crate::proofs::Rounds::put_with, crate::proofs::Rounds::not_put))]
-fn transaction_entries(
-    alloc: Global,
-    mode: Mode,
-    token: &Option<String>,
-) -> Result<Vec<(String, Value)>, MsgFault>
+fn transaction_entries(alloc: Global, mode: Mode, token: &Option<String>) -> Answer<Pairs>
     ensures { Answers (λ pairs. entries_of (value_entries pairs.items)) result
         (transaction_put mode (token_view token.now)) }
 {
@@ -65,11 +61,7 @@ pub(crate) fn number_of(count: Count) -> Result<i64, MsgFault>
 
 /// The value of a request that can be too deep or too long, or its first fault. Of the others no value is made: what spells one
 /// that has no fault lacks nothing but memory.
-pub(crate) fn request_value(
-    alloc: Global,
-    version: Version,
-    request: &Request,
-) -> Result<Value, MsgFault>
+pub(crate) fn request_value(alloc: Global, version: Version, request: &Request) -> Answer<Value>
     ensures { Answers tree result (form_put version (request_contents (request_view request.now))) }
 {
     match request {
@@ -106,24 +98,24 @@ pub(crate) fn request_value(
 }
 
 /// A structure of a count.
-#[tactic(auto, using(crate::proofs::Added::in_dict))]
 fn put_count(out: &mut Output, tag: u8, count: Count) -> Result<(), Unspelled>
     ensures before { out.new.before ≡ out.old.before }
     ensures adds { OnOk result
         (Adds (with_dict tag (rows_put count)) out.old.more out.new.more) }
 {
+    let Ok(number) = number_of(count) else {
+        return Err(Unspelled);
+    };
     put_structure(out, 1, tag)?;
-    put_number(out, count)?;
+    out.push(0xA1)?;
+    put_text(out, "n")?;
+    put_int(out, number)?;
     Ok(())
 }
 
 /// Adds the one spelling that is written of a request at the version.
 #[tactic(auto, using(crate::proofs::Added::in_dict, crate::proofs::Named::hello_added, crate::proofs::Named::hello_and_login_added, crate::proofs::Named::logon_added, crate::proofs::Named::logoff_added))]
-pub(crate) fn put_request(
-    out: &mut Output,
-    version: Version,
-    request: &Request,
-) -> Result<(), Unspelled>
+pub(crate) fn put_request(out: &mut Output, version: Version, request: &Request) -> Spelled
     ensures before { out.new.before ≡ out.old.before }
     ensures adds { OnOk result
         (Adds (form_put version (request_contents (request_view request.now)))
@@ -144,15 +136,13 @@ pub(crate) fn put_request(
             put_structure(out, 3, tags::RUN)?;
             put_text(out, text.as_str())?;
             put_cells(out, version, params)?;
-            put_transaction(out, *mode, token)?;
-            Ok(())
+            put_transaction(out, *mode, token)
         }
         Request::Pull(count) => put_count(out, tags::PULL, *count),
         Request::Discard(count) => put_count(out, tags::DISCARD, *count),
         Request::Begin { mode, token } => {
             put_structure(out, 1, tags::BEGIN)?;
-            put_transaction(out, *mode, token)?;
-            Ok(())
+            put_transaction(out, *mode, token)
         }
         Request::Commit => put_plain(out, tags::COMMIT),
         Request::Rollback => put_plain(out, tags::ROLLBACK),
@@ -176,11 +166,6 @@ pub fn spell_request(version: Version, request: &Request, out: &mut BytesMut) ->
     ensures other { result ≡ false → out.new.items ≡ out.old.items }
 {
     let mut adding = Output::taking(out);
-    match put_request(&mut adding, version, request) {
-        Ok(()) => keep_short(out, adding),
-        Err(_) => {
-            *out = adding.undo();
-            false
-        }
-    }
+    let put = put_request(&mut adding, version, request);
+    settle(out, adding, put)
 }

@@ -5,13 +5,13 @@ ghost use Rattle.packstream.specs.Prelude.{list, tree, trees_of, max_size};
 ghost use Rattle.cells.specs.Shape.{shapes};
 ghost use Rattle.messages.specs.Prelude.{response_view, Answers, response_contents, form_put, cell_put, Adds};
 
-use crate::fault::MsgFault;
+use crate::fault::{Answer, MsgFault};
 use crate::put_entries::{error_texts, put_texts};
 use crate::read_parts::FIELD_DEPTH;
 use crate::response::Response;
 use crate::tags;
 use crate::write_parts::{
-    cells_value, keep_short, of_one, put_cells, put_plain, put_structure, texts_value,
+    cells_value, of_one, put_cells, put_plain, put_structure, settle, texts_value,
 };
 use bytes::BytesMut;
 use packstream::Value;
@@ -29,11 +29,7 @@ fn row_value(alloc: Global, version: Version, row: &Vec<Cell>) -> Result<Value, 
 }
 
 /// The value of a response, or its first fault. Of IGNORED no value is made: what spells it lacks nothing but memory.
-pub(crate) fn response_value(
-    alloc: Global,
-    version: Version,
-    response: &Response,
-) -> Result<Value, MsgFault>
+pub(crate) fn response_value(alloc: Global, version: Version, response: &Response) -> Answer<Value>
     ensures { Answers tree result
         (form_put version (response_contents (response_view response.now))) }
 {
@@ -63,8 +59,7 @@ fn put_response(out: &mut Output, version: Version, response: &Response) -> Resu
     match response {
         Response::Success(metadata) => {
             put_structure(out, 1, tags::SUCCESS)?;
-            put_cells(out, version, metadata)?;
-            Ok(())
+            put_cells(out, version, metadata)
         }
         Response::Record(row) => {
             put_structure(out, 1, tags::RECORD)?;
@@ -88,11 +83,6 @@ pub fn spell_response(version: Version, response: &Response, out: &mut BytesMut)
     ensures other { result ≡ false → out.new.items ≡ out.old.items }
 {
     let mut adding = Output::taking(out);
-    match put_response(&mut adding, version, response) {
-        Ok(()) => keep_short(out, adding),
-        Err(_) => {
-            *out = adding.undo();
-            false
-        }
-    }
+    let put = put_response(&mut adding, version, response);
+    settle(out, adding, put)
 }

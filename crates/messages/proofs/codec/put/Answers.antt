@@ -1,6 +1,4 @@
-use Rattle.std.proofs.Common.{sym, refl}
-use Rattle.std.proofs.lemmas.Result.{on_ok_weaker}
-use Rattle.packstream.specs.Prelude.{tree}
+use Rattle.messages.proofs.Words.{sym, refl, on_ok_weaker, tree}
 use Rattle.messages.proofs.Sent.{err_is, good_text, bad_text, nothing_appended}
 use Rattle.messages.proofs.codec.put.Goals as goal
 

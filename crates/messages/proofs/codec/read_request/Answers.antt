@@ -1,5 +1,4 @@
-use Rattle.packstream.proofs.Ranges.{bytes_from_each}
-use Rattle.messages.specs.Prelude.{requests, request_view, request_contents, request_held, request_of}
+use Rattle.messages.proofs.Words.{requests, request_view, request_contents, request_held, request_of, bytes_from_each}
 use Rattle.messages.proofs.Sent.{gives_message, gives_fault, gives_same, asked_back}
 use Rattle.messages.proofs.codec.read_request.Goals as goal
 

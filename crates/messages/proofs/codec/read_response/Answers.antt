@@ -1,5 +1,4 @@
-use Rattle.packstream.proofs.Ranges.{bytes_from_each}
-use Rattle.messages.specs.Prelude.{responses, response_view, response_contents, response_held, response_of}
+use Rattle.messages.proofs.Words.{responses, response_view, response_contents, response_held, response_of, bytes_from_each}
 use Rattle.messages.proofs.Sent.{gives_message, gives_fault, gives_same, answered_back}
 use Rattle.messages.proofs.codec.read_response.Goals as goal
 

@@ -1,5 +1,4 @@
-use Rattle.std.proofs.Common.{◌≡◌, drop}
-use Rattle.messages.specs.Prelude.{lookup, entries_seen}
+use Rattle.messages.proofs.Words.{◌≡◌, drop, lookup, entries_seen}
 use Rattle.messages.proofs.entries.entry.Given as goal
 
 abbrev pub invariant-loop-pair : goal.invariant-loop-pair

@@ -1,5 +1,4 @@
-use Rattle.std.proofs.Common.{◌≡◌, drop}
-use Rattle.messages.specs.Prelude.{how_many, all_named, entries_seen}
+use Rattle.messages.proofs.Words.{◌≡◌, drop, how_many, all_named, entries_seen}
 use Rattle.messages.proofs.entries.say_how_many_alone.Given as goal
 
 abbrev pub invariant-loop-pair : goal.invariant-loop-pair

@@ -1,5 +1,4 @@
-use Rattle.packstream.proofs.Deciding.{no_proper_beginning_is}
-use Rattle.messages.specs.Prelude.{requests, responses, request_contents, response_contents}
+use Rattle.messages.proofs.Words.{requests, responses, request_contents, response_contents, no_proper_beginning_is}
 use Rattle.messages.proofs.Sent.{one_value}
 use Rattle.messages.proofs.Sayings.{not_both}
 use Rattle.messages.proofs.laws.no_proper_beginning.Goals as goal

@@ -1,11 +1,10 @@
-use Rattle.std.proofs.Common.{Ok, refl, ap, sym, ◌∙◌}
-use Rattle.messages.specs.Prelude.{requests, ◌>>=◌, request_contents, contents_in, request_held, request_of}
-use Rattle.messages.proofs.Sent.{means_one, none_said, said_none, asked_back, kept_fault, request_is}
+use Rattle.messages.proofs.Words.{Ok, refl, ap, requests, ◌>>=◌, request_contents, contents_in, request_held, request_of}
+use Rattle.messages.proofs.Sent.{none_said, said_none, asked_back, kept_fault, request_is}
 use Rattle.messages.proofs.Sayings.{means_told, asked}
 use Rattle.messages.proofs.laws.one_request.Goals as goal
 
 pub returns-clause-one : goal.returns-clause-one
-returns-clause-one c = λ v b m n p q. sym (asked_back m) ∙ ap request_held (means_one v requests (request_contents m) (request_contents n) b p q) ∙ asked_back n
+returns-clause-one c = λ v b m n p q. let h = request_is v m b p in let k = request_is v n b q in cc
 
 pub returns-clause-request : goal.returns-clause-request
 returns-clause-request c = λ v b m p. request_is v m b p

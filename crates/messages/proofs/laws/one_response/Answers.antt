@@ -1,11 +1,10 @@
-use Rattle.std.proofs.Common.{Ok, refl, ap, sym, ◌∙◌}
-use Rattle.messages.specs.Prelude.{responses, ◌>>=◌, response_contents, contents_in, response_held, response_of}
-use Rattle.messages.proofs.Sent.{means_one, none_said, said_none, answered_back, kept_fault, response_is}
+use Rattle.messages.proofs.Words.{Ok, refl, ap, responses, ◌>>=◌, response_contents, contents_in, response_held, response_of}
+use Rattle.messages.proofs.Sent.{none_said, said_none, answered_back, kept_fault, response_is}
 use Rattle.messages.proofs.Sayings.{means_told, told_says}
 use Rattle.messages.proofs.laws.one_response.Goals as goal
 
 pub returns-clause-one : goal.returns-clause-one
-returns-clause-one c = λ v b m n p q. sym (answered_back m) ∙ ap response_held (means_one v responses (response_contents m) (response_contents n) b p q) ∙ answered_back n
+returns-clause-one c = λ v b m n p q. let h = response_is v m b p in let k = response_is v n b q in cc
 
 pub returns-clause-response : goal.returns-clause-response
 returns-clause-response c = λ v b m p. response_is v m b p

@@ -1,4 +1,4 @@
-use Rattle.messages.specs.Prelude.{requests, request_view, request_contents, request_held, request_of}
+use Rattle.messages.proofs.Words.{requests, request_view, request_contents, request_held, request_of}
 use Rattle.messages.proofs.Sent.{gives_message, gives_fault, gives_same, asked_back, spelled_answers}
 use Rattle.messages.proofs.of_packed.request_of.Goals as goal
 

@@ -1,4 +1,4 @@
-use Rattle.messages.specs.Prelude.{responses, response_view, response_contents, response_held, response_of}
+use Rattle.messages.proofs.Words.{responses, response_view, response_contents, response_held, response_of}
 use Rattle.messages.proofs.Sent.{gives_message, gives_fault, gives_same, answered_back, spelled_answers}
 use Rattle.messages.proofs.of_packed.response_of.Goals as goal
 

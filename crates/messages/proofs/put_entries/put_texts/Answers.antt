@@ -1,8 +1,4 @@
-use Rattle.std.proofs.Common.{ℕ, List, ◌++◌, map, sym, ◌∙◌}
-use Rattle.std.specs.Borrow.{Bor}
-use Rattle.std.proofs.lemmas.List.{at_drop_all}
-use Rattle.packstream.specs.Prelude.{canon_entries, entries_of}
-use Rattle.messages.specs.Prelude.{named_text}
+use Rattle.messages.proofs.Words.{ℕ, List, ◌++◌, map, sym, ◌∙◌, Bor, named_text, at_drop_all, canon_entries, entries_of}
 use Rattle.messages.proofs.Named.{texts_put}
 use Rattle.messages.proofs.put_entries.put_texts.Goals as goal
 

@@ -1,6 +1,4 @@
-use Rattle.std.proofs.Common.{◌≡◌, ◌++◌, drop, map}
-use Rattle.packstream.specs.Prelude.{canon_entries, entries_of}
-use Rattle.messages.specs.Prelude.{named_text}
+use Rattle.messages.proofs.Words.{◌≡◌, ◌++◌, drop, map, named_text, canon_entries, entries_of}
 use Rattle.messages.proofs.put_entries.put_texts.Given as goal
 
 abbrev pub invariant-loop-name : goal.invariant-loop-name

@@ -1,5 +1,4 @@
-use Rattle.std.proofs.Common.{string_bytes}
-use Rattle.std.proofs.lemmas.Str.{IsUtf8-string_bytes}
+use Rattle.messages.proofs.Words.{string_bytes, IsUtf8-string_bytes}
 use Rattle.messages.proofs.Named.{token_added, mode_and_token_added}
 use Rattle.messages.proofs.put_entries.put_transaction.Goals as goal
 

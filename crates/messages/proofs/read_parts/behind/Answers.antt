@@ -1,6 +1,4 @@
-use Rattle.std.proofs.Common.{Some}
-use Rattle.std.proofs.lemmas.Bool.Decides.{Decides-eqb}
-use Rattle.std.proofs.lemmas.Slice.Eq.{strip_prefix_is}
+use Rattle.messages.proofs.Words.{Some, Decides-eqb, strip_prefix_is}
 use Rattle.messages.proofs.read_parts.behind.Goals as goal
 
 pub returns-in-Some : goal.returns-in-Some

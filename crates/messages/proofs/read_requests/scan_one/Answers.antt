@@ -1,6 +1,4 @@
-use Rattle.std.proofs.Common.{◌≡◌, true, rules}
-use Rattle.wire.specs.Versions.{has_logon}
-use Rattle.messages.specs.Prelude.{auth_view, request_view}
+use Rattle.messages.proofs.Words.{◌≡◌, true, rules, auth_view, request_view, has_logon}
 use Rattle.messages.proofs.Scanned.{hello_means, logon_means}
 use Rattle.messages.proofs.read_requests.scan_one.Goals as goal
 

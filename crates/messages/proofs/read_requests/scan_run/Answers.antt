@@ -1,7 +1,4 @@
-use Rattle.std.proofs.Common.{string_bytes, sym}
-use Rattle.packstream.proofs.Ranges.{bytes_from_each}
-use Rattle.cells.specs.Prelude.{entries}
-use Rattle.messages.specs.Prelude.{token_view}
+use Rattle.messages.proofs.Words.{string_bytes, sym, token_view, bytes_from_each, entries}
 use Rattle.messages.proofs.Scanned.{run_means}
 use Rattle.messages.proofs.read_requests.scan_run.Goals as goal
 

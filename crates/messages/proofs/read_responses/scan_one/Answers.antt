@@ -1,4 +1,4 @@
-use Rattle.messages.specs.Prelude.{response_view}
+use Rattle.messages.proofs.Words.{response_view}
 use Rattle.messages.proofs.Scanned.{failure_means}
 use Rattle.messages.proofs.read_responses.scan_one.Goals as goal
 

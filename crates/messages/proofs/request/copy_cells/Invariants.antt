@@ -1,5 +1,4 @@
-use Rattle.std.proofs.Common.{◌≡◌, take}
-use Rattle.cells.specs.Prelude.{entries}
+use Rattle.messages.proofs.Words.{◌≡◌, take, entries}
 use Rattle.messages.proofs.request.copy_cells.Given as goal
 
 abbrev pub invariant-loop-name : goal.invariant-loop-name

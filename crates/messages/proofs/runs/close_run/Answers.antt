@@ -1,4 +1,4 @@
-use Rattle.std.proofs.Common.{◌-◌, arith, rules}
+use Rattle.messages.proofs.Words.{◌-◌, arith, rules}
 use Rattle.messages.proofs.Put.{run_closed}
 use Rattle.messages.proofs.runs.close_run.Goals as goal
 

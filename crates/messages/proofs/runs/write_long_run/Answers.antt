@@ -1,5 +1,4 @@
-use Rattle.std.proofs.Common.{◌++◌, List, ℕ, ap, subst, sym, ◌∙◌}
-use Rattle.messages.specs.Prelude.{request_view}
+use Rattle.messages.proofs.Words.{◌++◌, List, ℕ, ap, subst, sym, ◌∙◌, request_view}
 use Rattle.messages.proofs.Sent.{Fits, request_fits}
 use Rattle.messages.proofs.runs.write_long_run.Goals as goal
 

@@ -1,5 +1,4 @@
-use Rattle.std.proofs.Common.{◌≡◌, rules, to_z, of_z, w64}
-use Rattle.packstream.proofs.Ranges.{bytes_from_each}
+use Rattle.messages.proofs.Words.{◌≡◌, rules, to_z, of_z, w64, bytes_from_each}
 use Rattle.messages.proofs.Scanned.{rows_scanned}
 use Rattle.messages.proofs.scan_entries.rows_alone.Goals as goal
 

@@ -1,4 +1,4 @@
-use Rattle.messages.specs.Prelude.{refused, how_many}
+use Rattle.messages.proofs.Words.{refused, how_many}
 use Rattle.messages.proofs.Scanned.{named_extra}
 use Rattle.messages.proofs.scan_entries.rows_in.Goals as goal
 

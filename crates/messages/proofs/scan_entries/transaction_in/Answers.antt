@@ -1,4 +1,4 @@
-use Rattle.messages.specs.Prelude.{ignored, of_transaction}
+use Rattle.messages.proofs.Words.{ignored, of_transaction}
 use Rattle.messages.proofs.Scanned.{mode_scanned, named_extra}
 use Rattle.messages.proofs.scan_entries.transaction_in.Goals as goal
 

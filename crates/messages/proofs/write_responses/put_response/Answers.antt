@@ -1,8 +1,4 @@
-use Rattle.std.proofs.Common.{[], ◌∷◌, ap, arith, refl}
-use Rattle.std.proofs.lemmas.Result.{on_ok_weaker}
-use Rattle.packstream.specs.Prelude.{list, trees_of}
-use Rattle.cells.specs.Prelude.{shapes}
-use Rattle.messages.specs.Prelude.{RECORD, contents}
+use Rattle.messages.proofs.Words.{[], ◌∷◌, ap, arith, refl, RECORD, contents, on_ok_weaker, list, trees_of, shapes}
 use Rattle.messages.proofs.Added.{field_of_cells, formed_cells}
 use Rattle.messages.proofs.Named.{failure_added}
 use Rattle.messages.proofs.write_responses.put_response.Goals as goal

@@ -1,13 +1,9 @@
-use Rattle.std.proofs.Common.{◌∙◌, Ok, Err, ap, sym}
-use Rattle.packstream.specs.Prelude.{list, trees_of}
-use Rattle.cells.specs.Prelude.{shapes}
-use Rattle.structures.proofs.Clauses.{writes_by}
-use Rattle.messages.proofs.Sent.{err_is}
+use Rattle.messages.proofs.Words.{refl, ◌∙◌, Ok, Err, ap, sym, list, trees_of, shapes, writes_by}
 use Rattle.messages.proofs.Fields.{put_value, put_fault, told_fault}
 use Rattle.messages.proofs.write_responses.row_value.Goals as goal
 
 pub returns-in_err-packed : goal.returns-in_err-packed
-returns-in_err-packed c = told_fault _ _ _ _ (err_is _ _ c.from_residual.ensures.1) (put_fault c.args.version (list (trees_of (shapes c.args.row.now.items))) c.in_err-packed.field-0.0 (writes_by c.args.version (list (trees_of (shapes c.args.row.now.items))) (Err c.in_err-packed.field-0.0) c.in_err-packed.ensures.value c.in_err-packed.ensures.fault c.in_err-packed.ensures.pack c.in_err-packed.ensures.memory))
+returns-in_err-packed c = told_fault _ _ _ _ c.from_residual.ensures.1 (put_fault c.args.version (list (trees_of (shapes c.args.row.now.items))) c.in_err-packed.field-0.0 (writes_by c.args.version (list (trees_of (shapes c.args.row.now.items))) (Err c.in_err-packed.field-0.0) c.in_err-packed.ensures.value c.in_err-packed.ensures.fault c.in_err-packed.ensures.pack c.in_err-packed.ensures.memory))
 
 pub returns : goal.returns
-returns c = put_value c.args.version (list (trees_of (shapes c.args.row.now.items))) c.in_ok-packed.packed (writes_by c.args.version (list (trees_of (shapes c.args.row.now.items))) (Ok c.in_ok-packed.packed) c.in_ok-packed.ensures.value c.in_ok-packed.ensures.fault c.in_ok-packed.ensures.pack c.in_ok-packed.ensures.memory) ∙ ap Ok (sym c.into_value.ensures)
+returns c = put_value c.args.version (list (trees_of (shapes c.args.row.now.items))) c.in_ok-packed.packed ((c.in_ok-packed.ensures.value c.in_ok-packed.packed).0 refl) ∙ ap Ok (sym c.into_value.ensures)

@@ -1,4 +1,4 @@
-use Rattle.messages.specs.Prelude.{requests, responses}
+use Rattle.messages.proofs.Words.{requests, responses}
 use Rattle.messages.proofs.Layouts.{told_by_rows, requests_laid, responses_laid}
 use Rattle.messages.proofs.laws.saying.messages_are_rows.Goals as goal
 
