@@ -1,7 +1,7 @@
 -- What bytes mean, by the relations and by the functions; and what is written of a message, which is a message of the wire and is read as that message.
 use Rattle.std.proofs.Common.{◌++◌, ◌≡◌, ◌↔◌, ℕ, List, [], ◌∷◌, Option, None, Some, Result, Ok, Err, IsErrAnd, inl, inr, sym, ap, ◌∙◌, refl, ◌<◌, ◌≤◌, length, Bool, true, false, cond, nat_lt, arith, subst}
-use Rattle.messages.proofs.Words.{Request, Response, Reason, PackFault, Tree, structure, IsGood, Spells, SpellsTree, AreBytes, Bad, entries_of, trees_of, whole_of, PackUnless, canon, first_fault, faults_in, whole_value, whole_fault, no_proper_beginning_is, Version, Mode, Read, Write, Count, All, Of, MsgFault, ltb-true, ltb-false, canon_spells, Item, Opening, Message, item_bytes}
-use Rattle.messages.specs.Prelude.{request_view, response_view, Row, requests, responses, RequestView, Hello, Run, Begin, Discard, Pull, ResponseView, Success, Record, Ignored, Failure, of_pack, ◌>>=◌, Contents, contents_of_message, Answers, mode_tree, token_tree, count_tree, request_contents, response_contents, Means, IsNone, Gave, UnlessMemory, value_told, contents_by, contents_in, request_held, response_held, pairs_of, list_of, mode_in, token_in, count_in, Req, Resp, request_of, response_of, packed_by, spelling_within, spelling_of_tree, Appends, form_put, request_spelling, response_spelling, run_of_result}
+use Rattle.messages.proofs.Words.{Reason, PackFault, Tree, structure, IsGood, Spells, SpellsTree, AreBytes, Bad, entries_of, trees_of, whole_of, PackUnless, canon, first_fault, faults_in, whole_value, whole_fault, no_proper_beginning_is, Version, Mode, Read, Write, Count, All, Of, MsgFault, ltb-true, ltb-false, canon_spells, Item, Opening, Message, item_bytes}
+use Rattle.messages.specs.Prelude.{Row, requests, responses, RequestView, Hello, Run, Begin, Discard, Pull, ResponseView, Success, Record, Ignored, Failure, of_pack, ◌>>=◌, Contents, contents_of_message, Answers, mode_tree, token_tree, count_tree, request_contents, response_contents, Means, IsNone, Gave, UnlessMemory, value_told, contents_by, contents_in, request_held, response_held, pairs_of, list_of, mode_in, token_in, count_in, Req, Resp, request_of, response_of, packed_by, spelling_within, spelling_of_tree, Appends, form_put, request_spelling, response_spelling, run_of_result}
 use Rattle.packstream.specs.declared.fault.PackFault.TheVariants as pack
 use Rattle.messages.specs.declared.fault.MsgFault.TheVariants as fault
 
@@ -118,22 +118,6 @@ pub gives_same : {X Y : Type 0} (see : X → Y) (holds : Y → Contents) (back :
     → Answers (λ x. holds (see x)) r s → Answers see r (s >>= λ x. Ok (back x))
 gives_same see holds back tells (Ok x) s h = ap (λ r. r >>= λ y. Ok (back y)) h ∙ ap Ok (tells (see x))
 gives_same see holds back tells (Err e) s h = λ n. ap (λ r. r >>= λ y. Ok (back y)) (h n)
-
--- the same of what is read as a request
-pub reads_request : (v : Version) (b : List ℕ) (r : Result Request MsgFault) (m : RequestView) → AreBytes b → Answers (λ x. request_contents (request_view x)) r (contents_in v requests b) → UnlessMemory r (Gave request_view r m ↔ Req v m b)
-reads_request v b r m bytes h = gives_message request_view request_contents request_held asked_back v requests b bytes r h m
-
-pub same_request : (v : Version) (b : List ℕ) (r : Result Request MsgFault) → Answers (λ x. request_contents (request_view x)) r (contents_in v requests b) → Answers request_view r (request_of v b)
-unfolding request_of
-same_request v b r h = gives_same request_view request_contents request_held asked_back r (contents_in v requests b) h
-
--- and of what is read as a response
-pub reads_response : (v : Version) (b : List ℕ) (r : Result Response MsgFault) (m : ResponseView) → AreBytes b → Answers (λ x. response_contents (response_view x)) r (contents_in v responses b) → UnlessMemory r (Gave response_view r m ↔ Resp v m b)
-reads_response v b r m bytes h = gives_message response_view response_contents response_held answered_back v responses b bytes r h m
-
-pub same_response : (v : Version) (b : List ℕ) (r : Result Response MsgFault) → Answers (λ x. response_contents (response_view x)) r (contents_in v responses b) → Answers response_view r (response_of v b)
-unfolding response_of
-same_response v b r h = gives_same response_view response_contents response_held answered_back r (contents_in v responses b) h
 
 -- bytes and more that say something spell one value
 pub one_value : (v w : Version) (table other : List Row) (s u : Contents) (b more : List ℕ) → Means v table s b → Means w other u (b ++ more) → (t : Tree) × (contents_of_message v table t ≡ Ok s) × (contents_of_message w other t ≡ Ok u)
