@@ -86,6 +86,16 @@ static int open_socket(void) {
     return close(it), behind;
 }
 
+/* A connection to an address, or -1. One that a signal interrupts isn't to be had any more, and is asked for anew. */
+static int connect_to(const struct sockaddr_in *at) {
+    for (;;) {
+        int it = open_socket();
+        if (!connect(it, (const struct sockaddr *)at, sizeof *at)) return it;
+        if (errno != EINTR) return -1;
+        close(it);
+    }
+}
+
 int main(int argc, char **argv) {
     long port = argc == 5 ? number(argv[2], 65535) : -1, version = argc == 5 ? number(argv[3], BOLT_5_1) : -1;
     if (port < 0 || version < 0 || strlen(argv[4]) > 15) return fprintf(stderr, "commit ADDRESS PORT VERSION KEY\n"), 2;
@@ -93,8 +103,7 @@ int main(int argc, char **argv) {
     char put[64], get[64], tiny = (char)(0x80 + strlen(argv[4]));
     int put_length = snprintf(put, sizeof put, "\xb3\x10\x83PUT\xa2\x83key%c%s\x85value\x01\xa0", tiny, argv[4]);
     int get_length = snprintf(get, sizeof get, "\xb3\x10\x83GET\xa1\x83key%c%s\xa0", tiny, argv[4]);
-    fd = open_socket();
-    if (inet_pton(AF_INET, argv[1], &at.sin_addr) != 1 || connect(fd, (struct sockaddr *)&at, sizeof at)) return fprintf(stderr, "no server\n"), 2;
+    if (inet_pton(AF_INET, argv[1], &at.sin_addr) != 1 || (fd = connect_to(&at)) < 0) return fprintf(stderr, "no server\n"), 2;
     if (bolt_open(&client, (uint32_t)version, 1000)) stop("no client");
     int up = settle();
     if (up && now.version == BOLT_5_1) {
