@@ -105,19 +105,17 @@ int main(int argc, char **argv) {
     int get_length = snprintf(get, sizeof get, "\xb3\x10\x83GET\xa1\x83key%c%s\xa0", tiny, argv[4]);
     if (inet_pton(AF_INET, argv[1], &at.sin_addr) != 1 || (fd = connect_to(&at)) < 0) return fprintf(stderr, "no server\n"), 2;
     if (bolt_open(&client, (uint32_t)version, 1000)) stop("no client");
-    int up = settle();
-    if (up && now.version == BOLT_5_1) {
+    if (!settle()) stop("no version was taken");
+    if (now.version == BOLT_5_1) {
         ASK("\xb1\x01\xa1\x8auser_agent\x88" "commit/1");
         ASK("\xb1\x6a\xa3\x86scheme\x85" "basic\x89principal\x84user\x8b" "credentials\x84pass");
-    } else if (up) {
+    } else {
         ASK("\xb1\x01\xa4\x8auser_agent\x88" "commit/1\x86scheme\x85" "basic\x89principal\x84user\x8b" "credentials\x84pass");
     }
-    if (up) {
-        ASK("\xb1\x11\xa0"), ask(put, (size_t)put_length), ASK("\xb1\x2f\xa1\x81n\xff"), ask(get, (size_t)get_length), ASK("\xb1\x3f\xa1\x81n\xff");
-        pull = last.ordinal;
-        ASK("\xb0\x12");
-    }
-    if (!up || !settle()) bolt_lose(&client);
+    ASK("\xb1\x11\xa0"), ask(put, (size_t)put_length), ASK("\xb1\x2f\xa1\x81n\xff"), ask(get, (size_t)get_length), ASK("\xb1\x3f\xa1\x81n\xff");
+    pull = last.ordinal;
+    ASK("\xb0\x12");
+    if (!settle()) bolt_lose(&client);
     show(pull);
     for (uint64_t i = 0; i < asked; i++) {
         uint32_t outcome = BOLT_WAITS;
