@@ -323,9 +323,10 @@ impl<S: Read + Write> Connection<S> {
         if state.has_ended == 1 {
             self.end("a summary ended the session");
         }
-        let Some(refused) = self.requests.iter().position(|it| it.outcome == Some(Outcome::Refused)) else {
+        // (where memory ran out not all that was told is taken)
+        let Some(refused) = self.requests.iter().take(self.told).position(|it| it.outcome == Some(Outcome::Refused)) else {
             self.is_settled = true;
-            if self.requests.iter().any(|it| matches!(it.outcome, Some(Outcome::Lost | Outcome::Unknown))) {
+            if self.told < self.requests.len() {
                 return Err(Error::Broken { why: self.why.unwrap_or_default(), error: None, requests: self.requests.clone() });
             }
             return Ok(&self.requests);
@@ -359,7 +360,7 @@ impl<S: Read + Write> Connection<S> {
 
     /// The rows of a query that was asked, by the place of its RUN among the requests; None where no RUN stands there, or it wasn't answered whole.
     pub fn answer(&self, run: usize) -> Option<Answer> {
-        match self.requests.get(run..)? {
+        match self.requests.get(run..self.told.min(self.requests.len()))? {
             [run, pull, ..] if run.text.starts_with("RUN ") && matches!(pull.outcome, Some(Outcome::Done | Outcome::Committed)) => Some(answer_of(run, pull)),
             _ => None,
         }
