@@ -34,7 +34,7 @@ impl Query {
     }
 }
 
-/// The rows of a query, and the names of their columns.
+/// The rows of a query, and the names of their columns, none where one of them is no text.
 #[derive(Clone, Debug, PartialEq)]
 pub struct Answer {
     pub fields: Vec<String>,
@@ -382,9 +382,10 @@ impl<S: Read + Write> Connection<S> {
 /// What a RUN and the PULL behind it were answered.
 fn answer_of(run: &Request, pull: &Request) -> Answer {
     let fields = match run.metadata.get("fields") {
-        Some(Value::List(names)) => names.iter().filter_map(|it| it.as_text().map(str::to_owned)).collect(),
-        _ => Vec::new(),
-    };
+        Some(Value::List(names)) => names.iter().map(|it| it.as_text().map(str::to_owned)).collect(),
+        _ => None,
+    }
+    .unwrap_or_default();
     Answer { fields, rows: pull.rows.clone(), bookmark: pull.metadata.get("bookmark").and_then(Value::as_text).map(str::to_owned) }
 }
 

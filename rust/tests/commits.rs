@@ -232,6 +232,10 @@ fn an_answer_is_had_by_the_place_of_its_run() {
         assert_eq!(connection.answer(run), is_whole.then_some(answer));
         assert!([run - 1, run + 1, run + 2, run + 3, usize::MAX].iter().all(|at| connection.answer(*at).is_none()));
     }
+    // (no name stands for the column before its own)
+    let unnamed: &[u8] = b"\xB1\x70\xA1\x86fields\x92\x07\x81x";
+    let mut connection = Connection::open(answering(&[unnamed, row, SUCCESS]).unwrap(), &login()).unwrap();
+    assert_eq!(connection.run(&put("a")).unwrap(), Answer { fields: vec![], rows: vec![vec![7.into()]], bookmark: None });
 }
 
 #[test]
