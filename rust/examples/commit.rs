@@ -21,7 +21,8 @@ fn commit(stream: TcpStream, key: &str) -> Result<Vec<Request>, Error> {
 
 /// A text on one line, whatever a server says in it.
 fn escaped(text: &str) -> String {
-    text.chars().map(|it| if it.is_control() { it.escape_default().to_string() } else { it.into() }).collect()
+    let is_plain = |it: char| !it.is_control() && !matches!(it, '\u{2028}'..='\u{202E}' | '\u{2066}'..='\u{2069}');
+    text.chars().map(|it| if is_plain(it) { it.into() } else { it.escape_default().to_string() }).collect()
 }
 
 fn show(told: &Result<Vec<Request>, Error>) -> io::Result<()> {
