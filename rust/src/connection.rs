@@ -44,7 +44,7 @@ pub struct Answer {
 }
 
 /// A session of a server over a stream, on the thread that opened it. A stream's own times bound its reads and writes: one without them may wait without an
-/// end.
+/// end, and nothing bounds a call whose server goes on to say something, if only that it is there.
 ///
 /// Requests are asked, and go out as one pipeline when they are settled, of which 65,536 bytes or one request at most are ahead of the answers.
 /// [`requests`](Connection::requests) are those asked since all was settled, each with what became of it, after each call, also one that failed. Where a call
