@@ -48,7 +48,8 @@ pub struct Request {
 /// Why requests weren't all done.
 #[derive(Debug)]
 pub enum Error {
-    /// A call was refused, and nothing has changed. The code is that of bolt.h; the rule is the one that the message breaks, as `M5`, and behind it where.
+    /// A call was refused, and nothing of it goes out; nothing has changed but by [`transact`](crate::Connection::transact). The code is that of bolt.h; the rule is
+    /// the one that the message breaks, as `M5`, and behind it where.
     NotSent { code: u32, rule: String, place: u64 },
     /// The server's FAILURE. The session goes on if it lives on; a transaction that was open is gone.
     Refused { code: String, message: String, requests: Vec<Request> },
