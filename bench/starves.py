@@ -44,6 +44,12 @@ def says_why(program, most):
     return said == {"not sent (5)", "out of memory", f"{code}: no"}
 
 
+def answers_whole(program, most):
+    """Whether bench/answers.rs finds no answer that isn't whole, with all allocations of the library refused behind a number, each number in turn; behind the last none is."""
+    behind = [subprocess.run(program, env={**os.environ, "ODDS": "1", "AFTER": str(after)}, timeout=60).returncode for after in range(most)]
+    return set(behind) == {0, 3}
+
+
 def python(port, folder, most=40):
     """Whether the Python example tells rightly what became of its COMMIT with allocations of the library refused, so many of them; and how many were."""
     words = [f"BOLT_SO={folder}/refusing/libbolt.so", sys.executable, "-B", str(HERE / "examples" / "commit.py"), "127.0.0.1", str(port)]
