@@ -111,6 +111,13 @@ def login_of(auth: tuple[str, ...]) -> dict[str, str]:
     return dict(zip(("scheme", "principal", "credentials"), auth))
 
 
+def host_of(host: str) -> str:
+    """A host, by its name or its address. Of None the system would make this machine."""
+    if not isinstance(host, (str, bytes)):
+        raise TypeError("a host is a text")
+    return host
+
+
 def port_of(port: int) -> int:
     """A port, as a number or its text, either of which the system would take modulo 65,536."""
     number = int(port) if isinstance(port, (str, bytes)) else operator.index(port)

@@ -7,7 +7,7 @@ import ssl
 import time
 from typing import Any, Optional, Union
 
-from .core import BEGIN, COMMIT, ROLLBACK, Answer, Core, Stepped, Steps, calls, context_of, ends, extra, is_from_elsewhere, login_of, own, port_of
+from .core import BEGIN, COMMIT, ROLLBACK, Answer, Core, Stepped, Steps, calls, context_of, ends, extra, host_of, is_from_elsewhere, login_of, own, port_of
 from .errors import TIMED_OUT, UNREACHED, Broken, NotSent, Request
 from .library import MESSAGE
 from .versions import NEWEST
@@ -29,7 +29,7 @@ class Session(Core):
 
     def __init__(self, host: str, port: int, auth: tuple[str, str, str] = ("none", "", ""), agent: str = "bolt.py/1", versions: int = NEWEST,
                  timeout: Optional[float] = 10, tls: Union[None, bool, ssl.SSLContext] = None) -> None:
-        login, port = login_of(auth), port_of(port)
+        login, host, port = login_of(auth), host_of(host), port_of(port)
         self._tls = context_of(tls)
         super().__init__(versions, timeout)
         try:
