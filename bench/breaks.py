@@ -673,6 +673,8 @@ MISTAKEN = (
     (51, lambda c: bolt.Session("127.0.0.1", c.port, USER, versions=52), "versions is NEWEST, V4_4, V5_0 or V5_1"),
     (51, lambda c: bolt.Session("127.0.0.1", c.port, USER[:2]), "auth is the scheme, the principal and the credentials"),
     *((51, lambda c, kind=kind: bolt.Session("127.0.0.1", kind(c.port + 65536), USER), "a port is 0 to 65535") for kind in (int, str, lambda it: b"%d" % it)),
+    (51, lambda c: bolt.Session("127.0.0.1", c.port, "abc"), "auth is the scheme, the principal and the credentials"),
+    (51, lambda c: bolt.connect("127.0.0.1", c.port, auth="ab"), "auth is a name and a password"),
     (51, lambda c: bolt.Session(None, c.port, USER), "a host is a text"),
     (51, lambda c: bolt.Session("127.0.0.1", c.port + 0.5, USER), "'float' object cannot be interpreted as an integer"),
     (51, lambda c: bolt.Session("127.0.0.1", c.port, USER, timeout=float("nan")), "a time-out is a number of seconds, or None"),

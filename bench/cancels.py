@@ -262,6 +262,7 @@ async def tells_errors(port):
     unreached, stranger = await raised(connected(1)), await raised(aio.connect("127.0.0.1", port, auth=("user", "no")))
     short = await raised(aio.connect("127.0.0.1", port, auth=("user",)))
     far = [type(await raised(aio.connect("127.0.0.1", it, auth=drives.USER))) for it in (port + 65536, str(port + 65536), port + 0.5)]
+    letters = await raised(aio.connect("127.0.0.1", port, auth="ab"))
     nowhere = await raised(aio.connect(None, port, auth=drives.USER))
     untold = await raised(connected(port, tls="yes"))
     async with await connected(port) as connection:
@@ -269,7 +270,7 @@ async def tells_errors(port):
         goes_on = await (await connection.run("ONE")).single() == [1]
     return ((type(unreached), unreached.why, type(unreached.__cause__)) == (bolt.Broken, bolt.UNREACHED, ConnectionRefusedError)
             and (type(stranger), stranger.code[-12:], type(unpacked)) == (bolt.Refused, "Unauthorized", TypeError) and type(short) is ValueError and far == [ValueError, ValueError, TypeError]
-            and type(untold) is type(nowhere) is TypeError and goes_on)
+            and type(untold) is type(letters) is type(nowhere) is TypeError and goes_on)
 
 
 async def left(port, key, number):

@@ -13,7 +13,7 @@ import contextlib
 import ssl
 from typing import Any, AsyncIterator, Awaitable, Callable, Iterator, Optional, Union
 
-from .core import Answer, Core, Stepped, Steps, calls, context_of, host_of, is_from_elsewhere, login_of, own, port_of
+from .core import Answer, Core, Stepped, Steps, basic, calls, context_of, host_of, is_from_elsewhere, login_of, own, port_of
 from .errors import CLOSED_HERE, INTERRUPTED, TIMED_OUT, UNREACHED, BoltError, Broken, NotSent, Request
 from .library import MESSAGE
 from .queries import Pipeline, Queries, Transacting
@@ -302,8 +302,8 @@ class AsyncConnection(Queries[AsyncSession, AsyncResult]):
 async def connect(host: str, port: int = 7687, *, auth: Optional[tuple[str, str]] = None, tls: Union[None, bool, ssl.SSLContext] = None,
                   timeout: Optional[float] = 10, agent: str = "bolt.py/1", versions: int = NEWEST, fetch: int = 1000) -> AsyncConnection:
     """Connects and logs in, as `bolt.connect` does."""
-    login = login_of(("none", "", "") if auth is None else ("basic", *auth))
-    host, port, context, session = host_of(host), port_of(port), context_of(tls), AsyncSession(versions, timeout)
+    login, host, port = login_of(basic(auth)), host_of(host), port_of(port)
+    context, session = context_of(tls), AsyncSession(versions, timeout)
     try:
         await session._open_at(host, port, context, agent, login)
     except OSError as why:

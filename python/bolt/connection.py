@@ -6,7 +6,7 @@ import logging
 import ssl
 from typing import Any, Callable, Iterator, Optional, Union
 
-from .core import Answer, is_from_elsewhere
+from .core import Answer, basic, is_from_elsewhere
 from .errors import CLOSED_HERE, INTERRUPTED, BoltError
 from .queries import Deferred, Pipeline, Queries, Transacting
 from .results import Pulled, Record, Summary, by_name, by_place, only
@@ -163,7 +163,7 @@ def connect(host: str, port: int = 7687, *, auth: Optional[tuple[str, str]] = No
     """Connects and logs in: `auth` is a name and a password. `tls` is True, for the system's certificates, or a context of `ssl`.
 
     `Broken` if the server can't be reached, isn't one of Bolt, or goes away; `Refused` if it doesn't take the login."""
-    login = ("none", "", "") if auth is None else ("basic", *auth)
+    login = basic(auth)
     try:
         session = Session(host, port, login, agent, versions, timeout, tls)
     except BoltError as why:

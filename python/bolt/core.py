@@ -104,9 +104,19 @@ def ends(call: Callable[..., Answer]) -> Callable[..., Answer]:
     return whole
 
 
+def basic(auth: Optional[tuple[str, str]]) -> tuple[str, str, str]:
+    """The login by a name and a password, and that of nobody."""
+    if auth is None:
+        return "none", "", ""
+    # (two letters of a text are neither)
+    if not isinstance(auth, (tuple, list)):
+        raise TypeError("auth is a name and a password")
+    return ("basic", *auth)
+
+
 def login_of(auth: tuple[str, ...]) -> dict[str, str]:
     """What a client logs in by: the scheme, the principal and the credentials."""
-    if len(auth) != 3:
+    if not isinstance(auth, (tuple, list)) or len(auth) != 3:
         raise ValueError("auth is the scheme, the principal and the credentials")
     return dict(zip(("scheme", "principal", "credentials"), auth))
 
