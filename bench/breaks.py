@@ -667,6 +667,7 @@ MISTAKEN = (
     *((51, lambda c, it=it: c.ask_begin(token=it), f"{NONE}: M5") for it in (5, "", "x" * 65)),
     *((51, lambda c, it=it: c.ask_run("ONE", count=it), "so many rows are pulled as are at least 1, or all by -1") for it in (0, -2, True, 1.0, None)),
     (51, lambda c: c.ask("NONE", 0x7E), f"{NONE}: M3"),
+    (51, lambda c: c.ask("GOODBYE", 0x02), "close says goodbye"),
     (51, lambda c: c.ask_begin(write="r"), "write is True or False"),
     (51, lambda c: c.ask_run("ONE", write=0), "write is True or False"),
     (51, lambda c: bolt.Session("127.0.0.1", c.port, USER, versions=5.1), "versions is NEWEST, V4_4, V5_0 or V5_1"),

@@ -21,7 +21,7 @@ from .versions import V5_1, VERSIONS
 # The most seconds of a time-out: what is longer has no end that anybody sees.
 LONGEST = 1e9
 PHASES = ("FRESH", "UNAUTH", "READY", "STREAMING", "TX_READY", "TX_STREAMING", "HALTED", "DEFUNCT")
-BEGIN, COMMIT, ROLLBACK = 0x11, 0x12, 0x13
+GOODBYE, BEGIN, COMMIT, ROLLBACK = 0x02, 0x11, 0x12, 0x13
 Answer = TypeVar("Answer")
 # What a call does, step by step: behind each, what waits is to be sent, and a piece of the server's bytes to be heard.
 Steps = Generator[None, None, Answer]
@@ -243,6 +243,9 @@ class Core:
     def ask(self, text: str, tag: int, *fields: Any) -> Request:
         """Asks a request, by its tag and its fields, and answers it: it goes out when it is settled, and not before. `text` is what it is called
         where it is told of."""
+        # (it has no answer, and nothing may be asked behind it)
+        if tag == GOODBYE:
+            raise ValueError("close says goodbye")
         return self._asking(self._submit, *self._packed(text, tag, *fields))
 
     @ends
@@ -371,7 +374,7 @@ class Core:
 
     def _says_goodbye(self) -> bool:
         """Whether a GOODBYE is asked, which is where nothing waits."""
-        state, (_, message) = self._state(), self._packed("GOODBYE", 0x02)
+        state, (_, message) = self._state(), self._packed("GOODBYE", GOODBYE)
         if state.has_ended or state.pending or not self._is_ours():
             return False
         check(LIBRARY.bolt_ask(self._open.handle, message, len(message), Asked()))
