@@ -285,6 +285,28 @@ def ends_below(port):
             and [value_of(port, it) for it in ("commit below", "rollback below", "goes", "known below")] == [[1], [], [], [1]])
 
 
+def piped(connection, key):
+    with connection.pipeline() as asked:
+        asked.run("PUT", key=key, value=1)
+
+
+def pipes_within_blocks(port):
+    """Whether a pipeline in a block whose transaction a FAILURE or a RESET has ended is refused, and commits nothing by itself; behind an end that the block asked for,
+    and behind the block, it goes on."""
+    with connected(port) as connection:
+        codes = []
+        for end in (lambda tx: tx.run("NOPE"), lambda _: connection.reset()):
+            with contextlib.suppress(bolt.NotSent), connection.transaction() as tx:
+                breaks.raised(lambda: end(tx))
+                codes.append(breaks.code_of(lambda: piped(connection, "goes")))
+        codes.append(breaks.code_of(lambda: piped(connection, "behind it")))
+        with connection.transaction() as tx:
+            tx.rollback()
+            codes.append(breaks.code_of(lambda: piped(connection, "behind its end")))
+    told = [value_of(port, it) for it in ("goes", "behind it", "behind its end")]
+    return (codes, told) == ([bolt.library.NOT_ALLOWED] * 2 + [0] * 2, [[], [1], [1]])
+
+
 class Reset(breaks.Closed):
     """Resets a connection, where that is allowed, in the place of an interrupt."""
 
@@ -940,5 +962,5 @@ def installs(port):
 
 
 WORKS = (reads_rows, hears_another, bounds_the_handshake, loses_no_record, loses_no_records, tells_lost_records, leaves_nothing_open,
-         sends_nothing_twice, keeps_results_apart, transacts, ends_below, commits_nothing_by_itself, tells_what_it_heard, tells_what_was_passed_over,
+         sends_nothing_twice, keeps_results_apart, transacts, ends_below, pipes_within_blocks, commits_nothing_by_itself, tells_what_it_heard, tells_what_was_passed_over,
          closes_meanwhile, breaks_off_connecting, pipes, keeps_moments, tells_errors, keeps_tokens, tells_fates, encrypts, installs)

@@ -12,7 +12,7 @@ import traceback
 import warnings
 from typing import Any, Callable, Generator, Generic, Iterator, NoReturn, Optional, TypeVar, Union
 
-from .errors import (BAD_ANSWER, CLOSED_HERE, ENDED, FAILED, GONE, INTERRUPTED, NO_MEMORY, NO_VERSION, NOT_BOLT, REFUSED, TIMED_OUT,
+from .errors import (BAD_ANSWER, CLOSED_HERE, COMMITTED, DONE, ENDED, FAILED, GONE, INTERRUPTED, NO_MEMORY, NO_VERSION, NOT_BOLT, REFUSED, TIMED_OUT,
                      BoltError, Broken, NotSent, Refused, Request)
 from .library import CLOSED, FULL, LIBRARY, MEMORY, NO_CLIENT, NOT_ALLOWED, OK, PIPELINE, Asked, Client, Standing, check
 from .values import pack_structure
@@ -69,9 +69,20 @@ class Stepped(Generic[Answer]):
 
 
 class Begun:
-    """A transaction that was asked for, and the COMMIT or ROLLBACK of it, if one was asked."""
+    """A transaction that was asked for, the COMMIT or ROLLBACK of it, if one was asked, and whether it has a block."""
 
     end: Optional[Request] = None
+    has_block = False
+
+    @property
+    def outcome(self) -> Optional[str]:
+        """What became of its COMMIT or ROLLBACK; None as long as that isn't known, or neither was asked."""
+        return self.end.outcome if self.end else None
+
+    @property
+    def is_open(self) -> bool:
+        """Whether its block has to end it. A pipeline in the block may have."""
+        return self.has_block and self.outcome not in (COMMITTED, DONE)
 
 
 def extra(write: bool, token: Optional[str]) -> dict[str, Any]:

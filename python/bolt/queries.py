@@ -4,7 +4,7 @@ from __future__ import annotations
 from typing import Any, Callable, Generic, Iterator, Optional, Type, TypeVar
 
 from .core import BEGIN, COMMIT, PHASES, ROLLBACK, Begun, Core, Steps, extra
-from .errors import COMMITTED, DONE, REFUSED, NotSent, Request
+from .errors import REFUSED, NotSent, Request
 from .library import NOT_ALLOWED
 from .results import Pulled, Record
 from .times import stored
@@ -17,6 +17,15 @@ def is_in_transaction(session: Core) -> bool:
     """Whether a transaction is open, as far as answers tell. Of a session that has ended none is."""
     state = session._state()
     return not state.has_ended and PHASES[state.phase].startswith("TX")
+
+
+def is_current(session: Core, begun: Begun) -> bool:
+    """Whether what is asked is part of this transaction, or is refused since the session has ended. A FAILURE ends a transaction, and so does a RESET."""
+    return begun is session._begun and (is_in_transaction(session) or bool(session._state().has_ended))
+
+
+def over() -> NotSent:
+    return NotSent(NOT_ALLOWED, hint="the transaction has ended")
 
 
 class Deferred(Generic[Found]):
@@ -91,7 +100,10 @@ class Queries(Generic[Kind, Found]):
         return found
 
     def _piping(self) -> Steps[None]:
-        """Before a pipeline: what was asked and isn't settled would go out with it."""
+        """Before a pipeline: what was asked and isn't settled would go out with it. In a block whose transaction has ended, as by a FAILURE, its queries would be
+        committed by themselves."""
+        if self.session._begun.is_open and not is_current(self.session, self.session._begun):
+            raise over()
         self.session._alone()
         yield from self._settling_open()
 
@@ -149,7 +161,7 @@ class Transacting:
 
     def __init__(self, connection: Queries[Any, Any], token: Optional[str]) -> None:
         self._connection, self.token = connection, token
-        self._is_open, self._begun = False, Begun()
+        self._begun = Begun()
 
     @property
     def _last(self) -> Optional[Request]:
@@ -159,16 +171,16 @@ class Transacting:
     @property
     def is_open(self) -> bool:
         """Whether its block has to end it. A pipeline in the block may have."""
-        return self._is_open and self.outcome not in (COMMITTED, DONE)
+        return self._begun.is_open
 
     @is_open.setter
     def is_open(self, is_it: bool) -> None:
-        self._is_open = is_it
+        self._begun.has_block = is_it
 
     @property
     def outcome(self) -> Optional[str]:
         """What became of its COMMIT or ROLLBACK; None as long as that isn't known, or neither was asked."""
-        return self._last.outcome if self._last else None
+        return self._begun.outcome
 
     @property
     def bookmark(self) -> Optional[str]:
@@ -179,24 +191,16 @@ class Transacting:
         """By which code its end was refused."""
         return self._last.metadata.get("code") if self._last and self._last.outcome == REFUSED else None
 
-    def _is_current(self) -> bool:
-        """Whether what is asked is part of it, or is refused since the connection has ended. A FAILURE ends it, and so does a RESET."""
-        session = self._connection.session
-        return self._begun is session._begun and (is_in_transaction(session) or bool(session._state().has_ended))
-
     def _running(self, text: str, parameters: dict[str, Any]) -> Steps[Any]:
         if not self.is_open:
-            raise self._over()
+            raise over()
         self._goes_on()
         return self._connection._running(self._goes_on, *self._connection._packed(text, parameters))
 
     def _goes_on(self) -> None:
         """Refused where it has ended meanwhile, as by a signal handler: what is run then would be committed by itself."""
-        if not self._is_current():
-            raise self._over()
-
-    def _over(self) -> NotSent:
-        return NotSent(NOT_ALLOWED, hint="the transaction has ended")
+        if not is_current(self._connection.session, self._begun):
+            raise over()
 
     def _committing(self) -> Steps[None]:
         return self._ending("COMMIT", COMMIT)
@@ -210,8 +214,8 @@ class Transacting:
     def _ends(self, text: str, message: bytes) -> Steps[None]:
         """Ends it, once: what ends one that has ended would end another that began since."""
         session = self._connection.session
-        if not self.is_open or not self._is_current():
-            raise self._over()
+        if not self.is_open or not is_current(session, self._begun):
+            raise over()
         self.is_open = False
         try:
             yield from self._connection._settling_open()
