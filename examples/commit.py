@@ -19,6 +19,11 @@ def commit(address: str, port: int, key: str) -> list[bolt.Request]:
         return connection.session.requests
 
 
+def escaped(text: str) -> str:
+    """A text on one line, whatever a server says in it."""
+    return "".join(it if it.isprintable() else ascii(it)[1:-1] for it in text)
+
+
 def main(address: str, port: str, key: str) -> None:
     try:
         requests = commit(address, int(port), key)
@@ -26,7 +31,7 @@ def main(address: str, port: str, key: str) -> None:
         print(f"the connection broke: {broken.why}")
         requests = broken.requests
     except bolt.Refused as refused:
-        print(refused)
+        print(escaped(str(refused)))
         requests = refused.requests
     except bolt.NotSent as unsent:
         print(unsent)
