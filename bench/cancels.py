@@ -363,6 +363,20 @@ async def tells_failed_pulls(port):
     return read == [1, 2] and pulling.cancelled() and told == [f"PULL of ROWS: UNKNOWN ({bolt.INTERRUPTED})"] * 2
 
 
+async def bounds_what_is_left(port):
+    """Whether a call that reads what is left of a result is given its time as a whole, however many PULLs that takes."""
+    async with await connected(port, fetch=1) as connection:
+        records, hear = await connection.run("ROWS", n=40), connection.session._receive
+
+        async def receive():
+            await asyncio.sleep(0.1)
+            return await hear()
+
+        connection.session._receive, connection.timeout = receive, 1
+        why = await raised(records.values())
+    return isinstance(why, bolt.Broken) and why.why == bolt.TIMED_OUT
+
+
 class Resets(odd_servers.Server):
     """Answers the first of many requests, takes no more of them, and resets the connection."""
 
@@ -421,5 +435,5 @@ async def encrypts(port):
     return (len(said), type(stranger), type(stranger.__cause__)) == (1024, bolt.Broken, ssl.SSLCertVerificationError)
 
 
-DRIVES = (reads_rows, transacts, leaves_nothing_open, keeps_to_a_task, tells_errors, tells_failed_pulls, hears_before_a_reset, tells_fates, tells_what_it_heard, closes_meanwhile,
+DRIVES = (reads_rows, transacts, leaves_nothing_open, keeps_to_a_task, tells_errors, tells_failed_pulls, bounds_what_is_left, hears_before_a_reset, tells_fates, tells_what_it_heard, closes_meanwhile,
           encrypts)

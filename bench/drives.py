@@ -171,6 +171,16 @@ def keeps_results_apart(port):
     return is_apart and said == [1, *[broken] * 3, bolt.UNKNOWN, 1, *[refused] * 3, bolt.REFUSED]
 
 
+def bounds_what_is_left(port):
+    """Whether a call that reads what is left of a result is given its time as a whole, however many PULLs that takes."""
+    with connected(port, fetch=1) as connection:
+        records, hear = connection.run("ROWS", n=40), connection.session._receive
+        connection.session._receive = lambda: time.sleep(0.1) or hear()
+        connection.timeout = 1
+        why = breaks.raised(records.values)
+    return isinstance(why, bolt.Broken) and why.why == bolt.TIMED_OUT
+
+
 def goes_on(connection):
     """Whether what is run next is committed by itself, or the connection has ended."""
     try:
@@ -961,6 +971,6 @@ def installs(port):
     return bool(wanted) and said == "".join(f"{line.strip()}\n" for line in wanted.split("\n"))
 
 
-WORKS = (reads_rows, hears_another, bounds_the_handshake, loses_no_record, loses_no_records, tells_lost_records, leaves_nothing_open,
+WORKS = (reads_rows, hears_another, bounds_the_handshake, loses_no_record, loses_no_records, tells_lost_records, bounds_what_is_left, leaves_nothing_open,
          sends_nothing_twice, keeps_results_apart, transacts, ends_below, pipes_within_blocks, commits_nothing_by_itself, tells_what_it_heard, tells_what_was_passed_over,
          closes_meanwhile, breaks_off_connecting, pipes, keeps_moments, tells_errors, keeps_tokens, tells_fates, encrypts, installs)

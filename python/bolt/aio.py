@@ -174,8 +174,9 @@ class AsyncResult(Pulled):
         return self._next()
 
     async def _rest(self, of: Callable[[list[Record]], Answer]) -> Answer:
-        """What is made of the records that weren't read yet."""
-        while await self._session._call(self._ahead()):
+        """What is made of the records that weren't read yet, all in the time of one call."""
+        until = self._session._by()
+        while await self._session._do(self._ahead(), until):
             pass
         return self._unread(of)
 

@@ -33,8 +33,9 @@ class Result(Pulled):
         return self._next()
 
     def _rest(self, of: Callable[[list[Record]], Answer]) -> Answer:
-        """What is made of the records that weren't read yet."""
-        while self._session._call(self._ahead()):
+        """What is made of the records that weren't read yet, all in the time of one call."""
+        until = self._session._by()
+        while self._session._do(self._ahead(), until):
             pass
         return self._unread(of)
 
