@@ -163,10 +163,12 @@ def keeps_results_apart(port):
         with odd_servers.Server([(*begun, *ends)]) as server, connected(server.port, fetch=1) as connection:
             left = connection.run("ROWS", n=3)
             said += [next(left)[0], *(str(breaks.raised(lambda: list(left))) for _ in range(3)), left.summary.outcome]
-    # (a word that isn't true ends a result, and what is no list names no column)
-    ends = bytes.fromhex("B170A1") + odd_servers.text("fields") + b"\x05", row, more[:-1] + b"\x01"
-    with odd_servers.Server([(*begun[:2], odd_servers.told(*ends))]) as server, connected(server.port) as connection:
-        is_apart = is_apart and connection.run("ROWS").values() == [[1]]
+    # (a word that isn't true ends a result, and what is no list of texts names no column)
+    for names in (b"\x05", b"\x91\x90"):
+        ends = bytes.fromhex("B170A1") + odd_servers.text("fields") + names, row, more[:-1] + b"\x01"
+        with odd_servers.Server([(*begun[:2], odd_servers.told(*ends))]) as server, connected(server.port) as connection:
+            only = connection.run("ROWS").single()
+        is_apart = is_apart and (only.values(), breaks.raised(only.data), only.keys()) == ([1], None, [])
     broken, refused = f"PULL of ROWS: UNKNOWN ({bolt.GONE})", f"{odd_servers.REFUSED}: no"
     return is_apart and said == [1, *[broken] * 3, bolt.UNKNOWN, 1, *[refused] * 3, bolt.REFUSED]
 

@@ -158,7 +158,7 @@ class Pulled:
     def keys(self) -> list[str]:
         """The names of the columns, none where the server tells none."""
         names = self._run.metadata.get("fields")
-        return list(names) if isinstance(names, list) else []
+        return list(names) if isinstance(names, list) and all(isinstance(it, str) for it in names) else []
 
 
 def by_name(records: list[Record]) -> list[dict[str, Any]]:
