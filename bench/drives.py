@@ -407,7 +407,9 @@ def pipes(port):
             other.run("ONE")
         raise KeyError
     with connected(port) as connection:
+        # (what is asked here would go out when another ends, which alone would be told what became of it)
         with connection.pipeline() as asked:
+            held = held and breaks.code_of(lambda: piped(connection, "unsent")) == bolt.library.NOT_ALLOWED
             asked.run("ONE")
         held = held and breaks.code_of(lambda: asked.run("PUT", key="unsent", value=1)) == bolt.library.NOT_ALLOWED and goes_on(connection)
     return held and (value_of(port, "piped"), value_of(port, "unsent")) == ([2], [])

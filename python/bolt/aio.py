@@ -282,8 +282,8 @@ class AsyncConnection(Queries[AsyncSession, AsyncResult]):
     async def pipeline(self) -> AsyncIterator[Pipeline[AsyncResult]]:
         """Requests that go out at once when the block ends, before an answer is read. An exception in the block closes the connection, and none goes
         out."""
-        await self.session._call(self._piping())
         found = Pipeline(self)
+        await self.session._call(self._piping(found))
         try:
             yield found
             await self.session._call(found._sending())

@@ -142,8 +142,8 @@ class Connection(Queries[Session, Result]):
     def pipeline(self) -> Iterator[Pipeline[Result]]:
         """Requests that go out at once when the block ends, before an answer is read. An exception in the block closes the connection, and none goes
         out."""
-        self.session._call(self._piping())
         found = Pipeline(self)
+        self.session._call(self._piping(found))
         try:
             yield found
             self.session._call(found._sending())

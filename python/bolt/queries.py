@@ -1,6 +1,7 @@
 """What a connection does for who runs queries, step by step: the blocking one of `connection`, and that of `aio`."""
 from __future__ import annotations
 
+import weakref
 from typing import Any, Callable, Generic, Iterator, Optional, Type, TypeVar
 
 from .core import BEGIN, COMMIT, PHASES, ROLLBACK, Begun, Core, Steps, extra
@@ -49,6 +50,7 @@ class Queries(Generic[Kind, Found]):
     def __init__(self, session: Kind, fetch: int = 1000) -> None:
         self.session, self.fetch = session, fetch
         self._open_result: Optional[Found] = None
+        self._pipeline: Optional[weakref.ref[Pipeline[Found]]] = None
 
     @property
     def version(self) -> int:
@@ -99,13 +101,17 @@ class Queries(Generic[Kind, Found]):
         self._open_result = found = self._made(first, last, text)
         return found
 
-    def _piping(self) -> Steps[None]:
-        """Before a pipeline: what was asked and isn't settled would go out with it. In a block whose transaction has ended, as by a FAILURE, its queries would be
-        committed by themselves."""
+    def _piping(self, found: Pipeline[Found]) -> Steps[None]:
+        """Before a pipeline: what was asked and isn't settled would go out with it, and so would what one asks that is open already, whose own block wouldn't be told
+        what became of that. In a block whose transaction has ended, as by a FAILURE, its queries would be committed by themselves."""
+        before = self._pipeline and self._pipeline()
+        if before and not before.is_sent:
+            raise NotSent(NOT_ALLOWED, hint="another pipeline is open")
         if self.session._begun.is_open and not is_current(self.session, self.session._begun):
             raise over()
         self.session._alone()
         yield from self._settling_open()
+        self._pipeline = weakref.ref(found)
 
     def _beginning(self, write: bool, found: Transacting) -> Steps[None]:
         return self._starting(found, *self.session._packed("BEGIN", BEGIN, extra(write, found.token)))
