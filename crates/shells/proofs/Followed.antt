@@ -27,11 +27,11 @@ does_none {now = now} {done = done} (Broken f) e r =
 pub nothing_done : (now : Streams) → Does (Some (Broken Memory)) now now []
 nothing_done now =
     let none = moves_none {fault = Some Memory} now in
-    let sent : AppendsFront now.written now.written first_place.rest.unsent = ([], first_place.rest.unsent, refl, Appends-nil now.written) in
+    let sent : Puts false now.written now.written first_place.rest.unsent = record { front = ([], _, refl, Appends-nil _); all = λ e. absurd cc } in
     let moves : Moves (Some Memory) now now (record (said [] []) { sent = first_place.rest.unsent }) =
     record { read = none.read; sent = sent; printed = none.printed; told = none.told; source = none.source; sinks = none.sinks } in
     let heard : HeardUpTo (Some Memory) (sent_out first_place 0) =
-    record { fed = []; unheard = []; needed = inl refl; whole = λ _. inl refl; printed = []; told = []; prints = inl prints_none } in
+    record { fed = []; unheard = []; needed = inl refl; whole = λ _. inl refl; printed = []; told = []; cut = None; cuts = inl refl; prints = prints_none } in
     let talked = fails_first Memory now (record { out = 0; heard = heard; moves = moves; ends = λ e. absurd cc }) in
     record { done = []; lines = ([], refl); place = _; talked = talked }
 
@@ -57,34 +57,18 @@ module _ {start now : Streams} {script : List ℕ} {b : Conversation} (p : Progr
   pub at_end : filled_lines script ≡ p.done ++ last
   at_end = simp (append-nil, slice_split_none (λ x. x == 10) b.begun.items p.begun, filled_first b.number b.begun.items []) at (p.follow [])
 
-  -- a byte that is no newline
-  pub one_more : {c : Conversation} (x : ℕ) → c.caller ≡ b.caller → c.number ≡ b.number → c.begun.items ≡ b.begun.items ++ x ∷ []
-      → All (λ y. (y == 10) ≡ false) (b.begun.items ++ x ∷ []) → Progress start now (script ++ x ∷ []) c
-  one_more x same number items plain =
-      record { done = p.done; reaches = rw same p.reaches; begun = rw items plain; follow = λ ys. rw (number, items) (simp append_assoc (p.follow (x ∷ ys))) }
-
-  -- the line was done
-  pub line_ends : {next : Streams} {c : Conversation} → Reaches start next (p.done ++ last) c.caller → c.number ≡ b.number + 1 → c.begun.items ≡ []
-      → Progress start next (script ++ 10 ∷ []) c
-  line_ends s number none = record {
-    done = p.done ++ last;
-    reaches = s;
-    begun = rw none (λ k d l. absurd (not-suc-le-zero l));
-    follow = λ more. rw (number, none) (simp append_assoc (simp append_assoc at (at_newline more)));
-  }
-
 module _ {start now : Streams} {done : List (ℕ × Text)} {b : Caller} (s : Reaches start now done b) (q : ScriptRequestView) where
   abbrev request : RequestView
   request = meant s.place.version q
 
-  module _ (n : ℕ) (l : Text) (r : request_line_of l ≡ Some q) {c : Caller} (printed : Option (List ℕ)) (failed : Bool) where
+  module _ (n : ℕ) (l : Text) (some : length l ≡ 0 → ⊥) (r : request_line_of l ≡ Some q) {c : Caller} (printed : Option (List ℕ)) (failed : Bool) where
     line_done : {fault : Option StreamFault} {then : Streams} {p : Place} → TalksLine fault s.place (n, l) now then p → (fault ≡ None → IsAt c p)
-        → DoesMore (option_map Broken fault) start then (done ++ (n, l) ∷ []) c
-    line_done {fault = fault} {then = then} {p = p} x at = does_all (next_line fault done (n, l) now then s.place p s.talked x) at
+        → DoesMore (option_map Broken fault) start then (done ++ if_filled n l) c
+    line_done x at = rw (filled_one n l some) (does_all (next_line _ done (n, l) now _ s.place _ s.talked x) at)
 
     pub submit_taken : {fault : Option StreamFault} {then : Streams} → refuses s.place.rest.knows request ≡ None → printed ≡ now.printed
         → StaysSound now.print_failed failed → Asks fault (submitted s.place request) (record now { printed = printed; print_failed = failed }) then c
-        → DoesMore (option_map Broken fault) start then (done ++ (n, l) ∷ []) c
+        → DoesMore (option_map Broken fault) start then (done ++ if_filled n l) c
     submit_taken e same sound a =
         let x = a.exchange in
         let before = moves_printed None now printed failed [] (rw same (Appends-nil now.printed)) (λ _. sound) in
@@ -93,16 +77,16 @@ module _ {start now : Streams} {done : List (ℕ × Text)} {b : Caller} (s : Rea
     pub submit_part : (fault : Option StreamFault) (why : SubmitFault) (code part : List ℕ) → refuses s.place.rest.knows request ≡ Some why
         → refusal_code why ≡ Some code → IsPart fault (refused_line n code) part → Appends now.printed printed part
         → ((fault ≡ Some WriteFailed → ⊥) → StaysSound now.print_failed failed) → IsAt c s.place
-        → DoesMore (option_map Broken fault) start (record now { printed = printed; print_failed = failed }) (done ++ (n, l) ∷ []) c
+        → DoesMore (option_map Broken fault) start (record now { printed = printed; print_failed = failed }) (done ++ if_filled n l) c
     submit_part fault why code part e k some h sound at =
         line_done (refuses_line q why code part r e k some (moves_printed fault now printed failed part h sound)) (λ _. at)
 
     pub submit_failed : (fault : StreamFault) → Submits s.place request n now.printed printed (IsAt c) (Err fault)
         → ((Some fault ≡ Some WriteFailed → ⊥) → StaysSound now.print_failed failed)
-        → Does (Some (Broken fault)) start (record now { printed = printed; print_failed = failed }) (done ++ (n, l) ∷ [])
+        → Does (Some (Broken fault)) start (record now { printed = printed; print_failed = failed }) (done ++ if_filled n l)
     submit_failed fault (at, inl e) sound =
         let moves = moves_printed (Some fault) now printed failed [] (rw e (Appends-nil now.printed)) sound in
-        record { done = done; lines = ((n, l) ∷ [], refl); place = s.place; talked = breaks_off fault done now _ s.place s.talked moves }
+        record { done = done; lines = (_, refl); place = s.place; talked = breaks_off fault done now _ s.place s.talked moves }
     submit_failed fault (at, inr h) sound = let cut = h.4 in submit_part (Some fault) h.0 h.1 cut.0 h.2 h.3 (cut.1, cut.2) cut.3 sound at
 
 -- the bytes before a place, the byte there, and those after it
@@ -116,20 +100,15 @@ pub does_last : {start now next : Streams} {script : List ℕ} {b : Conversation
 does_last None c p s = record { done = _; lines = at_end p; place = s.place; talked = s.talked }
 does_last {script = script} (Some stop) c p s = stops script [] stop (at_end p ∙ sym (append-nil _)) s
 
-pub runs_at_first : {input : Option (List ℕ)} {start now : Streams} (fault : StreamFault) → Does (Some (Broken fault)) start now []
-    → Runs (Some (Broken fault)) input input start now
-runs_at_first {input = input} fault s =
-    record { script = []; read = Consumes-nil input; end = λ z. absurd cc; does = stops [] (filled_lines []) (Broken fault) refl s }
-
 pub stop_of : (stop : StopReason) (A B : Type 0) → (stop ≡ Broken ReadFailed → A) → (stop ≡ Broken WriteFailed → B) → IsStopOf stop A B
 stop_of (Unreadable n) A B a b = tt
 stop_of (Broken fault) A B a b = cause_of fault A B (λ e. a (ap Broken e)) (λ e. b (ap Broken e))
 
 -- a fault of a stream is told with status 1
-pub sound_unless : (stop : StopReason) {status : ℕ} → status ≡ stop_status stop → (status ≡ 1 → ⊥) → (fault : StreamFault) → stop_status (Broken fault) ≡ 1
-    → fault_in (Some stop) ≡ Some fault → ⊥
-sound_unless (Unreadable m) ends n fault one e = absurd cc
-sound_unless (Broken f) ends n fault one e = let same : f ≡ fault = cc in n (ends ∙ ap (λ (z : StreamFault). stop_status (Broken z)) same ∙ one)
+pub told_so : (stop : StopReason) → (stop_status stop ≡ 1 → ⊥) → (fault_in (Some stop) ≡ Some ReadFailed → ⊥) × (fault_in (Some stop) ≡ Some WriteFailed → ⊥)
+told_so (Unreadable m) n = (λ e. absurd cc, λ e. absurd cc)
+told_so (Broken Memory) n = (λ e. absurd cc, λ e. absurd cc)
+told_so (Broken _) n = absurd (n refl)
 
 -- what holds holds unless a fault is told
 pub unless_so : {T E : Type 0} (x : Result T E) (f : E) (A : Type 0) → A → UnlessTold x f A
@@ -174,9 +153,6 @@ answers wish k (x ∷ xs) =
 has_before : (line : List ℕ) {text : List ℕ} (front : List ℕ) → Has line text → Has line (front ++ text)
 has_before line front h = (front ++ h.0, h.1, simp (h.2, append_assoc))
 
-has_behind : (line : List ℕ) {text : List ℕ} (more : List ℕ) → Has line text → Has line (text ++ more)
-has_behind line more h = (h.0, h.1 ++ more, simp (h.2, append_assoc))
-
 module _ (n : ℕ) (phase : Phase) (outcome : Outcome) (said : ResponseView) where
   abbrev summary : Note
   summary = Summary n phase outcome said
@@ -210,12 +186,8 @@ lost_by true none false ls = inr refl
 lost_by false true false ls = inr refl
 lost_by false false false ls = inr refl
 
-module _ (k : Knows) (q : RequestView) (waits : k.waiting ≡ q ∷ []) where
-  not_answered : all_answered k ≡ false
-  not_answered = unanswered_waits k (rw waits (omega arith))
-
-  lost_one : (is_goodbye (kind_of q) ≡ true) ⊎ (lost_of k ≡ losses k)
-  lost_one = rw waits (lost_by k.over (is_none k.version) (is_goodbye (kind_of q)) _)
+lost_one : (k : Knows) (q : RequestView) → k.waiting ≡ q ∷ [] → (is_goodbye (kind_of q) ≡ true) ⊎ (lost_of k ≡ losses k)
+lost_one k q waits = rw waits (lost_by k.over (is_none k.version) (is_goodbye (kind_of q)) _)
 
 -- nothing waits, and so many were answered
 abbrev NoneWaits : ℕ → Knows → Type 0
@@ -235,9 +207,6 @@ module _ {fault : Option StreamFault} {p : Place} {a b : Streams} (x : Exchanges
   goes_on : then.knows.over ≡ false → (then.knows ≡ heard.knows) × (all_answered heard.knows ≡ true)
   goes_on = cond_both (all_answered heard.knows) heard (after_drop heard)
       (λ (r : Rest). r.knows.over ≡ false → (r.knows ≡ heard.knows) × (all_answered heard.knows ≡ true)) (λ e o. (refl, e)) (λ e o. absurd (true≢false o))
-
-  then_none : {n : ℕ} → then.knows.over ≡ false → NoneWaits n heard.knows → NoneWaits n then.knows
-  then_none {n = n} o h = subst (NoneWaits n) (sym (goes_on o).0) h
 
   -- what was heard of those that waited
   so_answered : (ws : List RequestView) (n : ℕ) → p.rest.knows.waiting ≡ ws → p.rest.knows.first ≡ n
@@ -259,18 +228,21 @@ module _ {fault : Option StreamFault} {p : Place} {a b : Streams} (x : Exchanges
         ⊎_elim unanswered (λ l. at_loss o (has_before (lost_line (k.first, o)) x.heard.told (lost l))) (lost_one k q e)
 
     an_answer : IsAnswered n (hears_all p.rest x.heard.fed).notes → Fated n
-    an_answer (phase, outcome, said, i) = ⊎_elim (on_output phase outcome) (λ h. on_errors phase outcome (has_behind (line n phase outcome said) _ h))
-        (⊎_elim (λ h. has_line n phase outcome said h i) (λ h. has_line n phase outcome said h.1 i) x.heard.prints)
+    an_answer (phase, outcome, said, i) =
+        ⊎_elim (on_output phase outcome) (λ h. on_errors phase outcome (h.0, h.1 ++ parting fault heard.knows, simp (h.2, append_assoc)))
+        (has_line n phase outcome said x.heard.prints i)
 
     -- its summary came, or none, and where the client stands then
     one_exchange : p.rest.knows.waiting ≡ q ∷ [] → p.rest.knows.first ≡ n → Fated n × (then.knows.over ≡ false → NoneWaits (suc n) then.knows)
-    one_exchange e f = ⊎_elim (λ h. (subst Fated h.1 (no_answer h.0), λ o. absurd (true≢false (sym (goes_on o).1 ∙ not_answered heard.knows q h.0))))
-        (λ h. (an_answer h.0, λ o. then_none o h.1)) (so_answered (q ∷ []) n e f)
+    one_exchange e f =
+        let waits = λ (w : heard.knows.waiting ≡ q ∷ []). unanswered_waits heard.knows (rw w (omega arith)) in
+        ⊎_elim (λ h. (subst Fated h.1 (no_answer h.0), λ o. absurd (true≢false (sym (goes_on o).1 ∙ waits h.0))))
+        (λ h. (an_answer h.0, λ o. subst (NoneWaits (suc n)) (sym (goes_on o).0) h.1)) (so_answered (q ∷ []) n e f)
 
 -- what the streams got of it, and what became of its requests
 pub record SoFar (fault : Option StreamFault) (start now : Streams) (p : Place) : Type 0 where
   log : Log
-  moves : Moves fault start now log
+  pub moves : Moves fault start now log
   requests : ℕ
   lines : EachHasALine requests log.sent log.printed log.told
   next : fault ≡ None → p.rest.knows.over ≡ false → NoneWaits requests p.rest.knows
@@ -286,7 +258,8 @@ more_said part told so m =
 first_so_far : {fault : Option StreamFault} {a b : Streams} (x : Exchanges fault first_place a b) → SoFar fault a b (parted x.heard)
 first_so_far x =
     let lines = other_text x.heard.printed (parting_log [] x.heard).told no_request in
-    record { log = _; moves = x.moves; requests = 0; lines = lines; next = λ _ o. then_none x o (so_answered x [] 0 refl refl); unsent = sent_all x }
+    let next = λ (o : (then x).knows.over ≡ false). subst (NoneWaits 0) (sym (goes_on x o).0) (so_answered x [] 0 refl refl) in
+    record { log = _; moves = x.moves; requests = 0; lines = lines; next = λ _. next; unsent = sent_all x }
 
 line_so_far : {fault : Option StreamFault} {l : ℕ × Text} {start mid now : Streams} {p r : Place} → SoFar None start mid p → TalksLine fault p l mid now r
     → SoFar fault start now r
@@ -309,15 +282,6 @@ so_far (fails_first fault now x) = first_so_far x
 so_far (next_line fault ls l mid now p r h x) = line_so_far (so_far h) x
 so_far (breaks_off fault ls mid now p h m) = more_said [] [] (so_far h) m
 
--- each stream is as sound as it was, unless a fault tells of it
-pub is_sound : {fault : Option StreamFault} {start mid : Streams} {p : Place} (told : Option (List ℕ)) (deaf : Bool) (so : SoFar fault start mid p)
-    → (fault ≡ Some ReadFailed → ⊥) → (fault ≡ Some WriteFailed → ⊥) → IsSound start (record mid { told = told; deaf = deaf })
-is_sound told deaf so r w = record { source = so.moves.source r; sink = (so.moves.sinks w).0; out = (so.moves.sinks w).1 }
-
-put_front : (whole : Bool) (a b : Option (List ℕ)) (xs : List ℕ) → Puts whole a b xs → AppendsFront a b xs
-put_front true a b xs h = front_whole a b xs h
-put_front false a b xs h = h
-
 -- and what is told behind it
 pub accounts : {fault : Option StreamFault} {start mid : Streams} {p : Place} (told : Option (List ℕ)) (deaf : Bool) (text : List ℕ) → SoFar fault start mid p
     → Gets mid.deaf deaf mid.told told text → Accounts start (record mid { told = told; deaf = deaf })
@@ -326,7 +290,7 @@ accounts {fault = fault} {start = start} {mid = mid} told deaf text so h = recor
   sent = so.log.sent;
   printed = so.log.printed ++ [];
   told = so.log.told ++ text;
-  put = put_front (is_printed fault) start.written mid.written so.log.sent so.moves.sent;
+  put = so.moves.sent.front;
   output = rw append-nil so.moves.printed;
   errors = gets_then start.deaf mid.deaf deaf start.told mid.told told so.log.told text so.moves.told h;
   lines = other_text [] text so.lines;

@@ -1,9 +1,11 @@
 -- What is printed of one piece after another.
-use Rattle.std.proofs.Common.{◌≡◌, refl, ap, ◌∙◌, ℕ, List, [], ◌∷◌, ◌++◌, append_assoc}
+use Rattle.std.proofs.Common.{◌≡◌, refl, ℕ, List, [], ◌∷◌, ◌++◌, append_assoc}
+use Rattle.wire.proofs.Readers.{state-append}
+use Rattle.wire.specs.Prelude.{Item, Opened, at_client}
 use Rattle.wire.specs.declared.Version.{Version}
-use Rattle.client.specs.Prelude.{Note, Rest}
-use Rattle.asks.proofs.Tales.{after_all-append, hears_all-append}
-use Rattle.asks.specs.Prelude.{Tale, after_all, hears_all}
+use Rattle.client.specs.Prelude.{Note}
+use Rattle.asks.proofs.Tales.{hears_all-append}
+use Rattle.asks.specs.Prelude.{after_all, hears_all}
 use Rattle.shells.specs.Prelude.{Place, place_after, texts_of, version_after, versions_after}
 
 pub versions_more : (v : Version) (ns ms : List Note) → versions_after v (ns ++ ms) ≡ versions_after (versions_after v ns) ms
@@ -18,8 +20,5 @@ texts_more text v (n ∷ ns) ms = simp (texts_more text (version_after v n) ns m
 -- one piece after another
 pub place_more : (p : Place) (a b : List ℕ) → place_after p (a ++ b) ≡ place_after (place_after p a) b
 place_more p a b =
-    let q = place_after p a in
-    ap (λ (r : Rest). record p { rest = r; version = versions_after p.version (hears_all p.rest (a ++ b)).notes }) (after_all-append p.rest a b)
-    ∙ ap (λ (v : Version). record p { rest = after_all q.rest b; version = v })
-    (ap (λ (t : Tale). versions_after p.version t.notes) (hears_all-append p.rest a b)
-    ∙ versions_more p.version (hears_all p.rest a).notes (hears_all q.rest b).notes)
+    let versions = versions_more p.version (hears_all p.rest a).notes (hears_all (after_all p.rest a) b).notes in
+    rw (hears_all-append p.rest a b, state-append Opened Item at_client p.rest.item a b, versions) refl

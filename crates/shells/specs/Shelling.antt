@@ -29,17 +29,42 @@ use Rattle.shells.specs.Talking.{FailsToPut, Place, IsAt, submitted, sent_out, h
 use Rattle.shells.specs.Talking.{Talked}
 use Rattle.shells.specs.Streams.{Streams}
 
+-- What standard output and standard error took, and whether they have failed.
+pub record Sinks : Type 0 where
+  pub printed : Option (List ℕ)
+  pub told : Option (List ℕ)
+  pub print_failed : Bool
+  pub deaf : Bool
+
+-- those among the streams of a shell
+abbrev pub sinks_of : Streams → Sinks
+sinks_of s = record {
+  printed = s.printed;
+  told = s.told;
+  print_failed = s.print_failed;
+  deaf = s.deaf;
+}
+
+-- the same of two sinks, by what they took and whether they have failed
+abbrev pub sinks_by : {O E : Type 0} → (O → Option (List ℕ)) → (O → Bool) → (E → Option (List ℕ))
+    → (E → Bool) → O → E → Sinks
+sinks_by taken failed told deaf out err = record {
+  printed = taken out;
+  told = told err;
+  print_failed = failed out;
+  deaf = deaf err;
+}
+
 -- These notes are printed, or a fault came while one was: what standard output took of them, which is sound unless it is told, and what standard
 -- error got.
 pub record PutsNotes (v : Version) (notes : List Note) (fault : Option StreamFault)
-    (out out_now : Option (List ℕ)) (had has deaf deaf_now : Bool) (err err_now : Option (List ℕ))
-    : Type 0 where
+    (before after : Sinks) : Type 0 where
   pub printed : List ℕ
   pub told : List ℕ
   pub prints : Prints v fault notes printed told
-  pub took : Appends out out_now printed
-  pub sound : (fault ≡ Some WriteFailed → ⊥) → StaysSound had has
-  pub got : Gets deaf deaf_now err err_now told
+  pub took : Appends before.printed after.printed printed
+  pub sound : (fault ≡ Some WriteFailed → ⊥) → StaysSound before.print_failed after.print_failed
+  pub got : Gets before.deaf after.deaf before.told after.told told
 
 -- What waited to be sent was written; bytes were read, and fed but for those behind the client's end; and what they tell was printed.
 pub record HearsOn (p : Place) (before after : Streams) (c : Caller) : Type 0 where
@@ -47,8 +72,7 @@ pub record HearsOn (p : Place) (before after : Streams) (c : Caller) : Type 0 wh
   pub sent : Appends before.written after.written p.rest.unsent × (drop out p.rest.unsent ≡ [])
   pub notes : List Note
   pub reads : ReadsOn (taken_out p.rest out) before.left after.left [] notes (Fits c.client)
-  pub puts : PutsNotes p.version notes None before.printed after.printed before.print_failed
-      after.print_failed before.deaf after.deaf before.told after.told
+  pub puts : PutsNotes p.version notes None (sinks_of before) (sinks_of after)
   pub version : c.version ≡ versions_after p.version notes
   pub source : StaysSound before.read_failed after.read_failed
   pub sink : StaysSound before.write_failed after.write_failed

@@ -77,10 +77,9 @@ is_printed (Some ReadFailed) = true
 is_printed (Some WriteFailed) = false
 is_printed (Some Memory) = false
 
--- notes are printed, all of them unless such a fault came while one was
-abbrev pub PrintsUpTo : Option StreamFault → Version → List Note → List ℕ → List ℕ → Type 0
-PrintsUpTo fault v notes printed told = Prints v None notes printed told
-    ⊎ ((is_printed fault ≡ false) × Prints v fault notes printed told)
+-- while notes are printed none comes, or one that keeps some of them from it
+abbrev pub CutsBy : Option StreamFault → Option StreamFault → Type 0
+CutsBy fault cut = (cut ≡ None) ⊎ ((is_printed fault ≡ false) × (cut ≡ fault))
 
 -- no answer is still to come, and the client goes on: nothing but a GOODBYE waits
 abbrev pub is_settled : Knows → Bool
@@ -131,7 +130,9 @@ pub record HeardUpTo (fault : Option StreamFault) (p : Place) : Type 0 where
       → (unheard ≡ []) ⊎ ((hears_all p.rest fed).knows.over ≡ true)
   pub printed : List ℕ
   pub told : List ℕ
-  pub prints : PrintsUpTo fault p.version (hears_all p.rest fed).notes printed told
+  pub cut : Option StreamFault
+  pub cuts : CutsBy fault cut
+  pub prints : Prints p.version cut (hears_all p.rest fed).notes printed told
 
 -- what is read, printed and told so, if this was sent
 abbrev pub heard_log : {fault : Option StreamFault} {p : Place} → List ℕ → HeardUpTo fault p → Log
@@ -161,10 +162,10 @@ abbrev pub IsPart : Option StreamFault → List ℕ → List ℕ → Type 0
 IsPart None text part = part ≡ text
 IsPart (Some fault) text part = IsFront part text
 
--- all of it was put out, or a beginning
-abbrev pub Puts : Bool → Option (List ℕ) → Option (List ℕ) → List ℕ → Type 0
-Puts true before after bytes = Appends before after bytes
-Puts false before after bytes = AppendsFront before after bytes
+-- A beginning of it was put out, and all of it if it is whole.
+pub record Puts (whole : Bool) (before after : Option (List ℕ)) (bytes : List ℕ) : Type 0 where
+  pub front : AppendsFront before after bytes
+  pub all : whole ≡ true → Appends before after bytes
 
 -- The streams moved as a log has it; the server was sent all, or a beginning where a sink failed or memory ran out. A stream that fails is told:
 -- without such a fault each is as sound as it was.

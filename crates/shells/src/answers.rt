@@ -1,5 +1,5 @@
 //! A client asks its server for the answers that it waits for, and prints them as they come.
-ghost use Rattle.std.specs.Prelude.{◌≡◌, ◌<◌, ℕ, Bool, ◌++◌, ◌∷◌, [], List, Option, true, false, map, IfOk, IsErrOf};
+ghost use Rattle.std.specs.Prelude.{◌≡◌, ◌<◌, ◌++◌, ◌∷◌, [], List, true, map, IfOk, IsErrOf};
 ghost use Rattle.std.specs.Io.KnownBytes.{Appends};
 ghost use Rattle.std.specs.Result.{result_err};
 ghost use Rattle.client.specs.Fits.{Fits, rest_of};
@@ -12,7 +12,7 @@ ghost use Rattle.prints.specs.Stopping.{Gets};
 ghost use Rattle.shells.specs.Streams.{Streams};
 ghost use Rattle.shells.specs.Talking.{FailsToPut, IsAt, Place, ending, parting};
 ghost use Rattle.shells.specs.Printing.{version_after, versions_after};
-ghost use Rattle.shells.specs.Shelling.{Asks, Converses, HearsMore, HearsOn, LetsAsk, PutsNotes};
+ghost use Rattle.shells.specs.Shelling.{Asks, Converses, HearsMore, HearsOn, LetsAsk, PutsNotes, Sinks, sinks_by};
 
 use crate::caller::Caller;
 use crate::errors::{put_losses, put_unprinted};
@@ -145,8 +145,8 @@ impl Caller {
         err: &mut E,
     ) -> Result<(), StreamFault>
         ensures puts { PutsNotes self.old.version (map note heard.items) (result_err result)
-            (O.taken out.old) (O.taken out.new) (O.has_failed out.old) (O.has_failed out.new)
-            (E.has_failed err.old) (E.has_failed err.new) (E.taken err.old) (E.taken err.new) }
+            (sinks_by O.taken O.has_failed E.taken E.has_failed out.old err.old)
+            (sinks_by O.taken O.has_failed E.taken E.has_failed out.new err.new) }
         ensures version { self.new.version ≡ versions_after self.old.version (map note heard.items) }
         ensures client { self.new.client ≡ self.old.client }
         ensures read { IsErrOf result StreamFault.ReadFailed → ⊥ }
@@ -167,12 +167,12 @@ impl Caller {
         out: &mut O,
         err: &mut E,
     ) -> Result<(), StreamFault>
-        ensures puts { (v : Version) (notes : List Note) (was told : Option (List ℕ)) (had deaf : Bool)
+        ensures puts { (v : Version) (notes : List Note) (was : Sinks)
             → self.old.version ≡ versions_after v notes
-            → PutsNotes v notes (result_err done) was (O.taken out.old) had (O.has_failed out.old) deaf
-            (E.has_failed err.old) told (E.taken err.old)
-            → PutsNotes v (notes ++ note one ∷ []) (result_err result) was (O.taken out.new) had
-            (O.has_failed out.new) deaf (E.has_failed err.new) told (E.taken err.new) }
+            → PutsNotes v notes (result_err done) was
+            (sinks_by O.taken O.has_failed E.taken E.has_failed out.old err.old)
+            → PutsNotes v (notes ++ note one ∷ []) (result_err result) was
+            (sinks_by O.taken O.has_failed E.taken E.has_failed out.new err.new) }
         ensures version { self.new.version ≡ version_after self.old.version (note one) }
         ensures client { self.new.client ≡ self.old.client }
         ensures read { (IsErrOf done StreamFault.ReadFailed → ⊥)

@@ -11,7 +11,7 @@ ghost use Rattle.scripts.specs.Views.{script_request_view};
 ghost use Rattle.prints.specs.Telling.{PutsLine, note_text};
 ghost use Rattle.shells.specs.Printing.{version_after};
 ghost use Rattle.shells.specs.Talking.{IsAt, Place, first_place};
-ghost use Rattle.shells.specs.Shelling.{PutsNotes, Submits};
+ghost use Rattle.shells.specs.Shelling.{PutsNotes, Submits, sinks_by};
 
 use client::{Client, Heard, Outcome};
 use machine::Phase;
@@ -81,8 +81,8 @@ impl Caller {
     ) -> Result<(), StreamFault>
         ensures puts { (v : Version) → self.now.version ≡ version_after v (note heard)
             → PutsNotes v (note heard ∷ []) (result_err result)
-            (O.taken out.old) (O.taken out.new) (O.has_failed out.old) (O.has_failed out.new)
-            (E.has_failed err.old) (E.has_failed err.new) (E.taken err.old) (E.taken err.new) }
+            (sinks_by O.taken O.has_failed E.taken E.has_failed out.old err.old)
+            (sinks_by O.taken O.has_failed E.taken E.has_failed out.new err.new) }
         ensures read { IsErrOf result StreamFault.ReadFailed → ⊥ }
         ensures written { IsErrOf result StreamFault.WriteFailed → O.has_failed out.new ≡ true }
     {
@@ -143,9 +143,8 @@ fn put_summary<O: Sink, E: Sink>(
 ) -> Result<(), StreamFault>
     ensures puts { (v : Version)
         → PutsNotes v (Summary ordinal phase outcome (response_view response.now) ∷ [])
-        (result_err result) (O.taken out.old) (O.taken out.new) (O.has_failed out.old)
-        (O.has_failed out.new) (E.has_failed err.old) (E.has_failed err.new) (E.taken err.old)
-        (E.taken err.new) }
+        (result_err result) (sinks_by O.taken O.has_failed E.taken E.has_failed out.old err.old)
+        (sinks_by O.taken O.has_failed E.taken E.has_failed out.new err.new) }
     ensures read { IsErrOf result StreamFault.ReadFailed → ⊥ }
     ensures written { IsErrOf result StreamFault.WriteFailed → O.has_failed out.new ≡ true }
 {

@@ -1,21 +1,19 @@
 //! A client at a shell: request lines go in, and what a server answers comes out.
-ghost use Rattle.std.specs.Prelude.{◌≡◌, ◌∷◌, ◌++◌, ◌⊎◌, [], List, ℕ, true, Some, IfOk, IfErr, IsErrOf};
-ghost use Rattle.std.specs.Option.{option_map};
+ghost use Rattle.std.specs.Prelude.{◌≡◌, ◌++◌, ◌⊎◌, [], List, ℕ, true, IfOk, IfErr, IsErrOf};
 ghost use Rattle.std.specs.Result.{result_err};
-ghost use Rattle.scripts.specs.Rows.{request_line_of};
-ghost use Rattle.scripts.specs.Views.{Text, script_request_view};
+ghost use Rattle.scripts.specs.Views.{Text};
 ghost use Rattle.streams.specs.Failing.{StaysSound, UnlessTold};
 ghost use Rattle.streams.specs.Reading.{LetsRead};
 ghost use Rattle.shells.specs.Talking.{FailsToPut, IsAt, IsServersTurn, first_place};
 ghost use Rattle.shells.specs.Accounting.{Accounts};
-ghost use Rattle.shells.specs.Shelling.{DoesMore, IsSound, IsTurnWithin, LetsAsk, LetsTalk, Progress, Reaches, Runs, Shells, Takes, TakesByte, if_filled};
+ghost use Rattle.shells.specs.Shelling.{DoesMore, IsSound, IsTurnWithin, LetsTalk, Progress, Reaches, Runs, Shells, Takes, TakesByte, if_filled};
 ghost use Rattle.shells.specs.Streams.{Streams};
 
 use crate::caller::Caller;
 use crate::errors::greet;
 use crate::ways::ShellStreams;
 use prints::{StopReason, put_stop};
-use scripts::{LineFault, ScriptRequest, read_request};
+use scripts::{LineFault, read_request};
 use std::alloc::Global;
 use streams::{MAX_PIECE, PeerSource, Sink, Source, StreamFault};
 
@@ -44,32 +42,6 @@ impl Conversation {
             }),
             Err(fault) => Err(fault),
         }
-    }
-
-    /// Hears the version, and tells it with how a line looks.
-    fn begin<S: PeerSource, T: Sink, O: Sink, E: Sink>(
-        &mut self,
-        streams: &mut ShellStreams<S, T, O, E>,
-    ) -> Result<(), StreamFault>
-        requires { LetsAsk S.may_read S.left streams.old.at self.old.caller }
-        ensures begins { IsAt self.old.caller first_place
-            → DoesMore (option_map StopReason.Broken (result_err result)) streams.old.at streams.new.at
-            [] self.new.caller }
-        ensures begun { self.new.begun ≡ self.old.begun }
-        ensures number { self.new.number ≡ self.old.number }
-        ensures read { IsErrOf result StreamFault.ReadFailed → streams.new.at.read_failed ≡ true }
-        ensures written { IsErrOf result StreamFault.WriteFailed → FailsToPut streams.new.at }
-    {
-        match self.caller.ask(streams) {
-            Ok(()) => {}
-            Err(fault) => return Err(fault),
-        }
-        greet(
-            self.caller.client.has_ended(),
-            self.caller.version,
-            &mut streams.err,
-        );
-        Ok(())
     }
 
     /// Takes a piece of the input: each line that ends in it is sent.
@@ -129,7 +101,7 @@ impl Conversation {
         Ok(())
     }
 
-    /// Sends the line that was begun, unless it is empty.
+    /// Submits the request of the line that was begun and asks for its answer, or prints why it is refused; nothing if the line is empty.
     fn send<S: PeerSource, T: Sink, O: Sink, E: Sink>(
         &mut self,
         streams: &mut ShellStreams<S, T, O, E>,
@@ -154,38 +126,18 @@ impl Conversation {
             Err(LineFault::Unreadable) => return Err(StopReason::Unreadable(self.number)),
             Err(LineFault::Memory) => return Err(StopReason::Broken(StreamFault::Memory)),
         };
-        match self.submit(request, streams) {
-            Ok(()) => Ok(()),
-            Err(fault) => Err(StopReason::Broken(fault)),
-        }
-    }
-
-    /// Submits the request of the line that was begun and asks for its answer, or prints why it is refused.
-    fn submit<S: PeerSource, T: Sink, O: Sink, E: Sink>(
-        &mut self,
-        request: ScriptRequest,
-        streams: &mut ShellStreams<S, T, O, E>,
-    ) -> Result<(), StreamFault>
-        requires { LetsTalk S.may_read S.left streams.old.at self.old.caller }
-        ensures submits { (start : Streams) (done : List (ℕ × Text)) (line : Text)
-            → request_line_of line ≡ Some (script_request_view request)
-            → Reaches start streams.old.at done self.old.caller
-            → DoesMore (option_map StopReason.Broken (result_err result)) start streams.new.at
-            (done ++ (self.old.number, line) ∷ []) self.new.caller }
-        ensures begun { self.new.begun ≡ self.old.begun }
-        ensures number { self.new.number ≡ self.old.number }
-        ensures read { IsErrOf result StreamFault.ReadFailed → streams.new.at.read_failed ≡ true }
-        ensures written { IsErrOf result StreamFault.WriteFailed → FailsToPut streams.new.at }
-    {
         match self.caller.submit(self.number, request, &mut streams.out) {
-            Ok(true) => self.caller.ask(streams),
+            Ok(true) => match self.caller.ask(streams) {
+                Ok(()) => Ok(()),
+                Err(fault) => Err(StopReason::Broken(fault)),
+            },
             Ok(false) => Ok(()),
-            Err(fault) => Err(fault),
+            Err(fault) => Err(StopReason::Broken(fault)),
         }
     }
 }
 
-/// Takes the input to its end.
+/// Hears the version, and tells it with how a line looks. Then it takes the input to its end.
 fn run<I: Source, S: PeerSource, T: Sink, O: Sink, E: Sink>(
     alloc: Global,
     input: &mut I,
@@ -205,10 +157,15 @@ fn run<I: Source, S: PeerSource, T: Sink, O: Sink, E: Sink>(
         Ok(conversation) => conversation,
         Err(fault) => return Err(StopReason::Broken(fault)),
     };
-    match conversation.begin(streams) {
+    match conversation.caller.ask(streams) {
         Ok(()) => {}
         Err(fault) => return Err(StopReason::Broken(fault)),
     }
+    greet(
+        conversation.caller.client.has_ended(),
+        conversation.caller.version,
+        &mut streams.err,
+    );
     let mut buffer = [0; MAX_PIECE];
     loop {
         let Ok(len) = input.read(&mut buffer) else {

@@ -2,19 +2,14 @@
 pub mod Words
 pub use Words.*
 
--- all of it, or a beginning
+-- all of it
 pub puts_whole : (w : Bool) (a b : Option (List ℕ)) (xs : List ℕ) → Appends a b xs → Puts w a b xs
-puts_whole true a b xs h = h
-puts_whole false a b xs h = front_whole a b xs h
-
-puts_then : (w : Bool) (a b c : Option (List ℕ)) (xs ys : List ℕ) → Appends a b xs → Puts w b c ys → Puts w a c (xs ++ ys)
-puts_then true a b c xs ys h k = Appends-trans a b c xs ys h k
-puts_then false a b c xs ys h k = front_after a b c xs ys h k
+puts_whole w a b xs h = record { front = front_whole a b xs h; all = λ _. h }
 
 -- nothing moves
 pub moves_none : {fault : Option StreamFault} (a : Streams) → Moves fault a a (said [] [])
-moves_none {fault = fault} a =
-    let sent = puts_whole (is_printed fault) a.written a.written [] (Appends-nil a.written) in
+moves_none a =
+    let sent = puts_whole _ a.written a.written [] (Appends-nil a.written) in
     record { read = Consumes-nil _; sent = sent; printed = Appends-nil _; told = gets_none _ _; source = λ _ f. f; sinks = λ _. (λ f. f, λ f. f) }
 
 -- a text is printed
@@ -30,11 +25,11 @@ abbrev pub and_then : Log → Log → Log
 and_then a b = record { sent = a.sent ++ b.sent; read = a.read ++ b.read; printed = a.printed ++ b.printed; told = a.told ++ b.told }
 
 pub moves_then : {fault : Option StreamFault} {a b c : Streams} {l m : Log} → Moves None a b l → Moves fault b c m → Moves fault a c (and_then l m)
-moves_then {fault = fault} {a = a} {b = b} {c = c} {l = l} {m = m} h k = record {
-  read = Consumes-trans a.left b.left c.left l.read m.read h.read k.read;
-  sent = puts_then (is_printed fault) a.written b.written c.written l.sent m.sent h.sent k.sent;
-  printed = Appends-trans a.printed b.printed c.printed l.printed m.printed h.printed k.printed;
-  told = gets_then a.deaf b.deaf c.deaf a.told b.told c.told l.told m.told h.told k.told;
+moves_then {a = a} {b = b} {c = c} h k = record {
+  read = Consumes-trans a.left b.left c.left _ _ h.read k.read;
+  sent = record { front = front_after _ _ _ _ _ (h.sent.all refl) k.sent.front; all = λ w. Appends-trans _ _ _ _ _ (h.sent.all refl) (k.sent.all w) };
+  printed = Appends-trans a.printed b.printed c.printed _ _ h.printed k.printed;
+  told = gets_then a.deaf b.deaf c.deaf a.told b.told c.told _ _ h.told k.told;
   source = λ n f. h.source (λ e. cc) (k.source n f);
   sinks = λ n. let was = h.sinks (λ e. cc) in (λ f. was.0 ((k.sinks n).0 f), λ f. was.1 ((k.sinks n).1 f));
 }
@@ -52,66 +47,52 @@ prints_then prints_none y = y
 prints_then (prints_one x) y = rw append_assoc (prints_one (prints_then x y))
 
 -- one note more after a fault
-prints_told : {v : Version} {ns : List Note} {f : StreamFault} {p t : List ℕ} (n : Note) → Prints v (Some f) ns p t
+pub prints_told : {v : Version} {ns : List Note} {f : StreamFault} {p t : List ℕ} (n : Note) → Prints v (Some f) ns p t
     → Prints v (Some f) (ns ++ n ∷ []) p (t ++ summary_line n)
 prints_told n (prints_one x) = prints_one (prints_told n x)
 prints_told n (cut_at {rest = rest} {told = told} c) =
     let e : summaries_text (rest ++ n ∷ []) ≡ summaries_text rest ++ summary_line n = simp (flat_map-append, append-nil) in
     rw (append_assoc told (summaries_text rest) (summary_line n), ← e) (cut_at c)
 
-module _ {v : Version} {ns : List Note} {a b x y z : Option (List ℕ)} {d e f i j : Bool} where
-  pub notes_then : {ms : List Note} {fault : Option StreamFault} {c : Option (List ℕ)} {k : Bool} → PutsNotes v ns None a b i j d e x y
-      → PutsNotes (versions_after v ns) ms fault b c j k e f y z → PutsNotes v (ns ++ ms) fault a c i k d f x z
-  notes_then {c = c} h m =
-      let took = Appends-trans a b c h.printed m.printed h.took m.took in
-      let got = gets_then d e f x y z h.told m.told h.got m.got in
+module _ {v : Version} {ns : List Note} {a b c : Sinks} where
+  pub notes_then : {ms : List Note} {fault : Option StreamFault} → PutsNotes v ns None a b → PutsNotes (versions_after v ns) ms fault b c
+      → PutsNotes v (ns ++ ms) fault a c
+  notes_then h m =
+      let took = Appends-trans a.printed b.printed c.printed h.printed m.printed h.took m.took in
+      let got = gets_then a.deaf b.deaf c.deaf a.told b.told c.told h.told m.told h.got m.got in
       record { printed = _; told = _; prints = prints_then h.prints m.prints; took = took; sound = λ n s. h.sound (λ q. cc) (m.sound n s); got = got }
 
-  -- one note is told after a fault
-  pub told_next : {fault : StreamFault} (n : Note) → PutsNotes v ns (Some fault) a b i j d e x y → Gets e f y z (summary_line n)
-      → PutsNotes v (ns ++ n ∷ []) (Some fault) a b i j d f x z
-  told_next n h g =
-      let got = gets_then d e f x y z h.told (summary_line n) h.got g in
-      record { printed = h.printed; told = h.told ++ summary_line n; prints = prints_told n h.prints; took = h.took; sound = h.sound; got = got }
-
 -- nothing is printed
-pub notes_none : {v : Version} {out err : Option (List ℕ)} {had deaf : Bool} → PutsNotes v [] None out out had had deaf deaf err err
+pub notes_none : {v : Version} {a : Sinks} → PutsNotes v [] None a a
 notes_none = record { printed = []; told = []; prints = prints_none; took = Appends-nil _; sound = λ _ s. s; got = gets_none _ _ }
 
-module _ {v : Version} {n : Note} {out : Option (List ℕ)} {had deaf : Bool} {err : Option (List ℕ)} where
-  whole : {now : Option (List ℕ)} {has : Bool} → Appends out now (explained (version_after v n) n) → StaysSound had has
-      → PutsNotes v (n ∷ []) None out now had has deaf deaf err err
-  whole {now = now} h s =
+module _ {v : Version} {n : Note} {a : Sinks} where
+  whole : {now : Option (List ℕ)} {has : Bool} → Appends a.printed now (explained (version_after v n) n) → StaysSound a.print_failed has
+      → PutsNotes v (n ∷ []) None a (record a { printed = now; print_failed = has })
+  whole h s =
       let text = explained (version_after v n) n in
-      record { printed = text ++ []; told = []; prints = prints_one prints_none; took = rw append-nil h; sound = λ _. s; got = gets_none deaf err }
+      record { printed = text ++ []; told = []; prints = prints_one prints_none; took = rw append-nil h; sound = λ _. s; got = gets_none _ _ }
 
-  cut : {f : StreamFault} {now err_now : Option (List ℕ)} {has deaf_now : Bool} {part told : List ℕ} → IsCut (version_after v n) n f part told
-      → Appends out now part → ((Some f ≡ Some WriteFailed → ⊥) → StaysSound had has) → Gets deaf deaf_now err err_now told
-      → PutsNotes v (n ∷ []) (Some f) out now had has deaf deaf_now err err_now
-  cut {f = f} {part = part} {told = told} c h s g =
+  pub cut : {f : StreamFault} {b : Sinks} {part told : List ℕ} → IsCut (version_after v n) n f part told → Appends a.printed b.printed part
+      → ((Some f ≡ Some WriteFailed → ⊥) → StaysSound a.print_failed b.print_failed) → Gets a.deaf b.deaf a.told b.told told → PutsNotes v (n ∷ []) (Some f) a b
+  cut {part = part} {told = told} c h s g =
       record { printed = part; told = told ++ []; prints = cut_at c; took = h; sound = s; got = rw append-nil g }
 
   -- nothing is printed of a note that tells nothing
-  pub nothing_printed : explained (version_after v n) n ≡ [] → PutsNotes v (n ∷ []) None out out had had deaf deaf err err
-  nothing_printed e = whole (rw e (Appends-nil out)) (λ s. s)
+  pub nothing_printed : explained (version_after v n) n ≡ [] → PutsNotes v (n ∷ []) None a a
+  nothing_printed e = whole (rw e (Appends-nil a.printed)) (λ s. s)
 
   -- a note of which a line is put out behind a text: it is printed whole, or cut
-  pub note_line : (text line : List ℕ) (mid : Option (List ℕ)) {now : Option (List ℕ)} {has : Bool} (r : Result (Unit {0}) StreamFault) → Appends out mid text
-      → PutsLine line mid now r → ((result_err r ≡ Some WriteFailed → ⊥) → StaysSound had has) → text ++ line ≡ explained (version_after v n) n
+  pub note_line : (text line : List ℕ) (mid : Option (List ℕ)) {now : Option (List ℕ)} {has : Bool} (r : Result (Unit {0}) StreamFault)
+      → Appends a.printed mid text → PutsLine line mid now r → ((result_err r ≡ Some WriteFailed → ⊥) → StaysSound a.print_failed has)
+      → text ++ line ≡ explained (version_after v n) n
       → ((front : List ℕ) → IsFront front line → IsCut (version_after v n) n WriteFailed (text ++ front) [])
-      → IsCut (version_after v n) n Memory (text ++ []) [] → PutsNotes v (n ∷ []) (result_err r) out now had has deaf deaf err err
-  note_line text line mid {now = now} (Ok u) h k s same front none = whole (rw (← same) (Appends-trans out mid now text line h k)) (s (λ e. cc))
-  note_line text line mid {now = now} (Err WriteFailed) h k s same front none =
-      cut (front k.0 (k.1, k.2)) (Appends-trans out mid now text k.0 h k.3) s (gets_none deaf err)
-  note_line text line mid {now = now} (Err Memory) h k s same front none =
-      cut none (Appends-trans out mid now text [] h (rw k (Appends-nil mid))) s (gets_none deaf err)
+      → IsCut (version_after v n) n Memory (text ++ []) [] → PutsNotes v (n ∷ []) (result_err r) a (record a { printed = now; print_failed = has })
+  note_line text line mid (Ok u) h k s same front none = whole (rw (← same) (Appends-trans _ mid _ text line h k)) (s (λ e. cc))
+  note_line text line mid (Err WriteFailed) h k s same front none =
+      cut (front k.0 (k.1, k.2)) (Appends-trans _ mid _ text k.0 h k.3) s (gets_none _ _)
+  note_line text line mid (Err Memory) h k s same front none = cut none (Appends-trans _ mid _ text [] h (rw k (Appends-nil mid))) s (gets_none _ _)
   note_line text line mid (Err ReadFailed) h k s same front none = absurd k
-
-  -- a summary whose line is cut is told
-  pub summary_cut : {line : List ℕ} {now err_now : Option (List ℕ)} {has deaf_now : Bool} {f : StreamFault} → f ≡ WriteFailed
-      → note_text (version_after v n) n ≡ line → summary_line n ≡ line → AppendsFront out now line → Gets deaf deaf_now err err_now line
-      → PutsNotes v (n ∷ []) (Some f) out now had has deaf deaf_now err err_now
-  summary_cut e text same h g = rw e (cut (rw (← same) (in_line h.0 (h.1, h.2 ∙ sym text))) h.3 (λ n. absurd (n refl)) g)
 
 -- a piece tells what is told behind earlier notes, and less of it may be fed
 piece_more : {r : Rest} {left now : Option (List ℕ)} {new : List Note} {whole so : Bool} {Now : Rest → Type 0} (notes : List Note) → (so ≡ true → whole ≡ true)
@@ -133,49 +114,33 @@ never_printed ReadFailed never = absurd (never refl)
 never_printed _ never = refl
 
 -- what was read up to one fault, and printed up to another
-spoken : {p : Place} {a b : Streams} {k : Caller} {fault read broken : Option StreamFault} {notes : List Note} (out : ℕ)
-    → ReadsAll (taken_out p.rest out) a.left b.left [] notes (Fits k.client) read
-    → (puts : PutsNotes p.version notes broken a.printed b.printed a.print_failed b.print_failed a.deaf b.deaf a.told b.told)
+pub spoken : {p : Place} {a b : Streams} {k : Caller} {fault read cut : Option StreamFault} {notes : List Note} (out : ℕ)
+    → ReadsAll (taken_out p.rest out) a.left b.left [] notes (Fits k.client) read → PutsNotes p.version notes cut (sinks_of a) (sinks_of b)
     → k.version ≡ versions_after p.version notes → Puts (is_printed fault) a.written b.written p.rest.unsent
-    → (is_printed fault ≡ true → read ≡ Some Memory → ⊥)
-    → (Prints p.version broken notes puts.printed puts.told → PrintsUpTo fault p.version notes puts.printed puts.told)
-    → ((fault ≡ Some ReadFailed → ⊥) → StaysSound a.read_failed b.read_failed)
-    → ((fault ≡ Some WriteFailed → ⊥) → StaysSound a.write_failed b.write_failed × StaysSound a.print_failed b.print_failed)
-    → (fault ≡ None → (read ≡ None) × (drop out p.rest.unsent ≡ [])) → Converses fault p a b k
-spoken {p = p} {fault = fault} out r puts version sent whole up source sinks all =
-    let prints = subst (λ (ns : List Note). PrintsUpTo fault p.version ns puts.printed puts.told) r.told (up puts.prints) in
+    → (is_printed fault ≡ true → read ≡ Some Memory → ⊥) → CutsBy fault cut → ((fault ≡ Some ReadFailed → ⊥) → StaysSound a.read_failed b.read_failed)
+    → ((fault ≡ Some WriteFailed → ⊥) → StaysSound a.write_failed b.write_failed) → (fault ≡ None → (read ≡ None) × (drop out p.rest.unsent ≡ []))
+    → Converses fault p a b k
+spoken {p = p} {fault = fault} {cut = cut} out r puts version sent whole by source sink all =
+    let up = subst (λ (ns : List Note). Prints p.version cut ns puts.printed puts.told) r.told puts.prints in
     let heard : HeardUpTo fault (sent_out p out) =
-    record { fed = r.fed; unheard = r.unheard; needed = r.needed; whole = λ e. r.whole (whole e); printed = puts.printed; told = puts.told; prints = prints } in
+    record { fed = r.fed; unheard = r.unheard; needed = r.needed; whole = λ e. r.whole (whole e); printed = _; told = _; cut = cut; cuts = by; prints = up } in
+    let printed = λ (n : fault ≡ Some WriteFailed → ⊥). puts.sound (λ e. ⊎_elim (λ z. cc) (λ z. n (sym z.1 ∙ e)) by) in
     record {
       out = out;
       heard = heard;
-      moves = record { read = r.input; sent = sent; printed = puts.took; told = puts.got; source = source; sinks = sinks };
+      moves = record { read = r.input; sent = sent; printed = puts.took; told = puts.got; source = source; sinks = λ n. (sink n, printed n) };
       at = record { fits = r.now; version = version ∙ ap (versions_after p.version) r.told };
       ends = λ e. let so = all e in (so.1, r.ends so.0);
     }
 
-not_memory : (fault : Option StreamFault) → is_printed fault ≡ true → fault ≡ Some Memory → ⊥
+pub not_memory : (fault : Option StreamFault) → is_printed fault ≡ true → fault ≡ Some Memory → ⊥
 not_memory fault e m = true≢false (sym e ∙ ap is_printed m)
-
--- it is the server's turn where an answer is still to come
-pub turn_comes : {p : Place} {a b : Streams} {k : Caller} {left taken : Option (List ℕ)} → HearsOn p a b k → awaits (rest_of k.client).knows ≡ true
-    → Appends b.written taken [] → left ≡ b.left → IsTurn p.rest a.left left a.written taken
-turn_comes {p = p} {a = a} {b = b} {taken = taken} so e w l = record {
-  awaited = rw l (is_awaited so.reads (ap (λ (r : Rest). awaits r.knows) (sym so.reads.now) ∙ e));
-  asked = rw append-nil at (Appends-trans a.written b.written taken p.rest.unsent [] so.sent.0 w);
-}
-
--- no answer is still to come
-pub heard_all : {p : Place} {a b : Streams} {k : Caller} → HearsOn p a b k → awaits (rest_of k.client).knows ≡ false → Converses None p a b k
-heard_all so e =
-    spoken so.out (stops_waiting so.reads (ap (λ (r : Rest). awaits r.knows) (sym so.reads.now) ∙ e)) so.puts so.version so.sent.0 (not_memory None) inl
-    (λ _. so.source) (λ _. (so.sink, so.puts.sound (λ e. cc))) (λ e. (e, so.sent.1))
 
 module _ {p : Place} {a b : Streams} {k : Caller} (c : Streams) (l : Caller) (new : List Note) (so : HearsOn p a b k)
     (waits : awaits (rest_of k.client).knows ≡ true) (version : l.version ≡ versions_after k.version new)
     (sent : Appends a.written c.written p.rest.unsent) (sink : StaysSound a.write_failed c.write_failed) where
   abbrev New : Option StreamFault → Type 0
-  New broken = PutsNotes k.version new broken b.printed c.printed b.print_failed c.print_failed b.deaf c.deaf b.told c.told
+  New broken = PutsNotes k.version new broken (sinks_of b) (sinks_of c)
 
   abbrev notes : List Note
   notes = so.notes ++ new
@@ -192,8 +157,7 @@ module _ {p : Place} {a b : Streams} {k : Caller} (c : Streams) (l : Caller) (ne
   version_now : l.version ≡ versions_after p.version notes
   version_now = version ∙ ap (λ (v : Version). versions_after v new) so.version ∙ sym (versions_more p.version so.notes new)
 
-  put : {broken : Option StreamFault} → New broken
-      → PutsNotes p.version notes broken a.printed c.printed a.print_failed c.print_failed a.deaf c.deaf a.told c.told
+  put : {broken : Option StreamFault} → New broken → PutsNotes p.version notes broken (sinks_of a) (sinks_of c)
   put new = notes_then so.puts (rw so.version at new)
 
   told : new ≡ [] → notes ≡ so.notes
@@ -203,11 +167,11 @@ module _ {p : Place} {a b : Streams} {k : Caller} (c : Streams) (l : Caller) (ne
       → Read (Some f)
   faulted f h = hears_fault so.reads c.left notes (Fits l.client) f waiting h
 
-  stops : {fault : Option StreamFault} → New None → ((fault ≡ Some ReadFailed → ⊥) → StaysSound b.read_failed c.read_failed) → Read fault
-      → Converses fault p a c l
-  stops {fault = fault} new sound r =
-      spoken so.out r (put new) version_now (puts_whole (is_printed fault) a.written c.written p.rest.unsent sent) (not_memory fault) inl
-      (λ n f. so.source (sound n f)) (λ _. (sink, (put new).sound (λ e. cc))) (λ e. (e, so.sent.1))
+  ended : {fault read cut : Option StreamFault} → Read read → New cut → (is_printed fault ≡ true → read ≡ Some Memory → ⊥) → CutsBy fault cut
+      → ((fault ≡ Some ReadFailed → ⊥) → StaysSound b.read_failed c.read_failed) → (fault ≡ None → read ≡ None) → Converses fault p a c l
+  ended r new whole cuts source all =
+      spoken so.out r (put new) version_now (puts_whole _ a.written c.written p.rest.unsent sent) whole cuts (λ n f. so.source (source n f)) (λ _. sink)
+      (λ e. (all e, so.sent.1))
 
   -- a piece was heard, and all of it was printed
   pub more_heard : (done : Result Bool StreamFault) → Piece done → New None → UnlessTold done ReadFailed (StaysSound b.read_failed c.read_failed)
@@ -219,27 +183,27 @@ module _ {p : Place} {a b : Streams} {k : Caller} (c : Streams) (l : Caller) (ne
   more_heard (Ok false) h new sound =
       let end : ReadsEnd (after_all (taken_out p.rest so.out) so.reads.fed) b.left c.left so.notes notes (Fits l.client) =
       record { input = h.input; at_end = h.at_end; told = told h.told; now = h.now } in
-      stops new (λ _. sound) (hears_end so.reads {left_now = c.left} {after = notes} {Now = Fits l.client} end)
+      ended (hears_end so.reads {left_now = c.left} {after = notes} {Now = Fits l.client} end) new (not_memory None) (inl refl) (λ _. sound) (λ e. e)
   more_heard (Err ReadFailed) h new sound =
-      stops new (λ n. absurd (n refl)) (faulted ReadFailed (record { input = h.input; told = told h.told; now = h.now }))
+      let read = faulted ReadFailed (record { input = h.input; told = told h.told; now = h.now }) in
+      ended read new (not_memory _) (inl refl) (λ n. absurd (n refl)) (λ e. absurd cc)
   more_heard (Err WriteFailed) h new sound = absurd h
-  more_heard (Err Memory) h new sound = stops new (λ _. sound (λ e. cc)) (faulted Memory (piece_more so.notes (λ e. e) h))
-
-  broken_off : (f : StreamFault) → (f ≡ ReadFailed → ⊥) → New (Some f) → StaysSound b.read_failed c.read_failed → Read (Some Memory)
-      → Converses (Some f) p a c l
-  broken_off f never new sound r =
-      let not = never_printed f never in
-      spoken so.out r (put new) version_now (puts_whole (is_printed (Some f)) a.written c.written p.rest.unsent sent) (λ e _. true≢false (sym e ∙ not))
-      (λ x. inr (not, x)) (λ _ x. so.source (sound x)) (λ n. (sink, (put new).sound n)) (λ e. absurd cc)
+  more_heard (Err Memory) h new sound =
+      ended (faulted Memory (piece_more so.notes (λ e. e) h)) new (not_memory _) (inl refl) (λ _. sound (λ e. cc)) (λ e. absurd cc)
 
   -- or a fault came while it was
   pub heard_cut : (f : StreamFault) → (f ≡ ReadFailed → ⊥) → (done : Result Bool StreamFault) → Piece done → New (Some f)
       → UnlessTold done ReadFailed (StaysSound b.read_failed c.read_failed) → Converses (Some f) p a c l
-  heard_cut f never (Ok true) h new sound = broken_off f never new sound (faulted Memory (piece_more so.notes (λ e. cc) h))
+  heard_cut f never (Ok true) h new sound =
+      let not = never_printed f never in
+      ended (faulted Memory (piece_more so.notes (λ e. cc) h)) new (λ e _. true≢false (sym e ∙ not)) (inr (not, refl)) (λ _. sound) (λ e. absurd cc)
   heard_cut f never (Ok false) h new sound = absurd (none_cut new.prints h.told)
   heard_cut f never (Err ReadFailed) h new sound = absurd (none_cut new.prints h.told)
   heard_cut f never (Err WriteFailed) h new sound = absurd h
-  heard_cut f never (Err Memory) h new sound = broken_off f never new (sound (λ e. cc)) (faulted Memory (piece_more so.notes (λ e. e) h))
+  heard_cut f never (Err Memory) h new sound =
+      let not = never_printed f never in
+      let read = faulted Memory (piece_more so.notes (λ e. e) h) in
+      ended read new (λ e _. true≢false (sym e ∙ not)) (inr (not, refl)) (λ _. sound (λ e. cc)) (λ e. absurd cc)
 
 -- what waited wasn't all written
 pub written_some : {p : Place} {a : Streams} {k : Caller} {f : StreamFault} (written : Option (List ℕ)) (failed : Bool) (out : ℕ)
@@ -248,20 +212,9 @@ pub written_some : {p : Place} {a : Streams} {k : Caller} {f : StreamFault} (wri
 written_some {p = p} {a = a} {k = k} {f = f} written failed out w fits version s =
     let none : ReadsAll (taken_out p.rest out) a.left a.left [] [] (Fits k.client) (Some f) =
     record { fed = []; unheard = []; input = Consumes-nil _; told = refl; now = fits; needed = inl refl; whole = λ _. inl refl; ends = λ e. absurd cc } in
-    spoken out none notes_none version (puts f w) (not_memory (Some f)) inl (λ _ x. x) (λ n. (s (λ e. n (ap Some e)), λ x. x)) (λ e. absurd cc)
+    spoken out none notes_none version (puts f w) (not_memory (Some f)) (inl refl) (λ _ x. x) (λ n. s (λ e. n (ap Some e))) (λ e. absurd cc)
   where
     puts : (f : StreamFault) → Writes p.rest.unsent out (Some f) a.written written → Puts (is_printed (Some f)) a.written written p.rest.unsent
-    puts Memory w = w
-    puts ReadFailed w = w.0
-    puts WriteFailed w = w.0
-
--- and then the client is given up, unless all was answered
-pub asked : {fault : Option StreamFault} {p : Place} {a b : Streams} {k l : Caller} {told : Option (List ℕ)} {deaf : Bool} (x : Converses fault p a b k)
-    → l.version ≡ k.version → ((r : Rest) → Fits k.client r → Fits l.client (given_up r))
-    → ((r : Rest) → Fits k.client r → Gets b.deaf deaf b.told told (parting fault r.knows)) → Asks fault p a (record b { told = told; deaf = deaf }) l
-asked {fault = fault} {told = told} {deaf = deaf} x same ends tells =
-    let k = (heard_place x.heard).rest in
-    record {
-      exchange = record { out = x.out; heard = x.heard; moves = moves_told told deaf (parting fault k.knows) x.moves (tells k x.at.fits); ends = x.ends };
-      at = record { fits = ends k x.at.fits; version = same ∙ x.at.version };
-    }
+    puts Memory w = record { front = w; all = λ e. absurd cc }
+    puts ReadFailed w = puts_whole true _ _ _ w.0
+    puts WriteFailed w = record { front = w.0; all = λ e. absurd cc }

@@ -1,9 +1,10 @@
-use Rattle.shells.proofs.Followed.{◌++◌, ◌<◌, append-nil, length, take, rules, false≢true, Consumes-kept, Consumes-trans, ReadFailed, Memory, Broken}
-use Rattle.shells.proofs.Followed.{result_err, asks_version, first_place, at_end, does_last, does_none, nothing_done, runs_at_first, unless_so}
+use Rattle.shells.proofs.Followed.{◌∙◌, ◌++◌, ◌<◌, [], ap, refl, append-nil, length, take, rules, false≢true, Consumes-kept, Consumes-nil, Consumes-trans}
+use Rattle.shells.proofs.Followed.{ReadFailed, Broken, Rest, result_err, asks_version, fails_first, first_place, greeting, opens, parted, at_end, does_all}
+use Rattle.shells.proofs.Followed.{not-suc-le-zero, does_last, does_none, moves_none, moves_told, nothing_done, unless_so}
 use Rattle.shells.proofs.shells.run.Goals as goal
 
-pub begin-requires : goal.begin-requires
-begin-requires g c =
+pub ask-requires : goal.ask-requires
+ask-requires g c =
     let at = c.in-Ok.ensures.new.0 in
     record { lets = λ s taken n few turn. c.requires s taken n few (record { now = _; place = _; asking = asks_version; turn = turn first_place at }) }
 
@@ -14,10 +15,25 @@ pub take-requires : goal.take-requires
 take-requires g c = λ s taken n few turn. let so = c.loop-len.invariant in c.requires s taken n few (turn _ so.script so.progress)
 
 pub returns-in-Err-clause-runs : goal.returns-in-Err-clause-runs
-returns-in-Err-clause-runs g c = rw c.in-Err.ensures.memory (runs_at_first Memory (nothing_done _))
+returns-in-Err-clause-runs g c =
+    record { script = []; read = Consumes-nil _; end = λ z. absurd cc; does = rw c.in-Err.ensures.memory (nothing_done _) }
 
-pub returns-in-Err-begin-clause-runs : goal.returns-in-Err-begin-clause-runs
-returns-in-Err-begin-clause-runs g c = runs_at_first c.in-Err-begin.fault (c.in-Err-begin.ensures.begins c.in-Ok.ensures.new.0)
+pub returns-in-Err-ask-clause-runs : goal.returns-in-Err-ask-clause-runs
+returns-in-Err-ask-clause-runs g c =
+    let x = (c.in-Err-ask.ensures.asks first_place c.in-Ok.ensures.new.0).exchange in
+    record { script = []; read = Consumes-nil _; end = λ z. absurd cc; does = record { done = []; lines = ([], refl); place = _; talked = fails_first _ _ x } }
+
+pub loop-len-init : goal.loop-len-init
+loop-len-init g c =
+    let x = rw (← c.streams.view_is) at (c.in-Ok-ask.ensures.asks first_place c.in-Ok.ensures.new.0) in
+    let told = rw (c.has_ended.ensures ∙ ap (λ (r : Rest). r.knows.over) x.at.fits, x.at.version) at c.greet.ensures in
+    let reaches = does_all (opens _ _ x.exchange (moves_told _ _ (greeting (parted x.exchange.heard)) (moves_none _) told)) (λ _. x.at) in
+    let none = c.in-Ok.ensures.new in
+    record {
+      script = [];
+      read = Consumes-nil _;
+      progress = record { done = []; reaches = reaches; begun = rw none.1 (λ k d l. absurd (not-suc-le-zero l)); follow = λ more. rw (none.1, none.2) refl };
+    }
 
 pub returns-in_default-clause-runs : goal.returns-in_default-clause-runs
 returns-in_default-clause-runs g c =

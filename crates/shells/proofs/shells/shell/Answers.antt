@@ -1,5 +1,4 @@
-use Rattle.shells.proofs.Followed.{[], ap, refl, None, Some, Err, ReadFailed, WriteFailed, stop_text, fault_in, gets_none, accounts, is_sound, so_far}
-use Rattle.shells.proofs.Followed.{sound_unless, stop_of}
+use Rattle.shells.proofs.Followed.{[], ap, refl, ◌∙◌, None, Some, Err, stop_text, fault_in, gets_none, accounts, so_far, stop_of, told_so}
 use Rattle.shells.proofs.shells.shell.Goals as goal
 
 pub run-requires : goal.run-requires
@@ -12,7 +11,8 @@ returns-in-Ok g c =
     record {
       shells = record { stop = None; ends = refl; cause = tt; told = now.told; deaf = now.deaf; runs = c.in-Ok.ensures.runs; said = gets_none _ _ };
       accounts = accounts now.told now.deaf [] so (gets_none _ _);
-      sound = λ n. (c.in-Ok.ensures.input, is_sound now.told now.deaf so (λ e. cc) (λ e. cc));
+      sound = λ n.
+          let sinks = so.moves.sinks (λ e. cc) in (c.in-Ok.ensures.input, record { source = so.moves.source (λ e. cc); sink = sinks.0; out = sinks.1 });
     }
 
 pub returns-in-Err : goal.returns-in-Err
@@ -22,12 +22,12 @@ returns-in-Err g c =
     let told = g.E.Sink.taken c.put_stop.new.err in
     let deaf = g.E.Sink.has_failed c.put_stop.new.err in
     let put = c.put_stop.ensures in
-    let never = sound_unless c.in-Err.stop put.status in
     let cause = rw (← c.streams.view_is) at (stop_of c.in-Err.stop _ _ (λ e. c.in-Err.ensures.read (ap Err e)) (λ e. c.in-Err.ensures.written (ap Err e))) in
     record {
       shells = record { stop = Some c.in-Err.stop; ends = put.status; cause = cause; told = _; deaf = _; runs = runs; said = put.text };
       accounts = accounts told deaf (stop_text c.in-Err.stop) so c.put_stop.ensures.text;
       sound = λ n.
-          let unread = never n ReadFailed refl in
-          (c.in-Err.ensures.input (λ e. unread (ap (λ s. fault_in (Some s)) e)), is_sound told deaf so unread (never n WriteFailed refl));
+          let never = told_so c.in-Err.stop (λ e. n (put.status ∙ e)) in
+          let sinks = so.moves.sinks never.1 in
+          (c.in-Err.ensures.input (λ e. never.0 (ap (λ s. fault_in (Some s)) e)), record { source = so.moves.source never.0; sink = sinks.0; out = sinks.1 });
     }

@@ -1,5 +1,5 @@
-use Rattle.streams.proofs.Parts.{all_done}
-use Rattle.shells.proofs.Followed.{◌∙◌, ◌++◌, ◌∷◌, [], append_assoc, rules, refl, sym, ap, map, map-append, nil_from_length, note, notes_none, versions_more}
+use Rattle.shells.proofs.Followed.{all_done, ◌∙◌, ◌++◌, ◌∷◌, [], append_assoc, rules, refl, sym, ap, map, map-append, nil_from_length, note, notes_none}
+use Rattle.shells.proofs.Followed.{versions_more}
 use Rattle.shells.proofs.caller.Caller.put_all.Goals as goal
 
 pub loop-one-init : goal.loop-one-init
@@ -14,7 +14,7 @@ loop-one-preserved g c =
     record {
       client = k.client ∙ so.client;
       version = rw (map-append, versions_more, ← so.version) k.version;
-      puts = rw map-append (k.puts c.args.self.now.version (map note c.loop-one.yielded) _ _ _ _ so.version so.puts);
+      puts = rw map-append (k.puts c.args.self.now.version (map note c.loop-one.yielded) _ so.version so.puts);
       parts = append_assoc c.loop-one.yielded (c.in-Some.one ∷ []) c.next.new.self.rest.items
           ∙ ap (λ xs. c.loop-one.yielded ++ xs) (sym c.in-Some.ensures.steps.0) ∙ so.parts;
       read = k.read so.read;

@@ -1,4 +1,5 @@
-use Rattle.shells.proofs.Followed.{◌≡◌, ◌∙◌, ◌++◌, [], refl, sym, ap, rules, None, request_line_of, Memory, Unreadable, Broken, does_none, filled_one}
+use Rattle.shells.proofs.Followed.{◌≡◌, ◌∙◌, ◌++◌, [], refl, sym, ap, rules, Some, None, request_line_of, Memory, Unreadable, Broken, asks_answer, does_none}
+use Rattle.shells.proofs.Followed.{filled_one, refused_line, submit_failed, submit_part, submit_taken}
 use Rattle.shells.proofs.shells.Conversation.send.Goals as goal
 
 pub returns-in-Err-Unreadable-clause-sends : goal.returns-in-Err-Unreadable-clause-sends
@@ -10,12 +11,41 @@ returns-in-Err-Unreadable-clause-sends g c = λ start done s.
 pub returns-in-Err-Memory-clause-sends : goal.returns-in-Err-Memory-clause-sends
 returns-in-Err-Memory-clause-sends g c = λ start done s. does_none (Broken Memory) (_, refl) s
 
-pub returns-in-Ok-submit-clause-sends : goal.returns-in-Ok-submit-clause-sends
-returns-in-Ok-submit-clause-sends g c = λ start done s.
-    rw (filled_one c.args.self.now.number c.args.self.now.begun.items (search rules))
-    (c.in-Ok-submit.ensures.submits start done c.args.self.now.begun.items (ap request_line_of (sym c.as_slice.ensures.value) ∙ c.in-Ok.ensures) s)
+pub ask-requires : goal.ask-requires
+ask-requires g c = record {
+  lets = λ s taken n few turn. c.requires.lets s taken n few (λ start done s0.
+      let r = rw (← c.streams.view_is) at s0 in
+      let h = rw c.in-Ok-true.field-0-test at (c.in-Ok-true.ensures.submits r.place r.at) in
+      record { now = _; place = _; asking = asks_answer done _ r.place _ r.talked h.0; turn = turn _ h.2 });
+}
+
+pub returns-in-Ok-ask-clause-sends : goal.returns-in-Ok-ask-clause-sends
+returns-in-Ok-ask-clause-sends g c = λ start done s0.
+    let b = c.args.self.now in
+    let s = rw (← c.streams.view_is) at s0 in
+    let h = rw c.in-Ok-true.field-0-test at (c.in-Ok-true.ensures.submits s.place s.at) in
+    let r = ap request_line_of (sym c.as_slice.ensures.value) ∙ c.in-Ok.ensures in
+    submit_taken s _ b.number b.begun.items (search rules) r _ _ h.0 h.1 c.in-Ok-true.ensures.sound (c.in-Ok-ask.ensures.asks _ h.2)
+
+pub returns-in-Err-ask-clause-sends : goal.returns-in-Err-ask-clause-sends
+returns-in-Err-ask-clause-sends g c = λ start done s0.
+    let b = c.args.self.now in
+    let s = rw (← c.streams.view_is) at s0 in
+    let h = rw c.in-Ok-true.field-0-test at (c.in-Ok-true.ensures.submits s.place s.at) in
+    let r = ap request_line_of (sym c.as_slice.ensures.value) ∙ c.in-Ok.ensures in
+    submit_taken s _ b.number b.begun.items (search rules) r _ _ h.0 h.1 c.in-Ok-true.ensures.sound (c.in-Err-ask.ensures.asks _ h.2)
+
+pub returns-in-Ok-false-clause-sends : goal.returns-in-Ok-false-clause-sends
+returns-in-Ok-false-clause-sends g c = λ start done s0.
+    let b = c.args.self.now in
+    let s = rw (← c.streams.view_is) at s0 in
+    let h = rw c.in-Ok-false.field-0-test at (c.in-Ok-false.ensures.submits s.place s.at) in
+    let r = ap request_line_of (sym c.as_slice.ensures.value) ∙ c.in-Ok.ensures in
+    submit_part s _ b.number b.begun.items (search rules) r _ _ None h.0 h.1 (refused_line b.number h.1) h.2 h.3 refl h.4 (λ _. c.in-Ok-false.ensures.sound) h.5
 
 pub returns-in-Err-clause-sends : goal.returns-in-Err-clause-sends
-returns-in-Err-clause-sends g c = λ start done s.
-    rw (filled_one c.args.self.now.number c.args.self.now.begun.items (search rules))
-    (c.in-Err.ensures.submits start done c.args.self.now.begun.items (ap request_line_of (sym c.as_slice.ensures.value) ∙ c.in-Ok.ensures) s)
+returns-in-Err-clause-sends g c = λ start done s0.
+    let b = c.args.self.now in
+    let s = rw (← c.streams.view_is) at s0 in
+    let r = ap request_line_of (sym c.as_slice.ensures.value) ∙ c.in-Ok.ensures in
+    submit_failed s _ b.number b.begun.items (search rules) r _ _ _ (c.in-Err.ensures.submits s.place s.at) (λ n. c.in-Err.ensures.sound (λ e. n (ap Some e)))

@@ -1,11 +1,12 @@
-use Rattle.std.proofs.lemmas.List.Elements.{All-push}
-use Rattle.shells.proofs.Followed.{refl, ◌==◌, ◌≡◌, ◌+◌, ◌++◌, ◌∷◌, false, ne_eqb, rules, Memory, Broken, at_newline, does_none, line_ends, one_more, stops}
+use Rattle.shells.proofs.Followed.{All-push, ◌==◌, ◌≡◌, ◌+◌, ◌++◌, ◌∷◌, append_assoc, false, ne_eqb, not-suc-le-zero, rules, Memory, Broken, at_newline}
+use Rattle.shells.proofs.Followed.{does_none, stops}
 use Rattle.shells.proofs.shells.Conversation.take_byte.Goals as goal
 
 pub returns-in-Ok-clause-takes : goal.returns-in-Ok-clause-takes
 returns-in-Ok-clause-takes g c = λ start script p.
-    one_more p c.args.byte refl refl c.in-Ok.ensures.items
-    (All-push (λ y. (y == 10) ≡ false) c.args.self.now.begun.items c.args.byte p.begun (ne_eqb c.args.byte 10 c.if-byte-ne10.true))
+    let items = c.in-Ok.ensures.items in
+    let plain = All-push (λ y. (y == 10) ≡ false) c.args.self.now.begun.items c.args.byte p.begun (ne_eqb c.args.byte 10 c.if-byte-ne10.true) in
+    record { done = p.done; reaches = p.reaches; begun = rw items plain; follow = λ ys. rw items (simp append_assoc (p.follow (c.args.byte ∷ ys))) }
 
 pub returns-in-Err-clause-takes : goal.returns-in-Err-clause-takes
 returns-in-Err-clause-takes g c = λ start script p more. does_none (Broken Memory) (_, p.follow (c.args.byte ∷ more)) p.reaches
@@ -21,7 +22,15 @@ returns-in_default-clause-takes g c = λ start script p more.
 pub returns-clause-takes : goal.returns-clause-takes
 returns-clause-takes g c = λ start script p.
     let number : c.in-Some.next ≡ c.args.self.now.number + 1 = search rules in
-    rw c.if-byte-ne10.false (line_ends p (c.in-Ok-send.ensures.sends start p.done p.reaches) number c.clear.ensures.items)
+    let none = c.clear.ensures.items in
+    let reaches = c.in-Ok-send.ensures.sends start p.done p.reaches in
+    rw c.if-byte-ne10.false
+    (record {
+      done = _;
+      reaches = reaches;
+      begun = rw none (λ k d l. absurd (not-suc-le-zero l));
+      follow = λ more. rw (number, none) (simp append_assoc (simp append_assoc at (at_newline p more)));
+    })
 
 pub send-requires : goal.send-requires
 send-requires g c = record { lets = λ s taken n few turn. c.requires s taken n few (λ start script p. turn start p.done p.reaches) }
