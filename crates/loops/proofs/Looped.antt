@@ -1,67 +1,43 @@
 -- What two ends have come to, and how far they have where a fault breaks them off.
-pub use Rattle.std.proofs.Common.{Bool, Err, IsErrOf, IsSome, List, MatchResult, None, Ok, OnErr, OnOk, Option, Result, Some, [], ap, append-nil, append_assoc}
-pub use Rattle.std.proofs.Common.{arith, bytes_eq, drop, false, fold, inl, inr, is_ok, length, length-append, length-take, map, refl, rules, subst, sym, take}
-pub use Rattle.std.proofs.Common.{take-append-drop, take_all, take_at, true, true≢false, ℕ, ⊎_elim, ◌++◌, ◌+◌, ◌-◌, ◌<◌, ◌∙◌, ◌∷◌, ◌≡◌, ◌≤◌, ◌⊎◌}
-pub use Rattle.std.proofs.KnownBytes.{Appends-nil, Appends-trans, Consumes-nil, Consumes-trans}
+pub use Rattle.shells.proofs.Followed.Exchanged.Words.{[], after_all, all_done, all_taken, ap, append-nil, append_assoc, append_cancel_left, Appends}
+pub use Rattle.shells.proofs.Followed.Exchanged.Words.{Appends-nil, Appends-trans, AppendsFront, arith, at_client, at_server, awaits, Bool, Broken, bytes_eq}
+pub use Rattle.shells.proofs.Followed.Exchanged.Words.{cases_Bool, cases_lt, cause_of, Consumes, Consumes-nil, Consumes-trans, drop, empty_nil}
+pub use Rattle.shells.proofs.Followed.Exchanged.Words.{entries_text, Err, false, false_from_ne_true, FeedsPiece, first_place, fold, front_after, front_in}
+pub use Rattle.shells.proofs.Followed.Exchanged.Words.{front_whole, Gets, hears_all, inl, inr, is_ok, IsAt, IsErrOf, IsSome, Item, items_received, length}
+pub use Rattle.shells.proofs.Followed.Exchanged.Words.{length-append, length-take, length-take-le, List, map, MatchResult, Memory, nil_from_length, None}
+pub use Rattle.shells.proofs.Followed.Exchanged.Words.{not-false, not-true, Note, note, note_text, notes_text, Ok, OnErr, OnOk, Opened, Option, outputs, Place}
+pub use Rattle.shells.proofs.Followed.Exchanged.Words.{place_after, PutsLine, ReadFailed, refl, refuses, RequestView, Rest as ClientRest, rest_of, Result}
+pub use Rattle.shells.proofs.Followed.Exchanged.Words.{rules, said_requests, script_request_view, ScriptRequestView, Some, state, stop_status, stop_text}
+pub use Rattle.shells.proofs.Followed.Exchanged.Words.{StopReason, StreamFault, SubmitFault, Submits, subst, sym, take, take-append-drop, take-append-le}
+pub use Rattle.shells.proofs.Followed.Exchanged.Words.{take_all, take_at, taken_out, Tale, text_of, true, true≢false, Unreadable, version_after, versions_after}
+pub use Rattle.shells.proofs.Followed.Exchanged.Words.{WriteFailed, ℕ, ⊎_elim, ◌++◌, ◌+◌, ◌-◌, ◌<◌, ◌∙◌, ◌∷◌, ◌≡◌, ◌≤◌, ◌⊎◌}
+pub use Rattle.shells.specs.declared.caller.Caller.{Caller}
+pub use Rattle.shells.proofs.Printed.{place_more, texts_more}
 pub use Rattle.std.proofs.Math.Seq.{drop-append_seam, drop-length, take-append-add, take-append_seam, take-nil}
-pub use Rattle.std.proofs.lemmas.Bool.{cases_Bool, cases_lt, false_from_ne_true, not-false, not-true}
-pub use Rattle.std.proofs.lemmas.List.{append_cancel_left, length-take-le, nil_from_length, take-append-le}
 pub use Rattle.std.proofs.lemmas.List.Sums.{fold-append}
-pub use Rattle.std.specs.Io.KnownBytes.{Appends, Consumes}
 pub use borrow.Rule.Slice.PartMut.{post_of, put_mid}
 pub use Rattle.wire.proofs.Readers.{outputs-append}
-pub use Rattle.wire.specs.Prelude.{Item, Opened, at_client, at_server, items_received, outputs, state}
 pub use Rattle.cells.proofs.Equality.{bytes_are, bytes_is}
-pub use Rattle.messages.specs.View.{RequestView}
 pub use Rattle.engine.specs.Prelude.{EntryView, entries_view}
 pub use Rattle.session.specs.Prelude.{Setting, begun}
 pub use Rattle.server.specs.Prelude.{Fits, Live, Rest, find, fresh, opened, setting}
-pub use Rattle.client.specs.Prelude.{Note, Rest as ClientRest, awaits, note, refuses, rest_of, taken_out}
-pub use Rattle.client.specs.declared.SubmitFault.{SubmitFault}
-pub use Rattle.streams.proofs.Fronts.{front_after, front_whole}
-pub use Rattle.streams.proofs.Parts.{all_done, empty_nil}
 pub use Rattle.streams.specs.Limits.{max_piece}
-pub use Rattle.streams.specs.Prelude.{AppendsFront}
-pub use Rattle.streams.specs.declared.fault.StreamFault.{StreamFault}
-pub use Rattle.streams.specs.declared.fault.StreamFault.TheVariants.{Memory, ReadFailed, WriteFailed}
-pub use Rattle.asks.proofs.Asked.{all_taken}
 pub use Rattle.asks.proofs.Tales.{hears_all-append, over_tale}
-pub use Rattle.asks.specs.Prelude.{FeedsPiece, Tale, after_all, hears_all}
 pub use Rattle.serves.proofs.Called.{grows_by, lives_same, replace-itself}
 pub use Rattle.serves.proofs.Talks.{item_talk-append, talk_by_items, told_over}
 pub use Rattle.serves.specs.Prelude.{Grows, IsLive, TakesPiece, Talk, item_talk, told_by, with_talk}
 pub use Rattle.serves.specs.declared.liveness.Liveness.{Liveness}
 pub use Rattle.serves.specs.declared.liveness.Liveness.TheVariants.{Open, Over}
-pub use Rattle.scripts.specs.Prelude.{ScriptRequestView, filled_lines, lines_read, request_line_of, said_requests, script_request_view}
-pub use Rattle.prints.proofs.Gets.{front_in}
-pub use Rattle.prints.proofs.Stops.{cause_of}
-pub use Rattle.prints.specs.Prelude.{Gets, PutsLine, entries_text, note_text, stop_status, stop_text}
-pub use Rattle.prints.specs.declared.stop.StopReason.{StopReason}
-pub use Rattle.prints.specs.declared.stop.StopReason.TheVariants.{Unreadable, Broken}
 pub use Rattle.one_by_one.proofs.Served.{found_by}
 pub use Rattle.one_by_one.specs.Prelude.{HasOpened}
-pub use Rattle.shells.proofs.Printed.{place_more, texts_more}
-pub use Rattle.shells.specs.Prelude.{IsAt, Place, Submits, first_place, notes_text, place_after, text_of, version_after, versions_after}
-pub use Rattle.shells.specs.declared.caller.Caller.{Caller}
 pub use Rattle.loops.specs.Prelude.{AreQuiet, Breaks, BreaksAt, BreaksAtSource, BreaksIn, Comes, EndsAt, Goes, HasHeard, HearsFront, HearsUpTo, IsHeardAll}
 pub use Rattle.loops.specs.Prelude.{IsOpened, IsQuiet, LetsReadWaiting, Meets, Numbers, Outset, Passes, ReadsUpTo, Sits, StandsAt, TellsLine, Turns, Way, Ways}
-pub use Rattle.loops.specs.Prelude.{all_sent, answer_to, asked, due, end, exchanged, given, next_turn, no_turns, outset, place_by, stage, talk_for, text_by}
-pub use Rattle.loops.specs.Prelude.{turns_of, with_item, with_line}
+pub use Rattle.loops.specs.Prelude.{all_sent, answer_to, asked, due, end, exchanged, next_turn, no_turns, outset, place_by, stage, talk_for, text_by, turns_of}
+pub use Rattle.loops.specs.Prelude.{with_item, with_line}
 pub use Rattle.loops.specs.declared.loops.Pair.{Pair}
 pub use Rattle.std.proofs.lemmas.Result.{on_ok_weaker}
 
 pub ruleset parts = (take-append-drop, length-take)
-
--- nothing is heard after the end
-was_open : (r : ClientRest) (bytes : List ℕ) → (hears_all r bytes).knows.over ≡ false → r.knows.over ≡ false
-was_open r bytes e =
-    let same = λ (o : r.knows.over ≡ true). ap (λ (t : Tale). t.knows.over) (over_tale r.wish r.knows (outputs at_client r.item bytes) o) in
-    false_from_ne_true r.knows.over (λ o. true≢false (sym (same o ∙ o) ∙ e))
-
-over_heard : (r : ClientRest) (fed unheard : List ℕ) → (hears_all r fed).knows.over ≡ true → hears_all r (fed ++ unheard) ≡ hears_all r fed
-over_heard r fed unheard over =
-    let gone = over_tale r.wish (hears_all r fed).knows (outputs at_client (state at_client r.item fed) unheard) over in
-    rw (hears_all-append r fed unheard, gone, append-nil) refl
 
 module _ {b : Caller} {p : Place} (s : StandsAt b p) where
   abbrev here : ClientRest
@@ -84,9 +60,14 @@ module _ {b : Caller} {p : Place} (s : StandsAt b p) where
         × ((hears_all p.rest piece).knows.over ≡ false → state at_client s.item h.fed ≡ state at_client p.rest.item piece)
     heard_whole (inl none) =
         let same : h.fed ≡ piece = sym (h.parts ∙ ap (λ z. h.fed ++ z) none ∙ append-nil h.fed) in
-        (rw same (hears_alike piece), λ e. rw (s.same (was_open p.rest piece e), same) refl)
+        let gone = λ (o : p.rest.knows.over ≡ true). over_tale p.rest.wish p.rest.knows (outputs at_client p.rest.item piece) o in
+        let goes = λ (e : (hears_all p.rest piece).knows.over ≡ false).
+        false_from_ne_true p.rest.knows.over (λ o. true≢false (sym (ap (λ (t : Tale). t.knows.over) (gone o) ∙ o) ∙ e)) in
+        (rw same (hears_alike piece), λ e. rw (s.same (goes e), same) refl)
     heard_whole (inr over) =
-        let tale = sym (over_heard here h.fed h.unheard over) ∙ ap (hears_all here) (sym h.parts) ∙ hears_alike piece in
+        let gone = over_tale p.rest.wish (hears_all here h.fed).knows (outputs at_client (state at_client s.item h.fed) h.unheard) over in
+        let all : hears_all here (h.fed ++ h.unheard) ≡ hears_all here h.fed = rw (hears_all-append here h.fed h.unheard, gone, append-nil) refl in
+        let tale = sym all ∙ ap (hears_all here) (sym h.parts) ∙ hears_alike piece in
         (tale, λ e. absurd (true≢false (sym over ∙ ap (λ (t : Tale). t.knows.over) tale ∙ e)))
 
   -- as far as it was fed
@@ -130,47 +111,16 @@ source_after {a = a} {b = b} {c = c} {xs = xs} h (inr k) =
     let other = λ (e : xs ++ k.read ≡ xs ++ k.written). k.other (append_cancel_left xs k.read k.written e) in
     inr (record { written = xs ++ k.written; read = xs ++ k.read; took = took; gave = gave; other = other })
 
--- what passed is read, and waits no more
-pub lets_after : {I : Type 0} {left : I → Option (List ℕ)} {may_read : I → Option (List ℕ) → ℕ → Type 0} {a b : Way} {xs : List ℕ} → Passes a b xs
-    → LetsReadWaiting left may_read a → LetsReadWaiting left may_read b
-lets_after {left = left} {a = a} {b = b} {xs = xs} h lets s taken count k =
-    let took = Appends-trans a.taken b.taken taken xs k.written h.took k.took in
-    let gave = Consumes-trans a.left b.left (left s) xs k.read h.gave k.gave in
-    let enough : length (xs ++ k.read) + count ≤ length (xs ++ k.written) = omega (arith, length-append xs k.read, length-append xs k.written, k.enough) in
-    lets s taken count (record { written = xs ++ k.written; read = xs ++ k.read; took = took; gave = gave; enough = enough })
-
 -- ---- while an answer is heard
 
 module _ {o : Outset} {heard : List ℕ} {mid : Way} {x : Option (List ℕ)} {c : Caller} (h : HasHeard o heard mid x c) where
-  -- a part more
-  pub heard_more : {now : Way} {y : Option (List ℕ)} {d : Caller} (part : List ℕ) → Passes mid now part → IsHeardAll (place_after o.place heard) part d x y
-      → HasHeard o (heard ++ part) now y d
-  heard_more {y = y} part passes k = record {
-    stands = rw (place_more o.place heard part) k.stands;
-    passes = rw (← append_assoc o.behind heard part) (passes_then h.passes passes);
-    printed = rw (text_more o.place heard part, ← append_assoc o.text (text_of o.place heard) (text_of (place_after o.place heard) part))
-        (Appends-trans o.out x y _ _ h.printed k.printed);
-  }
-
-  -- or nothing more, though some was read
+  -- nothing more was heard, though some was read
   pub reads_none : {left : Option (List ℕ)} (rest whole unheard : List ℕ) → heard ++ rest ≡ whole → Consumes mid.left left unheard → length unheard ≤ max_piece
       → HearsUpTo o whole left x
   reads_none {left = left} rest whole unheard parts gave few =
       let read = subst (Consumes o.way.left left) (append_assoc o.behind heard unheard) (Consumes-trans o.way.left mid.left left _ _ h.passes.gave gave) in
       let prints = front_whole o.out x _ h.printed in
       record { hears = record { heard = heard; rest = rest; parts = parts; prints = prints }; unheard = unheard; read = read; few = few }
-
-  -- or a beginning of what was read
-  pub reads_front : {left y : Option (List ℕ)} (part after whole : List ℕ) → heard ++ (part ++ after) ≡ whole → Consumes mid.left left part
-      → length part ≤ max_piece → HearsFront [] (place_after o.place heard) part x y → HearsUpTo o whole left y
-  reads_front {left = left} {y = y} part after whole parts gave few k =
-      let all : (heard ++ k.heard) ++ (k.rest ++ after) ≡ whole = rw (← parts, ← k.parts) (simp append_assoc) in
-      let text = append_assoc o.text (text_of o.place heard) _ ∙ ap (λ z. o.text ++ z) (sym (text_more o.place heard k.heard)) in
-      let prints = subst (AppendsFront o.out y) text (front_after o.out x y _ _ h.printed k.prints) in
-      let read : Consumes o.way.left left (o.behind ++ ((heard ++ k.heard) ++ k.rest)) =
-      rw (append_assoc heard k.heard k.rest, k.parts, ← append_assoc o.behind heard part) (Consumes-trans o.way.left mid.left left _ _ h.passes.gave gave) in
-      let least : length k.rest ≤ max_piece = omega (arith, few, ap length k.parts, length-append k.heard k.rest) in
-      record { hears = record { heard = heard ++ k.heard; rest = k.rest ++ after; parts = all; prints = prints }; unheard = k.rest; read = read; few = least }
 
 -- ---- what a session makes of one piece after another, and of one line after another
 
@@ -199,9 +149,6 @@ module _ (S : Setting) (conn : ℕ) (ledger : List EntryView) where
   -- one line after another
   abbrev At : List (ℕ × ScriptRequestView) → Type 0
   At ls = IsQuiet (turns_of S conn ledger ls)
-
-  pub quiet_none : At [] → AreQuiet S conn ledger []
-  quiet_none q n = subst At (sym (take-nil n)) q
 
   pub lines_more : (Came : Turns → Type 0) (ls : List (ℕ × ScriptRequestView)) (l : ℕ × ScriptRequestView) → AreQuiet S conn ledger ls
       → (let t = exchanged S conn ledger (with_line (turns_of S conn ledger ls) l) in Came t × IsQuiet t)
@@ -248,18 +195,10 @@ pub line_cut : (p : Place) (q : RequestView) (n : ℕ) (x y : Option (List ℕ))
 line_cut p q n x y Now fault (at, inl e) = rw e ([], text_by (refuses p.rest.knows q) n, refl, Appends-nil x)
 line_cut p q n x y Now fault (at, inr s) = rw (s.2, s.3) s.4
 
-stands_by : {c : Caller} (p : Place) (q : RequestView) (item : Opened) (o : Option SubmitFault) → (p.rest.knows.over ≡ false → item ≡ p.rest.item)
+pub stands_by : {c : Caller} (p : Place) (q : RequestView) (item : Opened) (o : Option SubmitFault) → (p.rest.knows.over ≡ false → item ≡ p.rest.item)
     → IsAt c (place_by o (with_item p item) q) → StandsAt c (place_by o p q)
 stands_by p q item None same at = record { item = item; at = at; same = same }
 stands_by p q item (Some why) same at = record { item = item; at = at; same = same }
-
--- all that a client has to send was taken out
-pub taken_whole : {old new r : ClientRest} {bytes : List ℕ} (max : ℕ) → old ≡ r → (bytes ≡ take max old.unsent) × (new ≡ taken_out old max)
-    → length bytes < max → (bytes ≡ r.unsent) × (new ≡ record r { unsent = [] })
-taken_whole {old = old} {bytes = bytes} max e o l =
-    let all = all_taken max old.unsent bytes o.0 l in
-    let none = ap (λ (z : List ℕ). record old { unsent = z }) all.1 ∙ ap (λ (z : ClientRest). record z { unsent = [] }) e in
-    (all.0 ∙ ap (λ (z : ClientRest). z.unsent) e, o.1 ∙ none)
 
 -- before the first exchange, on a server on which no session lives
 pub loop_begins : {G : Type 0} (r : Rest G) (S : Setting) {p : Pair} {Now : Rest G → Type 0} {conn : ℕ} → r.sessions ≡ [] → HasOpened r conn Now
@@ -296,38 +235,26 @@ breaks_before S conn ledger t gave prints = record {
 }
 
 module _ {G : Type 0} {r : Rest G} {conn : ℕ} {S : Setting} {start a : Ways} {t : Turns} {x : Pair} {Now : Rest G → Type 0} where
-  -- a line was submitted
-  pub comes_line : {c : Caller} {out : Option (List ℕ)} {failed : Bool} (l : ℕ × ScriptRequestView) (b : Bool) (h : Comes r conn S start a t x Now)
-      → Submits (with_item t.place h.client.item) (asked t l) l.0 a.out out (IsAt c) (Ok b)
-      → Comes r conn S start (record { up = a.up; down = a.down; out = out; out_failed = failed }) (with_line t l)
-      (record { caller = c; said = x.said; liveness = x.liveness }) Now
-  comes_line {c = c} {out = out} l b h s =
-      let k = line_put (with_item t.place h.client.item) (asked t l) l.0 a.out out (IsAt c) b s in
-      let client = stands_by t.place (asked t l) h.client.item (refuses t.place.rest.knows (asked t l)) h.client.same k.1 in
-      let printed = Appends-trans start.out a.out out t.text _ h.printed k.0 in
-      record { lives = h.lives; client = client; session = h.session; up = h.up; down = h.down; printed = printed }
-
   -- all that the client has to send was taken out
-  pub meets : {c : Caller} (h : Comes r conn S start a t x Now) → rest_of c.client ≡ record (with_item t.place h.client.item).rest { unsent = [] }
-      → c.version ≡ x.caller.version → Meets r conn S start a t [] (record { caller = c; said = x.said; liveness = x.liveness }) Now
-  meets {c = c} h e v =
+  pub meets : {c : Caller} {bytes : List ℕ} (max : ℕ) (h : Comes r conn S start a t x Now) → (let was = rest_of x.caller.client in
+      (bytes ≡ take max was.unsent) × (rest_of c.client ≡ taken_out was max)) → length bytes < max → c.version ≡ x.caller.version
+      → (bytes ≡ t.place.rest.unsent) × Meets r conn S start a t [] (record { caller = c; said = x.said; liveness = x.liveness }) Now
+  meets {c = c} {bytes = bytes} max h o l v =
       let old = h.client in
-      let stands : StandsAt c (all_sent t.place) = record { item = old.item; at = record { fits = e; version = v ∙ old.at.version }; same = old.same } in
+      let was = rest_of x.caller.client in
+      let taken = all_taken max was.unsent bytes o.0 l in
+      let rest = o.1 ∙ ap (λ (z : List ℕ). record was { unsent = z }) taken.1 ∙ ap (λ (z : ClientRest). record z { unsent = [] }) old.at.fits in
+      let stands : StandsAt c (all_sent t.place) = record { item = old.item; at = record { fits = rest; version = v ∙ old.at.version }; same = old.same } in
       let all = said S conn r.ledger in
       let none = ap (λ z. drop (length (all t.sent)) (all z)) (append-nil t.sent) ∙ drop-length (all t.sent) in
       let heard : HasHeard (outset r conn S start t) [] a.down a.out c =
       record { stands = stands; passes = rw append-nil h.down; printed = rw append-nil h.printed } in
-      record { lives = h.lives; session = rw append-nil h.session; up = rw append-nil h.up; heard = rw none heard }
+      let same = taken.0 ∙ ap (λ (z : ClientRest). z.unsent) old.at.fits in
+      (same, record { lives = h.lives; session = rw append-nil h.session; up = rw append-nil h.up; heard = rw none heard })
 
   module _ {sent : List ℕ} (m : Meets r conn S start a t sent x Now) where
     abbrev to : List ℕ → List ℕ → List ℕ
     to = answer_to S conn r.ledger
-
-    -- so much is sent and heard
-    pub comes_given : Comes r conn S start a (given S conn r.ledger t sent) x Now
-    comes_given =
-        let down = subst (Passes start.down a.down) (sym (answer_is S conn r.ledger t.sent sent)) m.heard.passes in
-        record { lives = m.lives; client = m.heard.stands; session = m.session; up = m.up; down = down; printed = m.heard.printed }
 
     due_more : (rest : List ℕ) → sent ++ rest ≡ t.place.rest.unsent → to t.sent sent ++ to (t.sent ++ sent) rest ≡ due S conn r.ledger t
     due_more rest parts = sym (answer_more S conn r.ledger t.sent sent rest) ∙ ap (to t.sent) parts
@@ -335,14 +262,6 @@ module _ {G : Type 0} {r : Rest G} {conn : ℕ} {S : Setting} {start a : Ways} {
     -- a fault comes
     pub breaks_here : (rest : List ℕ) → sent ++ rest ≡ t.place.rest.unsent → BreaksIn S conn r.ledger start a t
     breaks_here rest parts = reads_none m.heard (to (t.sent ++ sent) rest) _ [] (due_more rest parts) (Consumes-nil a.down.left) (omega arith)
-
-    -- what is put out for a piece is the answer to it
-    pub answer_due : (Then : Rest G → Type 0) (piece said : List ℕ) (liveness : Liveness) {answer : List ℕ}
-        → Sits r conn S Then ((t.sent ++ sent) ++ piece) said liveness → answer ≡ drop (length x.said.bytes.items) said → answer ≡ to (t.sent ++ sent) piece
-    answer_due Then piece said liveness s e =
-        let old = sits_talk r conn S Now (t.sent ++ sent) x.said.bytes.items x.liveness m.session in
-        let new = sits_talk r conn S Then ((t.sent ++ sent) ++ piece) said liveness s in
-        e ∙ ap (λ z. drop (length z) said) old.2 ∙ ap (drop (length (talk_for S conn r.ledger (t.sent ++ sent)).out)) new.2
 
     -- it is heard, or a fault comes
     pub turn_goes : {Then : Rest G → Type 0} (b : Ways) (y : Pair) (piece after : List ℕ) (result : Result (Unit {0}) StreamFault)
@@ -370,35 +289,26 @@ module _ (S : Setting) (conn : ℕ) (ledger : List EntryView) where
   abbrev next : Turns → ℕ × ScriptRequestView → Turns
   next = next_turn S conn ledger
 
-  -- what is so in a line is so in the lines
-  pub breaks_line : (IsSo : Turns → Type 0) (ls : List (ℕ × ScriptRequestView)) (l : ℕ × ScriptRequestView) (rest : List (ℕ × ScriptRequestView))
-      → IsSo (next (stage S conn ledger ls) l) → (n : ℕ) × IsSo (stage S conn ledger (take n (ls ++ l ∷ rest)))
-  breaks_line IsSo ls l rest k =
-      let seam = take-append_seam (ls ++ l ∷ []) rest in
-      (length (ls ++ l ∷ []), rw (← append_assoc ls (l ∷ []) rest, seam, fold-append next no_turns ls (l ∷ [])) k)
-
   -- what is printed then is a beginning of what is printed in the end, since each line prints more
   lines_front : (x y : Option (List ℕ)) (t : Turns) (ls : List (ℕ × ScriptRequestView)) → AppendsFront x y (exchanged S conn ledger t).text
       → AppendsFront x y (exchanged S conn ledger (fold next t ls)).text
   lines_front x y t [] h = h
   lines_front x y t (l ∷ ls) h = lines_front x y (next t l) ls (front_in x y _ _ (front_in x y _ _ h))
 
-  begins_in : (start now : Ways) (lines : List (ℕ × ScriptRequestView)) → BreaksAt S conn ledger start now lines
-      → AppendsFront start.out now.out (turns_of S conn ledger lines).text
-  begins_in start now lines (n, k) =
-      let t = stage S conn ledger (take n lines) in
-      let p = all_sent t.place in
-      let h = k.hears in
-      let more = sym (text_more p h.heard h.rest) ∙ ap (text_of p) h.parts in
-      let heard = append_assoc t.text (text_of p h.heard) _ ∙ ap (λ z. t.text ++ z) more in
-      let front = subst (AppendsFront start.out now.out) heard (front_in start.out now.out _ (text_of (place_after p h.heard) h.rest) h.prints) in
-      let whole = sym (fold-append next no_turns (take n lines) (drop n lines)) ∙ ap (stage S conn ledger) (take-append-drop n lines) in
-      subst (λ (z : Turns). AppendsFront start.out now.out (exchanged S conn ledger z).text) whole (lines_front start.out now.out t (drop n lines) front)
-
 module _ {G : Type 0} (r : Rest G) (S : Setting) (lines : List (ℕ × ScriptRequestView)) {start : Ways} where
   -- in the lines
   pub breaks_lines : {last : Ways} → BreaksAt S r.next r.ledger start last lines → Breaks r S lines start last
-  breaks_lines {last = last} k = record { begins = front_in start.out last.out _ _ (begins_in S r.next r.ledger start last lines k); printed = inl k }
+  breaks_lines {last = last} (n, k) =
+      let stages = stage S r.next r.ledger in
+      let t = stages (take n lines) in
+      let p = all_sent t.place in
+      let h = k.hears in
+      let more = front_in start.out last.out _ (text_of (place_after p h.heard) h.rest) h.prints in
+      let front = rw (append_assoc t.text (text_of p h.heard), ← text_more p h.heard h.rest, h.parts) at more in
+      let whole = sym (fold-append (next S r.next r.ledger) no_turns (take n lines) (drop n lines)) ∙ ap stages (take-append-drop n lines) in
+      let begins = subst (λ (z : Turns). AppendsFront start.out last.out (exchanged S r.next r.ledger z).text) whole
+      (lines_front S r.next r.ledger start.out last.out t (drop n lines) front) in
+      record { begins = front_in start.out last.out _ _ begins; printed = inl (n, k) }
 
   -- before them
   pub breaks_none : Breaks r S lines start start

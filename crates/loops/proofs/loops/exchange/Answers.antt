@@ -1,5 +1,5 @@
-use Rattle.loops.proofs.Looped.{ClientRest, [], all_done, ap, append_assoc, arith, awaits, breaks_before, breaks_here, comes_given, empty_nil, front_whole}
-use Rattle.loops.proofs.Looped.{meets, refl, setting, sym, taken_whole, ◌++◌, ◌∙◌}
+use Rattle.loops.proofs.Looped.{[], all_done, answer_is, ap, append_assoc, arith, awaits, breaks_before, breaks_here, ClientRest, empty_nil, front_whole, meets}
+use Rattle.loops.proofs.Looped.{Passes, refl, setting, subst, sym, ◌++◌, ◌∙◌}
 use Rattle.loops.proofs.loops.exchange.Goals as goal
 
 pub returns-in_default-clause-goes : goal.returns-in_default-clause-goes
@@ -10,8 +10,9 @@ pub loop-rest-init : goal.loop-rest-init
 loop-rest-init g c = record {
   on = c.requires;
   goes = λ r start t i h.
-      let k = taken_whole 18446744073709551615 h.client.at.fits c.in-Ok.ensures.ok (omega (arith, c.in-Ok.ensures.short)) in
-      ([], c.as_slice-rest.ensures ∙ k.0, meets h k.1 refl);
+      let m = meets {c = record c.args.pair.now.caller { client = c.take_out.new.self }} 18446744073709551615 h c.in-Ok.ensures.ok
+      (omega (arith, c.in-Ok.ensures.short)) refl in
+      ([], c.as_slice-rest.ensures ∙ m.0, m.1);
 }
 
 pub loop-rest-preserved : goal.loop-rest-preserved
@@ -27,9 +28,13 @@ loop-rest-preserved g c = record {
 pub returns-clause-goes : goal.returns-clause-goes
 returns-clause-goes g c = λ r start t i h.
     let p = c.loop-rest.invariant.goes r start t i h in
+    let m = p.2 in
     let none = empty_nil c.loop-rest.rest.now c.is_empty.result c.is_empty.ensures c.loop-rest-test.false in
-    let quiet = sym (c.awaits.ensures ∙ ap (λ (r : ClientRest). awaits r.knows) p.2.heard.stands.at.fits) ∙ c.if-awaits.false in
-    rw (← all_done p.0 c.loop-rest.rest.now t.place.rest.unsent none p.1) (comes_given p.2, quiet)
+    let quiet = sym (c.awaits.ensures ∙ ap (λ (r : ClientRest). awaits r.knows) m.heard.stands.at.fits) ∙ c.if-awaits.false in
+    let said = answer_is (setting g.E.Engine.answer g.G.Gate.welcomes r) c.args.conn r.ledger t.sent p.0 in
+    let down = subst (Passes start.down _) (sym said) m.heard.passes in
+    rw (← all_done p.0 c.loop-rest.rest.now t.place.rest.unsent none p.1)
+    (record { lives = m.lives; client = m.heard.stands; session = m.session; up = m.up; down = down; printed = m.heard.printed }, quiet)
 
 pub returns-then-awaits-clause-goes : goal.returns-then-awaits-clause-goes
 returns-then-awaits-clause-goes g c = λ r start t i h.

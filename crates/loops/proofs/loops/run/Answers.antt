@@ -1,12 +1,11 @@
-use Rattle.loops.proofs.Looped.{breaks_none, filled_lines, inl, lines_read, refl, request_line_of, setting}
+use Rattle.loops.proofs.Looped.{breaks_none, inl, refl}
 use Rattle.loops.proofs.loops.run.Goals as goal
 
 pub returns-in-Err-Unreadable-clause-loops : goal.returns-in-Err-Unreadable-clause-loops
 returns-in-Err-Unreadable-clause-loops g c = λ r f none. (inl f, (tt, λ n. absurd (n refl)))
 
 pub returns-in-Err-Memory-clause-loops : goal.returns-in-Err-Memory-clause-loops
-returns-in-Err-Memory-clause-loops g c = λ r f none.
-    (inl f, (tt, λ n. breaks_none r (setting g.E.Engine.answer g.G.Gate.welcomes r) (lines_read request_line_of (filled_lines c.args.script.now))))
+returns-in-Err-Memory-clause-loops g c = λ r f none. (inl f, (tt, λ n. breaks_none _ _ _))
 
 pub returns-in-Ok-run_opened-clause-loops : goal.returns-in-Ok-run_opened-clause-loops
 returns-in-Ok-run_opened-clause-loops g c = λ r f none. rw (← c.in-Ok.ensures.1) (c.in-Ok-run_opened.ensures r f none)

@@ -1,12 +1,17 @@
-use Rattle.loops.proofs.Looped.{Err, IsAt, ScriptRequestView, ap, breaks_before, cause_of, comes_line, front_after, inr, line_cut, script_request_view, setting}
-use Rattle.loops.proofs.Looped.{with_item, with_line, ℕ}
+use Rattle.loops.proofs.Looped.{Appends-trans, Err, IsAt, ScriptRequestView, ap, asked, breaks_before, cause_of, front_after, inr, line_cut, line_put, refuses}
+use Rattle.loops.proofs.Looped.{script_request_view, setting, stands_by, with_item, with_line, ℕ}
 use Rattle.loops.proofs.loops.run_line.Goals as goal
 
 pub returns-clause-goes : goal.returns-clause-goes
 returns-clause-goes g c = λ r start t i h0.
     let h = rw (← c.ways.view_is) at h0 in
-    let line : ℕ × ScriptRequestView = (c.args.line.number, script_request_view c.args.line.said) in
-    c.exchange.ensures.goes r start (with_line t line) i (comes_line line _ h (c.in-Ok.ensures.submits _ h.client.at))
+    let l : ℕ × ScriptRequestView = (c.args.line.number, script_request_view c.args.line.said) in
+    let p = with_item t.place h.client.item in
+    let k = line_put p (asked t l) l.0 _ _ (IsAt c.submit.new.self) _ (c.in-Ok.ensures.submits p h.client.at) in
+    let client = stands_by t.place (asked t l) h.client.item (refuses t.place.rest.knows (asked t l)) h.client.same k.1 in
+    let printed = Appends-trans start.out _ _ t.text _ h.printed k.0 in
+    c.exchange.ensures.goes r start (with_line t l) i
+    (record { lives = h.lives; client = client; session = h.session; up = h.up; down = h.down; printed = printed })
 
 pub returns-in-Err-clause-goes : goal.returns-in-Err-clause-goes
 returns-in-Err-clause-goes g c = λ r start t i h0.

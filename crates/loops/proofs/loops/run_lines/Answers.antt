@@ -1,6 +1,6 @@
-use Rattle.loops.proofs.Looped.{BreaksAt, BreaksIn, Comes, Fits, ScriptRequestView, Turns, [], all_done, ap, append_assoc, breaks_line, lines_more}
-use Rattle.loops.proofs.Looped.{nil_from_length, no_turns, quiet_none, rules, said_requests, script_request_view, setting, subst, sym, turns_of, ℕ, ◌++◌, ◌∙◌}
-use Rattle.loops.proofs.Looped.{◌∷◌}
+use Rattle.loops.proofs.Looped.{Comes, Fits, ScriptRequestView, Turns, [], all_done, ap, append_assoc, fold-append, length, lines_more, next_turn}
+use Rattle.loops.proofs.Looped.{nil_from_length, no_turns, rules, said_requests, script_request_view, setting, sym, take-append_seam, take-nil, turns_of, ℕ}
+use Rattle.loops.proofs.Looped.{◌++◌, ◌∙◌, ◌∷◌}
 use Rattle.loops.proofs.loops.run_lines.Goals as goal
 
 pub returns-in-Err : goal.returns-in-Err
@@ -12,7 +12,7 @@ loop-line-init g c = record {
   goes = λ r start i h.
       let k = c.in-Ok.ensures.goes r start no_turns i h in
       let parts = ap said_requests c.into_iter-line-iterator.ensures.into_iter_gives.0 in
-      ([], parts, k.0, quiet_none (setting g.E.Engine.answer g.G.Gate.welcomes r) c.args.conn r.ledger k.1);
+      ([], parts, k.0, λ n. rw take-nil k.1);
 }
 
 pub loop-line-preserved : goal.loop-line-preserved
@@ -35,9 +35,10 @@ returns-in-Err-run_line g c = λ r start i h.
     let one : ℕ × ScriptRequestView = (c.in-Some.line.number, script_request_view c.in-Some.line.said) in
     let parts = ap (λ xs. p.0 ++ said_requests xs) (sym c.in-Some.ensures.steps.0) ∙ p.1 in
     let k = c.in-Err-run_line.ensures.goes r start (turns_of S c.args.conn r.ledger p.0) i p.2 in
-    let now = c.run_line.new.ways.at in
-    let there = breaks_line S c.args.conn r.ledger (BreaksIn S c.args.conn r.ledger start now) p.0 one (said_requests c.next.new.self.rest.items) k.2 in
-    (k.0, k.1, subst (BreaksAt S c.args.conn r.ledger start now) parts there)
+    let ls = p.0 ++ one ∷ [] in
+    let rest = said_requests c.next.new.self.rest.items in
+    let whole = append_assoc p.0 (one ∷ []) rest ∙ parts in
+    (k.0, k.1, (length ls, rw (← whole, take-append_seam ls rest, fold-append (next_turn S c.args.conn r.ledger) no_turns p.0 (one ∷ [])) k.2))
 
 pub returns : goal.returns
 returns g c = λ r start i h.

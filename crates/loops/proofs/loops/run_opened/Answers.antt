@@ -3,9 +3,7 @@ use Rattle.loops.proofs.Looped.{subst, turns_of, ℕ, ◌∙◌}
 use Rattle.loops.proofs.loops.run_opened.Goals as goal
 
 pub returns-in-Err : goal.returns-in-Err
-returns-in-Err g c = λ r f none.
-    let k = c.in-Err.ensures in
-    rw k.fault (inl (k.opens r f none), (tt, breaks_none r (setting g.E.Engine.answer g.G.Gate.welcomes r) (said_requests c.args.lines.items)))
+returns-in-Err g c = λ r f none. rw c.in-Err.ensures.fault (inl (c.in-Err.ensures.opens r f none), (tt, breaks_none _ _ _))
 
 pub run_lines-requires : goal.run_lines-requires
 run_lines-requires g c =
@@ -15,7 +13,7 @@ pub returns-in-Err-run_lines : goal.returns-in-Err-run_lines
 returns-in-Err-run_lines g c = λ r f none.
     let o = c.in-Ok.ensures.opens r f none in
     let k = rw o.number at (c.in-Err-run_lines.ensures (opened r) c.args.ways.now.at o.found (o.comes _)) in
-    (inr k.0, (k.1, breaks_lines r (setting g.E.Engine.answer g.G.Gate.welcomes r) (said_requests c.args.lines.items) k.2))
+    (inr k.0, (k.1, breaks_lines _ _ _ k.2))
 
 pub returns : goal.returns
 returns g c = λ r f none.

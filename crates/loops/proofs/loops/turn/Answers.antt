@@ -1,5 +1,5 @@
-use Rattle.loops.proofs.Looped.{Err, Fits, List, answer_due, answer_to, ap, breaks_here, cause_of, drop, grows_by, inl, length, on_ok_weaker, outset, setting}
-use Rattle.loops.proofs.Looped.{source_after, turn_goes, ℕ, ◌++◌, ◌∙◌}
+use Rattle.loops.proofs.Looped.{Err, Fits, List, answer_to, ap, breaks_here, cause_of, drop, grows_by, inl, length, on_ok_weaker, outset, setting, sits_talk}
+use Rattle.loops.proofs.Looped.{source_after, talk_for, turn_goes, ℕ, ◌++◌, ◌∙◌}
 use Rattle.loops.proofs.loops.turn.Goals as goal
 
 pub returns-in-Err-clause-goes : goal.returns-in-Err-clause-goes
@@ -23,13 +23,17 @@ returns-clause-on g c = on_ok_weaker c.hand_over.result (λ near. (c.give.ensure
 pub returns-clause-goes : goal.returns-clause-goes
 returns-clause-goes g c = λ r start t sent after i parts m0.
     let m = rw (← c.ways.view_is) at m0 in
+    let Was = Fits g.E.Engine.entries c.args.server.now in
     let Then = Fits g.E.Engine.entries c.give.new.server in
     let S = setting g.E.Engine.answer g.G.Gate.welcomes r in
     let to = answer_to S c.args.conn r.ledger in
-    let lives = grows_by c.args.conn (Fits g.E.Engine.entries c.args.server.now) Then c.give.ensures.grows r i m.lives in
+    let lives = grows_by c.args.conn Was Then c.give.ensures.grows r i m.lives in
     let s = c.in-Ok-give.ensures.sits r (t.sent ++ sent) i m.session in
-    let behind = c.put_out_behind-answer.ensures ∙ ap (λ (z : List ℕ). drop (length z) c.give.new.said.bytes.items) c.bytes-before.ensures in
-    let due = answer_due m Then c.args.piece.now c.give.new.said.bytes.items c.give.new.liveness s behind in
+    let said = c.give.new.said.bytes.items in
+    let old = sits_talk r c.args.conn S Was (t.sent ++ sent) _ _ m.session in
+    let new = sits_talk r c.args.conn S Then ((t.sent ++ sent) ++ c.args.piece.now) _ _ s in
+    let behind = c.put_out_behind-answer.ensures ∙ ap (λ (z : List ℕ). drop (length z) said) (c.bytes-before.ensures ∙ old.2) in
+    let due = behind ∙ ap (drop (length (talk_for S c.args.conn r.ledger (t.sent ++ sent)).out)) new.2 in
     let k = c.hand_over.ensures in
     let heard = rw due at (k.hears (outset r c.args.conn S start t) (to t.sent sent) (to ((t.sent ++ sent) ++ c.args.piece.now) after) m.heard) in
     turn_goes m _ _ c.args.piece.now after c.hand_over.result parts lives c.in-Ok.ensures.passes s heard k.read k.written

@@ -6,9 +6,7 @@ returns-in-Over-clause-grows g c = lives_same c.args.conn (Fits g.E.Engine.entri
 
 pub returns-in-Over-clause-sits : goal.returns-in-Over-clause-sits
 returns-in-Over-clause-sits g c = λ r sent i h.
-    let S = setting g.E.Engine.answer g.G.Gate.welcomes r in
-    let k = rw c.in-Over.is at h in
-    rw c.in-Over.is (sits_over r c.args.conn S (Fits g.E.Engine.entries c.args.server.now) sent c.args.piece.now c.args.said.now.bytes.items k)
+    rw c.in-Over.is (sits_over r c.args.conn _ (Fits g.E.Engine.entries c.args.server.now) sent c.args.piece.now _ (rw c.in-Over.is at h))
 
 pub returns-in-Ok-clause-sits : goal.returns-in-Ok-clause-sits
 returns-in-Ok-clause-sits g c = λ r sent i h.

@@ -1,5 +1,6 @@
-use Rattle.loops.proofs.Looped.{[], all_done, append-nil, append_assoc, arith, empty_nil, heard_more, passes_none, passes_then, place_after, reads_front}
-use Rattle.loops.proofs.Looped.{reads_none, refl, source_after, ◌++◌, ◌∙◌, ◌≡◌}
+use Rattle.loops.proofs.Looped.{Appends-trans, AppendsFront, Consumes, Consumes-trans, [], all_done, ap, append-nil, append_assoc, arith, empty_nil}
+use Rattle.loops.proofs.Looped.{front_after, length, length-append, max_piece, passes_none, passes_then, place_after, place_more, reads_none, refl}
+use Rattle.loops.proofs.Looped.{source_after, subst, sym, text_more, text_of, ◌++◌, ◌∙◌, ◌≡◌, ◌≤◌}
 use Rattle.loops.proofs.passing.hand_over.Goals as goal
 
 pub loop-rest-init : goal.loop-rest-init
@@ -16,8 +17,16 @@ loop-rest-preserved g c =
       lets = c.in-Ok.ensures.lets;
       heard = λ o x h.
           let k = so.heard o x h in
-          let more = c.in-Ok-hear.ensures.hears (place_after o.place (x ++ so.done)) k.stands in
-          rw (← append_assoc x so.done part) (heard_more k part c.in-Ok.ensures.passes more);
+          let heard = x ++ so.done in
+          let p = place_after o.place heard in
+          let more = c.in-Ok-hear.ensures.hears p k.stands in
+          rw (← append_assoc x so.done part)
+          (record {
+            stands = rw (place_more o.place heard part) more.stands;
+            passes = rw (← append_assoc o.behind heard part) (passes_then k.passes c.in-Ok.ensures.passes);
+            printed = rw (text_more o.place heard part, ← append_assoc o.text (text_of o.place heard) (text_of p part))
+                (Appends-trans o.out _ _ _ _ k.printed more.printed);
+          });
     }
 
 pub returns-in-Err-clause-read : goal.returns-in-Err-clause-read
@@ -31,15 +40,23 @@ returns-in-Err-clause-hears g c = λ o x after h.
     let all : (x ++ so.done) ++ rest ≡ x ++ (c.args.bytes.now ++ after) = rw (← so.parts) (simp append_assoc) in
     reads_none (so.heard o x h) rest _ got.0 all got.1 (omega (arith, got.2, c.next_part.ensures.short))
 
+-- a beginning of what was read was heard
 pub returns-in-Err-hear-clause-hears : goal.returns-in-Err-hear-clause-hears
 returns-in-Err-hear-clause-hears g c = λ o x after h.
     let so = c.loop-rest.invariant in
     let k = so.heard o x h in
-    let part = c.next_part.result in
-    let rest = part.1.now ++ after in
-    let some = c.in-Err-hear.ensures.hears (place_after o.place (x ++ so.done)) k.stands in
-    let all : (x ++ so.done) ++ (part.0.now ++ rest) ≡ x ++ (c.args.bytes.now ++ after) = rw (← so.parts, ← c.next_part.ensures.parts) (simp append_assoc) in
-    reads_front k part.0.now rest _ all c.in-Ok.ensures.passes.gave c.next_part.ensures.short some
+    let heard = x ++ so.done in
+    let part = c.next_part.result.0.now in
+    let some = c.in-Err-hear.ensures.hears (place_after o.place heard) k.stands in
+    let all : (heard ++ some.heard) ++ (some.rest ++ (c.next_part.result.1.now ++ after)) ≡ x ++ (c.args.bytes.now ++ after)
+    = rw (← so.parts, ← c.next_part.ensures.parts, ← some.parts) (simp append_assoc) in
+    let text = append_assoc o.text (text_of o.place heard) _ ∙ ap (λ z. o.text ++ z) (sym (text_more o.place heard some.heard)) in
+    let read : Consumes o.way.left _ (o.behind ++ ((heard ++ some.heard) ++ some.rest)) =
+    rw (append_assoc heard some.heard some.rest, some.parts, ← append_assoc o.behind heard part)
+    (Consumes-trans _ _ _ _ _ k.passes.gave c.in-Ok.ensures.passes.gave) in
+    let prints = subst (AppendsFront o.out _) text (front_after o.out _ _ _ _ k.printed some.prints) in
+    let few : length some.rest ≤ max_piece = omega (arith, c.next_part.ensures.short, ap length some.parts, length-append some.heard some.rest) in
+    record { hears = record { heard = heard ++ some.heard; rest = _; parts = all; prints = prints }; unheard = some.rest; read = read; few = few }
 
 pub returns-clause-hears : goal.returns-clause-hears
 returns-clause-hears g c = λ o x after h.

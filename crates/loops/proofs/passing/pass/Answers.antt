@@ -1,4 +1,5 @@
-use Rattle.loops.proofs.Looped.{ap, bytes_are, bytes_eq, bytes_is, inr, lets_after, not-false, not-true, rules, sym, take_at, true≢false, ◌∙◌, ◌≡◌}
+use Rattle.loops.proofs.Looped.{Appends-trans, Consumes-trans, ap, arith, bytes_are, bytes_eq, bytes_is, inr, length, length-append, not-false, not-true, rules}
+use Rattle.loops.proofs.Looped.{sym, take_at, true≢false, ◌++◌, ◌+◌, ◌∙◌, ◌≡◌, ◌≤◌}
 use Rattle.loops.proofs.passing.pass.Goals as goal
 
 pub returns-clause-passes : goal.returns-clause-passes
@@ -9,7 +10,14 @@ returns-clause-passes g c =
     rw (← c.way.view_is) (record { took = search rules; gave = rw (← same, read) c.in_ok-read_known.ensures.reads })
 
 pub returns-clause-lets : goal.returns-clause-lets
-returns-clause-lets g c = lets_after (returns-clause-passes g c) c.requires
+returns-clause-lets g c = λ s taken count k.
+    let h = returns-clause-passes g c in
+    let bytes = c.args.bytes.now in
+    let took = Appends-trans _ _ taken bytes k.written h.took k.took in
+    let gave = Consumes-trans _ _ (g.S.PeerSource.left s) bytes k.read h.gave k.gave in
+    let enough : length (bytes ++ k.read) + count ≤ length (bytes ++ k.written)
+    = omega (arith, length-append bytes k.read, length-append bytes k.written, k.enough) in
+    c.requires s taken count (record { written = _; read = _; took = took; gave = gave; enough = enough })
 
 pub returns-then-ne-clause-read : goal.returns-then-ne-clause-read
 returns-then-ne-clause-read g c = λ e.
