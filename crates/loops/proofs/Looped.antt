@@ -170,12 +170,6 @@ module _ {G : Type 0} (r : Rest G) (conn : ℕ) (S : Setting) (Now : Rest G → 
       let same = sym (told_over r conn S s.front s.rest s.over) ∙ ap (told_by r conn S) s.parts ∙ sym (talk_by_items S conn r.ledger up) in
       subst (Left r conn Now out) same (state at_server at_server.start s.front, s.stands.0, s.stands.1)
 
-  -- one that has ended takes no more
-  pub sits_over : (more out : List ℕ) → Sits r conn S Now up out Over → Sits r conn S Now (up ++ more) out Over
-  sits_over more out s =
-      let parts = sym (append_assoc s.front s.rest more) ∙ ap (λ z. z ++ more) s.parts in
-      record { front = s.front; rest = s.rest ++ more; parts = parts; stands = s.stands; over = s.over }
-
   pub sits_takes : (piece out : List ℕ) (liveness : Liveness) → TakesPiece r conn S Now (Some []) (Some out) up piece (Ok liveness)
       → Sits r conn S Now (up ++ piece) out liveness
   sits_takes piece out Open h = h

@@ -1,4 +1,4 @@
-use Rattle.loops.proofs.Looped.{Fits, Some, [], lives_same, setting, sits_over, sits_takes}
+use Rattle.loops.proofs.Looped.{Fits, Some, [], ap, append_assoc, lives_same, setting, sits_takes, sym, ◌++◌, ◌∙◌}
 use Rattle.loops.proofs.passing.give.Goals as goal
 
 pub returns-in-Over-clause-grows : goal.returns-in-Over-clause-grows
@@ -6,7 +6,10 @@ returns-in-Over-clause-grows g c = lives_same c.args.conn (Fits g.E.Engine.entri
 
 pub returns-in-Over-clause-sits : goal.returns-in-Over-clause-sits
 returns-in-Over-clause-sits g c = λ r sent i h.
-    rw c.in-Over.is (sits_over r c.args.conn _ (Fits g.E.Engine.entries c.args.server.now) sent c.args.piece.now _ (rw c.in-Over.is at h))
+    let s = rw c.in-Over.is at h in
+    let piece = c.args.piece.now in
+    let parts = sym (append_assoc s.front s.rest piece) ∙ ap (λ z. z ++ piece) s.parts in
+    rw c.in-Over.is (record { front = s.front; rest = s.rest ++ piece; parts = parts; stands = s.stands; over = s.over })
 
 pub returns-in-Ok-clause-sits : goal.returns-in-Ok-clause-sits
 returns-in-Ok-clause-sits g c = λ r sent i h.
