@@ -261,10 +261,13 @@ first_so_far x =
     let next = λ (o : (then x).knows.over ≡ false). subst (NoneWaits 0) (sym (goes_on x o).0) (so_answered x [] 0 refl refl) in
     record { log = _; moves = x.moves; requests = 0; lines = lines; next = λ _. next; unsent = sent_all x }
 
-line_so_far : {fault : Option StreamFault} {l : ℕ × Text} {start mid now : Streams} {p r : Place} → SoFar None start mid p → TalksLine fault p l mid now r
-    → SoFar fault start now r
-line_so_far so (refuses_line q why code part e r c some m) = more_said part [] so m
-line_so_far {p = p} so (answers_line q e d x) =
+pub so_far : {start : Streams} {fault : Option StreamFault} {now : Streams} {ls : List (ℕ × Text)} {p : Place} → Talked start fault ls now p
+    → SoFar fault start now p
+so_far (opens mid now x m) = more_said [] (greeting (parted x.heard)) (first_so_far x) m
+so_far (fails_first fault now x) = first_so_far x
+so_far (next_line fault ls l mid now p r h (refuses_line q why code part e f c some m)) = more_said part [] (so_far h) m
+so_far (next_line fault ls l mid now p r h (answers_line q e d x)) =
+    let so = so_far h in
     let asked = meant p.version q in
     let known = p.rest.knows.version in
     let w = so.next refl (accepted_facts p.rest.knows asked d).0 in
@@ -274,12 +277,6 @@ line_so_far {p = p} so (answers_line q e d x) =
     let Each = λ (z : List ℕ). EachHasALine (suc so.requests) (so.log.sent ++ (z ++ asking_bytes known asked)) all.printed all.told in
     let lines = subst Each (sym (so.unsent refl)) (a_request known asked l.printed l.told so.lines did.0) in
     record { log = all; moves = moves_then so.moves x.moves; requests = suc so.requests; lines = lines; next = λ _. did.1; unsent = sent_all x }
-
-pub so_far : {start : Streams} {fault : Option StreamFault} {now : Streams} {ls : List (ℕ × Text)} {p : Place} → Talked start fault ls now p
-    → SoFar fault start now p
-so_far (opens mid now x m) = more_said [] (greeting (parted x.heard)) (first_so_far x) m
-so_far (fails_first fault now x) = first_so_far x
-so_far (next_line fault ls l mid now p r h x) = line_so_far (so_far h) x
 so_far (breaks_off fault ls mid now p h m) = more_said [] [] (so_far h) m
 
 -- and what is told behind it
