@@ -67,7 +67,7 @@ pub notes_none : {v : Version} {a : Sinks} → PutsNotes v [] None a a
 notes_none = record { printed = []; told = []; prints = prints_none; took = Appends-nil _; sound = λ _ s. s; got = gets_none _ _ }
 
 module _ {v : Version} {n : Note} {a : Sinks} where
-  whole : {now : Option (List ℕ)} {has : Bool} → Appends a.printed now (explained (version_after v n) n) → StaysSound a.print_failed has
+  pub whole : {now : Option (List ℕ)} {has : Bool} → Appends a.printed now (explained (version_after v n) n) → StaysSound a.print_failed has
       → PutsNotes v (n ∷ []) None a (record a { printed = now; print_failed = has })
   whole h s =
       let text = explained (version_after v n) n in
@@ -77,10 +77,6 @@ module _ {v : Version} {n : Note} {a : Sinks} where
       → ((Some f ≡ Some WriteFailed → ⊥) → StaysSound a.print_failed b.print_failed) → Gets a.deaf b.deaf a.told b.told told → PutsNotes v (n ∷ []) (Some f) a b
   cut {part = part} {told = told} c h s g =
       record { printed = part; told = told ++ []; prints = cut_at c; took = h; sound = s; got = rw append-nil g }
-
-  -- nothing is printed of a note that tells nothing
-  pub nothing_printed : explained (version_after v n) n ≡ [] → PutsNotes v (n ∷ []) None a a
-  nothing_printed e = whole (rw e (Appends-nil a.printed)) (λ s. s)
 
   -- a note of which a line is put out behind a text: it is printed whole, or cut
   pub note_line : (text line : List ℕ) (mid : Option (List ℕ)) {now : Option (List ℕ)} {has : Bool} (r : Result (Unit {0}) StreamFault)

@@ -1,13 +1,12 @@
 use Rattle.cells.specs.Prelude.{shapes}
-use Rattle.shells.proofs.Followed.{refl, sym, ap, [], append-nil, ◌∙◌, Appends-nil, WriteFailed, unless_err, row_text, in_line, unmade, note_line}
-use Rattle.shells.proofs.Followed.{nothing_printed}
+use Rattle.shells.proofs.Followed.{refl, sym, ap, [], append-nil, ◌∙◌, Appends-nil, WriteFailed, unless_err, row_text, in_line, unmade, note_line, whole}
 use Rattle.shells.proofs.caller.Caller.put_explained.Goals as goal
 
 pub returns-in-Nothing-clause-puts : goal.returns-in-Nothing-clause-puts
-returns-in-Nothing-clause-puts g c = λ v e. rw c.in-Nothing.is (nothing_printed refl)
+returns-in-Nothing-clause-puts g c = λ v e. rw c.in-Nothing.is (whole (Appends-nil _) (λ s. s))
 
 pub returns-in-Version-clause-puts : goal.returns-in-Version-clause-puts
-returns-in-Version-clause-puts g c = λ v e. rw c.in-Version.is (nothing_printed refl)
+returns-in-Version-clause-puts g c = λ v e. rw c.in-Version.is (whole (Appends-nil _) (λ s. s))
 
 pub returns-in-Row-clause-puts : goal.returns-in-Row-clause-puts
 returns-in-Row-clause-puts g c = λ v e.
