@@ -59,41 +59,12 @@ fn tell_fault<W: Sink>(fault: Option<StreamFault>, err: &mut W)
     }
 }
 
-/// Serves one connection as `serve_next` does, and tells the fault that broke it off, if one did.
-fn serve_told<E: Engine, G: Gate, I: Source, K: Sink, O: Sink, W: Sink>(
-    alloc: Global,
-    server: &mut Server<E, G>,
-    streams: &mut ServerStreams<I, K>,
-    out: &mut O,
-    err: &mut W,
-) -> Result<ServedOne, StreamFault>
-    requires { IsVacant E.entries server.old }
-    ensures served { OnOk result
-        (HasServed (rest_of E.entries server.old) (λ r. rest_of E.entries server.new ≡ r)) }
-    ensures line { IfOk result (λ told. Appends (O.taken out.old) (O.taken out.new)
-        (conn_line (rest_of E.entries server.old).next told.cause)) }
-    ensures told { IfOk result (λ told. TellsFault told.fault
-        (W.has_failed err.old) (W.has_failed err.new) (W.taken err.old) (W.taken err.new)) }
-    ensures broken { OnErr result
-        (MayHaveServed (rest_of E.entries server.old) (λ r. rest_of E.entries server.new ≡ r)) }
-    ensures written { IsErrOf result StreamFault.WriteFailed → O.has_failed out.new ≡ true }
-{
-    match serve_next(alloc, server, streams, out) {
-        Ok(told) => {
-            tell_fault(told.fault, err);
-            Ok(told)
-        }
-        Err(fault) => Err(fault),
-    }
-}
-
-/// Serves the connection of a stream in that way, and lets what was written arrive before the stream is closed.
-fn serve_stream<E: Engine, G: Gate, O: Sink, W: Sink>(
+/// Serves the connection of a stream as `serve_next` does, and lets what was written arrive before the stream is closed.
+fn serve_stream<E: Engine, G: Gate, O: Sink>(
     alloc: Global,
     server: &mut Server<E, G>,
     stream: &TcpStream,
     out: &mut O,
-    err: &mut W,
 ) -> Result<ServedOne, StreamFault>
     requires { IsVacant E.entries server.old }
     ensures served { OnOk result
@@ -108,7 +79,7 @@ fn serve_stream<E: Engine, G: Gate, O: Sink, W: Sink>(
         source: Over::new(stream),
         sink: Over::new(stream),
     };
-    let told = serve_told(alloc, server, &mut streams, out, err);
+    let told = serve_next(alloc, server, &mut streams, out);
     // A close with bytes unread would throw away what hasn't arrived.
     let _stopped = stream.shutdown(Shutdown::Write);
     let _read = stream.set_read_timeout(Some(Duration::from_secs(LAST)));
@@ -126,7 +97,8 @@ fn reason_of(fault: StreamFault) -> Reason
     }
 }
 
-/// Serves one connection, and answers why the server ends behind it, if it does.
+/// Serves one connection, and answers why the server ends behind it, if it does; else it tells the fault that broke the connection off, if
+/// one did. A disk that fails breaks it off by want of memory, of which nothing is told then.
 fn serve_once<E: Engine + Drop, S: Alter + Drop, G: Gate, O: Sink, W: Sink>(
     alloc: Global,
     server: &mut Server<Lasting<E, S>, G>,
@@ -141,15 +113,19 @@ fn serve_once<E: Engine + Drop, S: Alter + Drop, G: Gate, O: Sink, W: Sink>(
     ensures goes_on { let now = rest_of (ledger_of E.entries) server.new in
         result ≡ None → GoesOn (rest_of (ledger_of E.entries) server.old) now
         (Shows E.entries S.Store now.ledger) (O.taken out.old) (O.taken out.new) }
+    ensures silent { IfSome result (λ _. TellsFault None
+        (W.has_failed err.old) (W.has_failed err.new) (W.taken err.old) (W.taken err.new)) }
 {
-    match serve_stream(alloc, server, stream, out, err) {
-        Ok(_) => {}
-        Err(fault) => return Some(reason_of(fault)),
+    match serve_stream(alloc, server, stream, out) {
+        Ok(told) => {
+            if server.engine().is_stopped() {
+                return Some(Reason::DiskFailed);
+            }
+            tell_fault(told.fault, err);
+            None
+        }
+        Err(fault) => Some(reason_of(fault)),
     }
-    if server.engine().is_stopped() {
-        return Some(Reason::DiskFailed);
-    }
-    None
 }
 
 /// Serves the connections of a listener, one after another, and prints `conn K En` as each ends, its number and the cause of its end; a

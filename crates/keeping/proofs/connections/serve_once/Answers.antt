@@ -8,12 +8,12 @@ pub returns-then-is_stopped-clause-ends : goal.returns-then-is_stopped-clause-en
 returns-then-is_stopped-clause-ends g c =
     let rest = rest_of (ledger_of g.E.Engine.entries) in (
       shows g.E.Engine.entries g.S.Store (rest c.serve_stream.new.server).ledger c.engine.result.now true c.engine.ensures c.if-is_stopped.ensures.value c.if-is_stopped.ensures.left,
-      served_first (rest c.args.server.now) (rest c.serve_stream.new.server) (g.O.Sink.taken c.args.out.now) (g.O.Sink.taken c.serve_stream.new.out) c.in-Ok.field-0.cause c.in-Ok.ensures.served c.in-Ok.ensures.line,
+      served_first (rest c.args.server.now) (rest c.serve_stream.new.server) (g.O.Sink.taken c.args.out.now) (g.O.Sink.taken c.serve_stream.new.out) c.in-Ok.told.cause c.in-Ok.ensures.served c.in-Ok.ensures.line,
     )
 
-pub returns-clause-goes_on : goal.returns-clause-goes_on
-returns-clause-goes_on g c = λ _.
+pub returns-else-is_stopped-clause-goes_on : goal.returns-else-is_stopped-clause-goes_on
+returns-else-is_stopped-clause-goes_on g c = λ _.
     let rest = rest_of (ledger_of g.E.Engine.entries) in (
       shows g.E.Engine.entries g.S.Store (rest c.serve_stream.new.server).ledger c.engine.result.now false c.engine.ensures c.if-is_stopped.ensures.value c.if-is_stopped.ensures.left,
-      served_first (rest c.args.server.now) (rest c.serve_stream.new.server) (g.O.Sink.taken c.args.out.now) (g.O.Sink.taken c.serve_stream.new.out) c.in-Ok.field-0.cause c.in-Ok.ensures.served c.in-Ok.ensures.line,
+      served_first (rest c.args.server.now) (rest c.serve_stream.new.server) (g.O.Sink.taken c.args.out.now) (g.O.Sink.taken c.serve_stream.new.out) c.in-Ok.told.cause c.in-Ok.ensures.served c.in-Ok.ensures.line,
     )
