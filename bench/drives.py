@@ -397,9 +397,11 @@ def pipes(port):
             early = breaks.raised(lambda: list(got))
             asked.commit()
         held = [it["value"] for it in got] == [2] and isinstance(early, ValueError)
-    with contextlib.suppress(KeyError), connected(port) as connection, connection.pipeline() as asked:
-        asked.run("PUT", key="unsent", value=1)
-        raise KeyError
+    with connected(port) as connection:
+        with contextlib.suppress(KeyError), connection.pipeline() as asked:
+            asked.run("PUT", key="unsent", value=1)
+            raise KeyError
+        held = held and breaks.code_of(lambda: piped(connection, "unsent")) == bolt.library.NO_CLIENT
     with contextlib.suppress(KeyError), connected(port) as connection, connection.pipeline() as asked:
         # (another would send what isn't to go out yet)
         asked.run("PUT", key="unsent", value=1)

@@ -290,6 +290,7 @@ class AsyncConnection(Queries[AsyncSession, AsyncResult]):
         except BaseException:
             if not found.is_sent:
                 await self.close()
+                self._pipeline = None
             raise
         found._fill()
 

@@ -150,6 +150,7 @@ class Connection(Queries[Session, Result]):
         except BaseException:
             if not found.is_sent:
                 self.close()
+                self._pipeline = None
             raise
         found._fill()
 
