@@ -129,8 +129,9 @@ fn serve_once<E: Engine + Drop, S: Alter + Drop, G: Gate, O: Sink, W: Sink>(
 }
 
 /// Serves the connections of a listener, one after another, and prints `conn K En` as each ends, its number and the cause of its end; a
-/// fault that broke one off is told on `err`. It goes on until the engine stops, since its disk failed, or standard output fails, or memory
-/// runs out as a session is to begin or its end to be told, or no connection comes any more; what it answers is which.
+/// fault that broke one off is told on `err`, but not where the server ends with it. It goes on until the engine stops, since its disk
+/// failed, or standard output fails, or memory runs out as a session is to begin or its end to be told, or no connection comes any more;
+/// what it answers is which.
 pub fn serve_until_failed<E: Engine + Drop, S: Alter + Drop, G: Gate, O: Sink, W: Sink>(
     alloc: Global,
     server: &mut Server<Lasting<E, S>, G>,
