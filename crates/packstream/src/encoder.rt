@@ -121,7 +121,7 @@ fn put_members(out: &mut Output, members: &[Value]) -> Result<(), Unwritten>
 }
 
 #[cycle(encoder)]
-#[tactic(auto, using(crate::proofs::Putting::flats_more, crate::proofs::Putting::flats_room, crate::proofs::Putting::values_sound_at, crate::proofs::Putting::parts))]
+#[tactic(auto, using(crate::proofs::Putting::members))]
 fn put_pairs(out: &mut Output, pairs: &[(String, Value)]) -> Result<(), Unwritten>
     requires { HaveSoundValues (entries_of (entries pairs.now)) }
     ensures { Puts result out.old out.new (canon_entries (entries_of (entries pairs.now))) }
