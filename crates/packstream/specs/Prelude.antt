@@ -16,7 +16,7 @@ pub use Rattle.packstream.specs.Answers.{UnlessMemory, only_value, value_and_len
 unfoldable pub use Rattle.packstream.specs.Answers.{whole_of, front_of}
 pub use Rattle.packstream.specs.Canon.{text_bytes, canon, canon_all, canon_entries, IsShortest}
 unfoldable pub use Rattle.packstream.specs.Canon.{long_head, head, int_bytes}
-pub use Rattle.packstream.specs.Making.{own_fault, faults_in, faults_in_all, faults_in_entries}
+pub use Rattle.packstream.specs.Making.{own_fault, faults_in, faults_in_all, faults_in_entries, TellsFirst}
 unfoldable pub use Rattle.packstream.specs.Making.{first_fault}
 pub use Rattle.packstream.specs.Twins.{Pair, names, stands_before, IsFirstTwin}
 pub use Rattle.packstream.specs.Limits.{max_depth, max_size}

@@ -1,8 +1,6 @@
 //! Bytes out of values.
 ghost use Rattle.std.specs.Prelude.{◌≡◌, ◌<◌, ◌+◌, ◌++◌, length, ℕ, min, OnOk, OnErr, Err, ◌↔◌, List};
 ghost use Rattle.packstream.specs.Prelude.{Reason, long_head, text_bytes, canon, canon_all, canon_entries, IsShortest, list, dict, structure, IsSound, AreSound, HaveSoundValues, tree, trees, trees_of, entries, entries_of, UnlessMemory, Puts, Spells, max_size};
-ghost use Rattle.packstream.specs.declared.fault.Reason.TheVariants as reason;
-ghost use Rattle.packstream.specs.declared.fault.PackFault.TheVariants as fault;
 
 use crate::MAX_SIZE;
 use crate::fault::{PackFault, Reason, Unwritten};
@@ -21,8 +19,7 @@ fn put_key(out: &mut Output, key: &str) -> Result<(), Unwritten>
     if key.len() > MAX_SIZE {
         return Err(Unwritten::Size);
     }
-    put_short_text(out, key)?;
-    Ok(())
+    Ok(put_short_text(out, key)?)
 }
 
 /// A text, by a call, which keeps `put_value` small.
@@ -40,8 +37,7 @@ fn put_bytes(out: &mut Output, bytes: &[u8]) -> Result<(), Unwritten>
     if bytes.len() > MAX_SIZE {
         return Err(Unwritten::Size);
     }
-    put_short_bytes(out, bytes)?;
-    Ok(())
+    Ok(put_short_bytes(out, bytes)?)
 }
 
 #[cycle(encoder)]
@@ -150,12 +146,12 @@ pub fn encode(packed: &Packed, out: &mut BytesMut) -> Result<(), PackFault>
     ensures ok { OnOk result (out.new.items ≡ out.old.items ++ canon packed.now) }
     ensures shortest { OnOk result (IsShortest packed.now (canon packed.now)) }
     ensures size { UnlessMemory result
-        ((result ≡ Err (fault.Refused reason.Size 0)) ↔ (max_size < length (canon packed.now))) }
+        ((result ≡ Err (PackFault.Refused Reason.Size 0)) ↔ (max_size < length (canon packed.now))) }
     ensures none { UnlessMemory result
-        ((result ≡ Err (fault.Refused reason.Size 0))
+        ((result ≡ Err (PackFault.Refused Reason.Size 0))
         ↔ ((b : List ℕ) → Spells packed.now b → max_size < length b)) }
-    ensures other { (r : Reason) (o : ℕ) → result ≡ Err (fault.Refused r o)
-        → (r ≡ reason.Size) × (o ≡ 0) }
+    ensures other { (r : Reason) (o : ℕ) → result ≡ Err (PackFault.Refused r o)
+        → (r ≡ Reason.Size) × (o ≡ 0) }
     ensures err { OnErr result (out.new.items ≡ out.old.items) }
 {
     let mut adding = Output::taking(out);

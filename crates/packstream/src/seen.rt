@@ -21,22 +21,6 @@ impl<'a> Seen<'a> {
             others: BTreeSet::new(alloc),
         })
     }
-
-    /// The place that a hash chooses.
-    fn place_of(&self, hash: u64) -> usize
-        ensures choice { result ≡ hash % length self.now.places.items }
-        ensures within { result < length self.now.places.items }
-    {
-        (hash % self.places.len() as u64) as usize
-    }
-
-    /// The number in a place.
-    fn number_in(&self, place: usize) -> usize
-        requires { place < length self.now.places.items }
-        ensures { result ≡ slice_index_or self.now.places.items place 0 }
-    {
-        self.places[place]
-    }
 }
 
 #[tactic(auto, unfolding(crate::specs::Hashing::hash_more))]
@@ -78,8 +62,8 @@ pub fn is_new<'a, T>(
         → IfOk result (λ b. b ≡ true → Knows seen.new (names pairs.now ++ key.now ∷ [])) }
 {
     let hash = hash_of(key);
-    let place = seen.place_of(hash);
-    let number = seen.number_in(place);
+    let place = (hash % seen.places.len() as u64) as usize;
+    let number = seen.places[place];
     if number == 0 {
         seen.places[place] = pairs.len() + 1;
         return Ok(true);
