@@ -1,6 +1,5 @@
 -- A fault for another reason than missing bytes stays, whatever bytes follow.
-use Rattle.packstream.proofs.Words.{◌≡◌, ℕ, ◌≤◌, List, [], ◌∷◌, ◌++◌, length, Option, Some, None, refl, sym, ap, ◌∙◌, append_assoc, arith, inl, inr, nat_tests, length-append, take-append-le, drop-append-le, length-drop, big_from-append}
-use Rattle.packstream.specs.Prelude.{Reason, Size, Here, After, Marker, width, marker, size_len, Place, size_in, needs, text_in, fault_of, fault_at, innermost, outside, Trails, Bad, IsBadAlways}
+use Rattle.packstream.proofs.Words.{◌≡◌, ℕ, ◌≤◌, List, [], ◌∷◌, ◌++◌, length, Option, Some, None, refl, sym, ap, ◌∙◌, append_assoc, arith, inl, inr, nat_tests, length-append, take-append-le, drop-append-le, length-drop, big_from-append, Reason, Size, Here, After, Marker, width, marker, size_len, Place, size_in, needs, text_in, fault_of, fault_at, innermost, outside, Trails, Bad, IsBadAlways}
 
 pub size_in_more : (size : Size) (rest more : List ℕ) → size_len size ≤ length rest → size_in size (rest ++ more) ≡ size_in size rest
 size_in_more (Here n) rest more le = refl

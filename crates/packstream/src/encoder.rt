@@ -1,4 +1,6 @@
 //! Bytes out of values.
+#![tactic(auto, using(crate::proofs::Putting::writing))]
+
 ghost use Rattle.std.specs.Prelude.{◌≡◌, ◌<◌, ◌+◌, ◌++◌, length, ℕ, min, OnOk, OnErr, Err, ◌↔◌, List};
 ghost use Rattle.packstream.specs.Prelude.{Reason, long_head, text_bytes, canon, canon_all, canon_entries, IsShortest, list, dict, structure, IsSound, AreSound, HaveSoundValues, tree, trees, trees_of, entries, entries_of, UnlessMemory, Puts, Spells, max_size};
 
@@ -41,7 +43,6 @@ fn put_bytes(out: &mut Output, bytes: &[u8]) -> Result<(), Unwritten>
 }
 
 #[cycle(encoder)]
-#[tactic(auto, using(crate::proofs::Putting::tree_of_dict))]
 fn put_value(out: &mut Output, value: &Value) -> Result<(), Unwritten>
     requires { IsSound (tree value.now) }
     ensures { Puts result out.old out.new (canon (tree value.now)) }
@@ -61,7 +62,6 @@ fn put_value(out: &mut Output, value: &Value) -> Result<(), Unwritten>
 }
 
 #[cycle(encoder)]
-#[tactic(auto, using(crate::proofs::Putting::len_trees, crate::proofs::Putting::count_le, crate::proofs::Putting::head_some, crate::proofs::Putting::parts))]
 #[inline(never)]
 fn put_list(out: &mut Output, members: &[Value]) -> Result<(), Unwritten>
     requires { AreSound (trees_of (trees members.now)) }
@@ -75,7 +75,6 @@ fn put_list(out: &mut Output, members: &[Value]) -> Result<(), Unwritten>
 }
 
 #[cycle(encoder)]
-#[tactic(auto, using(crate::proofs::Putting::len_entries, crate::proofs::Putting::entry_count_le, crate::proofs::Putting::head_some, crate::proofs::Putting::parts))]
 #[inline(never)]
 fn put_dict(out: &mut Output, pairs: &[(String, Value)]) -> Result<(), Unwritten>
     requires { HaveSoundValues (entries_of (entries pairs.now)) }
@@ -89,7 +88,6 @@ fn put_dict(out: &mut Output, pairs: &[(String, Value)]) -> Result<(), Unwritten
 }
 
 #[cycle(encoder)]
-#[tactic(auto, using(crate::proofs::Putting::len_trees, crate::proofs::Putting::parts))]
 #[inline(never)]
 fn put_struct(out: &mut Output, tag: u8, fields: &[Value]) -> Result<(), Unwritten>
     requires { IsSound (structure tag (trees_of (trees fields.now))) }
@@ -101,7 +99,6 @@ fn put_struct(out: &mut Output, tag: u8, fields: &[Value]) -> Result<(), Unwritt
 }
 
 #[cycle(encoder)]
-#[tactic(auto, using(crate::proofs::Putting::members))]
 fn put_members(out: &mut Output, members: &[Value]) -> Result<(), Unwritten>
     requires { AreSound (trees_of (trees members.now)) }
     ensures { Puts result out.old out.new (canon_all (trees_of (trees members.now))) }
@@ -117,7 +114,6 @@ fn put_members(out: &mut Output, members: &[Value]) -> Result<(), Unwritten>
 }
 
 #[cycle(encoder)]
-#[tactic(auto, using(crate::proofs::Putting::members))]
 fn put_pairs(out: &mut Output, pairs: &[(String, Value)]) -> Result<(), Unwritten>
     requires { HaveSoundValues (entries_of (entries pairs.now)) }
     ensures { Puts result out.old out.new (canon_entries (entries_of (entries pairs.now))) }

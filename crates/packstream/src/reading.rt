@@ -1,4 +1,6 @@
 //! What follows a marker: numbers, lengths, bytes and texts (PackStream version 1). `left` counts the bytes from the marker on, for the fault.
+#![tactic(auto, using(crate::proofs::Texts::texts), unfolding(crate::specs::Reading::number_at, crate::specs::Reading::int_at, crate::specs::Reading::size_at, crate::specs::Reading::bytes_at, crate::specs::Reading::text_at, crate::specs::Reading::key_at, crate::specs::Reading::key_of))]
+
 ghost use Rattle.std.specs.Prelude.{◌≡◌, ◌≤◌, [], ◌∷◌, ◌++◌, IfOk, IfSome, IsNone, IsUtf8, length};
 ghost use Rattle.byteorder.specs.Endian.{big_number, twos_complement};
 ghost use Rattle.packstream.specs.Prelude.{Knows, width, Gives, number_at, int_at, size_at, bytes_at, text_at, key_at, int, names};
@@ -6,10 +8,13 @@ ghost use Rattle.packstream.specs.Prelude.{Knows, width, Gives, number_at, int_a
 use crate::fault::Reason;
 pub use crate::fault::Stop;
 use crate::marker::{Marker, Size, Width, marker_of};
-use crate::seen::{Seen, is_new};
+use crate::seen::{Pairs, Seen, is_new};
 use crate::twins::has_key;
 use byteorder::{BigEndian, ByteOrder};
 use simdutf8::basic::from_utf8;
+
+/// What was read, and the bytes after it.
+pub type Got<'a, T> = Result<(T, &'a [u8]), Stop>;
 
 /// The number that the first bytes are, the highest first.
 fn unsigned(wide: Width, bytes: &[u8]) -> u64
@@ -38,9 +43,8 @@ fn signed(wide: Width, bytes: &[u8]) -> i64
 }
 
 /// A number of this width.
-#[tactic(auto, unfolding(crate::specs::Reading::number_at))]
 #[inline]
-pub fn number_of(left: usize, wide: Width, bytes: &[u8]) -> Result<(u64, &[u8]), Stop>
+pub fn number_of(left: usize, wide: Width, bytes: &[u8]) -> Got<'_, u64>
     ensures { Gives (λ x. (x.0, x.1.now)) result (number_at left (width wide) bytes.now) }
 {
     let len = wide.bytes();
@@ -51,9 +55,8 @@ pub fn number_of(left: usize, wide: Width, bytes: &[u8]) -> Result<(u64, &[u8]),
 }
 
 /// A signed number of this width.
-#[tactic(auto, unfolding(crate::specs::Reading::int_at, crate::specs::Reading::number_at))]
 #[inline]
-pub fn signed_of(left: usize, wide: Width, bytes: &[u8]) -> Result<(i64, &[u8]), Stop>
+pub fn signed_of(left: usize, wide: Width, bytes: &[u8]) -> Got<'_, i64>
     ensures { Gives (λ x. (int x.0, x.1.now)) result (int_at left wide bytes.now) }
 {
     let len = wide.bytes();
@@ -64,9 +67,8 @@ pub fn signed_of(left: usize, wide: Width, bytes: &[u8]) -> Result<(i64, &[u8]),
 }
 
 /// The length or the count that a marker announces.
-#[tactic(auto, unfolding(crate::specs::Reading::size_at))]
 #[inline]
-pub fn size_of(left: usize, size: Size, bytes: &[u8]) -> Result<(u64, &[u8]), Stop>
+pub fn size_of(left: usize, size: Size, bytes: &[u8]) -> Got<'_, u64>
     ensures { Gives (λ x. (x.0, x.1.now)) result (size_at left size bytes.now) }
 {
     match size {
@@ -76,9 +78,8 @@ pub fn size_of(left: usize, size: Size, bytes: &[u8]) -> Result<(u64, &[u8]), St
 }
 
 /// As many bytes as a marker announces.
-#[tactic(auto, unfolding(crate::specs::Reading::bytes_at))]
 #[inline]
-pub fn bytes_of(left: usize, size: Size, bytes: &[u8]) -> Result<(&[u8], &[u8]), Stop>
+pub fn bytes_of(left: usize, size: Size, bytes: &[u8]) -> Got<'_, &[u8]>
     ensures { Gives (λ x. (x.0.now, x.1.now)) result (bytes_at left size bytes.now) }
 {
     let (len, rest) = size_of(left, size, bytes)?;
@@ -105,9 +106,8 @@ fn checked(bytes: &[u8]) -> Option<&str>
 }
 
 /// A text of as many bytes as a marker announces.
-#[tactic(auto, using(crate::proofs::Texts::texts), unfolding(crate::specs::Reading::text_at))]
 #[inline(always)]
-pub fn text_of(left: usize, size: Size, bytes: &[u8]) -> Result<(&str, &[u8]), Stop>
+pub fn text_of(left: usize, size: Size, bytes: &[u8]) -> Got<'_, &str>
     ensures { Gives (λ x. (x.0.now, x.1.now)) result (text_at left size bytes.now) }
 {
     let (front, rest) = bytes_of(left, size, bytes)?;
@@ -118,9 +118,8 @@ pub fn text_of(left: usize, size: Size, bytes: &[u8]) -> Result<(&str, &[u8]), S
 }
 
 /// A key that none of these pairs has.
-#[tactic(auto, unfolding(crate::specs::Reading::key_at, crate::specs::Reading::key_of))]
 #[inline]
-pub fn key_of<'a, T>(pairs: &[(String, T)], bytes: &'a [u8]) -> Result<(&'a str, &'a [u8]), Stop>
+pub fn key_of<'a, T>(pairs: Pairs<T>, bytes: &'a [u8]) -> Got<'a, &'a str>
     ensures { Gives (λ x. (x.0.now, x.1.now)) result
         (key_at (names pairs.now) bytes.now) }
 {
@@ -142,11 +141,7 @@ pub fn key_of<'a, T>(pairs: &[(String, T)], bytes: &'a [u8]) -> Result<(&'a str,
 
 /// A key that none of these pairs has, whose keys were seen, and which joins them.
 #[tactic(auto, using(crate::proofs::Keys::new_keys))]
-pub fn new_key_of<'a, T>(
-    seen: &mut Seen<'a>,
-    pairs: &[(String, T)],
-    bytes: &'a [u8],
-) -> Result<(&'a str, &'a [u8]), Stop>
+pub fn new_key_of<'a, T>(seen: &mut Seen<'a>, pairs: Pairs<T>, bytes: &'a [u8]) -> Got<'a, &'a str>
     ensures key { Knows seen.old (names pairs.now)
         → Gives (λ x. (x.0.now, x.1.now)) result (key_at (names pairs.now) bytes.now) }
     ensures seen { Knows seen.old (names pairs.now)

@@ -9,6 +9,9 @@ use std::collections::BTreeSet;
 /// The most keys for which places are made.
 const MANY: usize = 4_096;
 
+/// Pairs, each of a key and what it names.
+pub type Pairs<'p, T> = &'p [(String, T)];
+
 impl<'a> Seen<'a> {
     /// None yet, with two places a key, of at most 4,096; or want of memory.
     #[tactic(auto, using(crate::proofs::Keys::knows_none))]
@@ -39,7 +42,7 @@ fn hash_of(key: &str) -> u64
 /// Whether the pair with this number, from 1, has the key.
 #[tactic(auto, using(crate::proofs::Keys::numbers))]
 #[inline]
-fn is_numbered<T>(pairs: &[(String, T)], number: usize, key: &str) -> bool
+fn is_numbered<T>(pairs: Pairs<T>, number: usize, key: &str) -> bool
     requires { 0 < number }
     ensures { result ≡ is_key (numbered (names pairs.now) number) key.now }
 {
@@ -51,11 +54,7 @@ fn is_numbered<T>(pairs: &[(String, T)], number: usize, key: &str) -> bool
 
 /// Whether the key is none of those of the pairs, which were seen, and joins them; or want of memory.
 #[tactic(auto, using(crate::proofs::Keys::looks))]
-pub fn is_new<'a, T>(
-    seen: &mut Seen<'a>,
-    pairs: &[(String, T)],
-    key: &'a str,
-) -> Result<bool, AllocError>
+pub fn is_new<'a, T>(seen: &mut Seen<'a>, pairs: Pairs<T>, key: &'a str) -> Result<bool, AllocError>
     ensures answer { Knows seen.old (names pairs.now)
         → IfOk result (λ b. b ≡ not (is_among key.now (names pairs.now))) }
     ensures seen { Knows seen.old (names pairs.now)

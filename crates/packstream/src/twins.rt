@@ -2,7 +2,7 @@
 ghost use Rattle.std.specs.Prelude.{◌≡◌, IfOk, map, string_bytes};
 ghost use Rattle.packstream.specs.Prelude.{is_among, IsFirstTwin};
 
-use crate::seen::{Seen, is_new};
+use crate::seen::{Pairs, Seen, is_new};
 use std::alloc::{AllocError, Global};
 
 /// Dictionaries of up to so many entries look for equal keys by comparing all; larger ones use an ordered set, so that no input costs a square.
@@ -18,7 +18,7 @@ pub enum Lookup {
 }
 
 /// The index of the first pair whose key stands before it too, or the number of pairs.
-pub fn first_twin<T>(lookup: Lookup, pairs: &[(String, T)]) -> usize
+pub fn first_twin<T>(lookup: Lookup, pairs: Pairs<T>) -> usize
     ensures { IsFirstTwin pairs.now result }
 {
     match lookup {
@@ -31,7 +31,7 @@ pub fn first_twin<T>(lookup: Lookup, pairs: &[(String, T)]) -> usize
 }
 
 #[tactic(auto, using(crate::proofs::Checking::twins))]
-fn twin_in_set<T>(alloc: Global, pairs: &[(String, T)]) -> Result<usize, AllocError>
+fn twin_in_set<T>(alloc: Global, pairs: Pairs<T>) -> Result<usize, AllocError>
     ensures { IfOk result (IsFirstTwin pairs.now) }
 {
     let mut seen = Seen::new(alloc, pairs.len())?;
@@ -43,7 +43,7 @@ fn twin_in_set<T>(alloc: Global, pairs: &[(String, T)]) -> Result<usize, AllocEr
     Ok(pairs.len())
 }
 
-fn twin_compared<T>(pairs: &[(String, T)]) -> usize
+fn twin_compared<T>(pairs: Pairs<T>) -> usize
     ensures { IsFirstTwin pairs.now result }
 {
     for (i, pair) in pairs.iter().enumerate() {
@@ -56,7 +56,7 @@ fn twin_compared<T>(pairs: &[(String, T)]) -> usize
 
 /// Whether one of the pairs has the key.
 #[inline]
-pub fn has_key<T>(pairs: &[(String, T)], key: &str) -> bool
+pub fn has_key<T>(pairs: Pairs<T>, key: &str) -> bool
     ensures { result ≡ is_among key.now (map (λ e. string_bytes e.0) pairs.now) }
 {
     for pair in pairs {

@@ -1,5 +1,7 @@
 //! The shortest spellings of heads, numbers, texts and byte strings (PackStream version 1), added to an output. `Err` is want of memory, and
 //! then a part may have been added.
+#![tactic(auto, using(crate::proofs::Putting::parts), unfolding(crate::specs::Canon::long_head, crate::specs::Canon::head, crate::specs::Canon::int_bytes))]
+
 ghost use Rattle.std.specs.Prelude.{◌≡◌, ◌≤◌, ◌∷◌, ◌++◌, length, OnOk};
 ghost use Rattle.byteorder.specs.Endian.{big_bytes};
 ghost use Rattle.packstream.specs.Prelude.{long_head, head, int_bytes, text_bytes, max_size};
@@ -8,7 +10,6 @@ pub use crate::output::Output;
 use std::alloc::AllocError;
 
 /// The shortest of the long heads of so many: a marker for one, two or four bytes of their count, and these.
-#[tactic(auto, unfolding(crate::specs::Canon::long_head))]
 pub fn put_long(out: &mut Output, marker: u8, n: u32) -> Result<(), AllocError>
     requires { marker ≤ 253 }
     ensures before { out.new.before ≡ out.old.before }
@@ -24,7 +25,6 @@ pub fn put_long(out: &mut Output, marker: u8, n: u32) -> Result<(), AllocError>
 }
 
 /// The head of a text, a list or a dictionary of so many: in its marker alone up to 15.
-#[tactic(auto, unfolding(crate::specs::Canon::head))]
 #[inline]
 pub fn put_head(out: &mut Output, tiny: u8, marker: u8, n: u32) -> Result<(), AllocError>
     requires tiny { tiny ≤ 240 }
@@ -40,7 +40,6 @@ pub fn put_head(out: &mut Output, tiny: u8, marker: u8, n: u32) -> Result<(), Al
 }
 
 /// An integer. It stands where it is asked for, so that no loop over integers has a call for each.
-#[tactic(auto, unfolding(crate::specs::Canon::int_bytes))]
 #[inline(always)]
 pub fn put_int(out: &mut Output, n: i64) -> Result<(), AllocError>
     ensures before { out.new.before ≡ out.old.before }
@@ -70,7 +69,6 @@ pub fn put_float(out: &mut Output, bits: u64) -> Result<(), AllocError>
 }
 
 /// A text of at most 65,536 bytes.
-#[tactic(auto, using(crate::proofs::Putting::parts))]
 #[inline]
 pub fn put_short_text(out: &mut Output, text: &str) -> Result<(), AllocError>
     requires { length text.now ≤ max_size }
@@ -82,7 +80,6 @@ pub fn put_short_text(out: &mut Output, text: &str) -> Result<(), AllocError>
 }
 
 /// A byte string of at most 65,536 bytes.
-#[tactic(auto, using(crate::proofs::Putting::parts))]
 pub fn put_short_bytes(out: &mut Output, bytes: &[u8]) -> Result<(), AllocError>
     requires { length bytes.now ≤ max_size }
     ensures before { out.new.before ≡ out.old.before }

@@ -1,5 +1,4 @@
-use Rattle.std.proofs.Common.{◌≡◌, ◌-◌, ◌≤◌, [], take, drop}
-use Rattle.packstream.specs.Prelude.{trees, trees_of, entries, entries_of, first_fault, faults_in_all, faults_in_entries, ArePlain, HavePlain, names, max_depth}
+use Rattle.packstream.proofs.Words.{◌≡◌, ◌-◌, ◌≤◌, [], take, drop, trees, trees_of, entries, entries_of, first_fault, faults_in_all, faults_in_entries, ArePlain, HavePlain, names, max_depth}
 use Rattle.packstream.proofs.check.+checker.Given as goal
 
 abbrev pub invariant-check_members-loop-member : goal.invariant-check_members-loop-member

@@ -1,5 +1,4 @@
-use Rattle.std.proofs.Common.{◌≡◌, ◌-◌, ◌*◌, ◌+◌, []}
-use Rattle.packstream.specs.Prelude.{trees, entries, layer, inner, items_at, entries_at, names, Knows}
+use Rattle.packstream.proofs.Words.{◌≡◌, ◌-◌, ◌*◌, ◌+◌, [], trees, entries, layer, inner, items_at, entries_at, names, Knows}
 use Rattle.packstream.proofs.decoder.+decoder.Given as goal
 
 abbrev pub decreases-value_of : goal.decreases-value_of

@@ -1,5 +1,4 @@
-use Rattle.std.proofs.Common.{◌≡◌, ◌+◌, ◌++◌, drop, length}
-use Rattle.packstream.specs.Prelude.{trees, trees_of, entries, entries_of, AreSound, HaveSoundValues}
+use Rattle.packstream.proofs.Words.{◌≡◌, ◌+◌, ◌++◌, drop, length, trees, trees_of, entries, entries_of, AreSound, HaveSoundValues}
 use Rattle.packstream.proofs.Putting.{flat, flats}
 use Rattle.packstream.proofs.encoder.+encoder.Given as goal
 

@@ -1,5 +1,4 @@
-use Rattle.std.proofs.Common.{◌≡◌, take, fold}
-use Rattle.packstream.specs.Prelude.{hash_more}
+use Rattle.packstream.proofs.Words.{◌≡◌, take, fold, hash_more}
 use Rattle.packstream.proofs.seen.hash_of.Given as goal
 
 abbrev pub invariant-loop-byte : goal.invariant-loop-byte

@@ -1,6 +1,5 @@
-use Rattle.packstream.proofs.Words.{◌≡◌, ◌%◌, ◌∙◌, sym, refl, arith}
+use Rattle.packstream.proofs.Words.{◌≡◌, ◌%◌, ◌∙◌, sym, refl, arith, in_place, names}
 use Rattle.std.proofs.lemmas.Grind.{get_or_default_zero}
-use Rattle.packstream.specs.Prelude.{in_place, names}
 use Rattle.packstream.proofs.Keys.{knows_other}
 use Rattle.packstream.proofs.seen.is_new.Goals as goal
 

@@ -1,5 +1,4 @@
-use Rattle.std.proofs.Common.{◌≡◌, drop}
-use Rattle.packstream.specs.Prelude.{is_among, names}
+use Rattle.packstream.proofs.Words.{◌≡◌, drop, is_among, names}
 use Rattle.packstream.proofs.twins.has_key.Given as goal
 
 abbrev pub invariant-loop-pair : goal.invariant-loop-pair

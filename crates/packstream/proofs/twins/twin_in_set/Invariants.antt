@@ -1,5 +1,4 @@
-use Rattle.std.proofs.Common.{take}
-use Rattle.packstream.specs.Prelude.{names, Knows}
+use Rattle.packstream.proofs.Words.{take, names, Knows}
 use Rattle.packstream.proofs.Checking.{AllNew}
 use Rattle.packstream.proofs.twins.twin_in_set.Given as goal
 
