@@ -1,5 +1,5 @@
 -- A fault for another reason than missing bytes stays, whatever bytes follow.
-use Rattle.packstream.proofs.Words.{◌≡◌, ℕ, ◌≤◌, List, [], ◌∷◌, ◌++◌, length, Option, Some, None, refl, sym, ap, ◌∙◌, append_assoc, arith, inl, inr, nat_tests, length-append, take-append-le, drop-append-le, length-drop, big_from-append, Reason, Size, Here, After, Marker, width, marker, size_len, Place, size_in, needs, text_in, fault_of, fault_at, innermost, outside, Trails, Bad, IsBadAlways}
+use Rattle.packstream.proofs.Words.{◌≡◌, ℕ, ◌≤◌, List, [], ◌∷◌, ◌++◌, length, Option, Some, None, refl, sym, ap, ◌∙◌, append_assoc, arith, inl, inr, nat_tests, length-append, take-append-le, drop-append-le, length-drop, big_from-append, Reason, Size, Here, After, Marker, width, marker, size_len, Place, size_in, needs, text_in, fault_of, fault_at, innermost, outside, Bad, IsBadAlways}
 
 pub size_in_more : (size : Size) (rest more : List ℕ) → size_len size ≤ length rest → size_in size (rest ++ more) ≡ size_in size rest
 size_in_more (Here n) rest more le = refl
@@ -39,14 +39,16 @@ stays b r o (inl h) other = λ more bytes.
       broken = fault_at_more (innermost outside h.opened) h.after more r h.broken other;
     })
 stays b r o (inr (e, u)) other = λ more bytes.
-    let longer : Trails (b ++ more) o = record {
-      tree = u.tree;
-      front = u.front;
-      more = u.more ++ more;
-      good = u.good;
-      spelled = u.spelled;
-      whole = ap (λ (x : List ℕ). x ++ more) u.whole ∙ append_assoc u.front u.more more;
-      some = omega (arith, u.some, length-append u.more more);
-      place = u.place;
-    } in
-    inr (e, longer)
+    inr (
+      e,
+      record {
+        tree = u.tree;
+        front = u.front;
+        more = u.more ++ more;
+        good = u.good;
+        spelled = u.spelled;
+        whole = ap (λ (x : List ℕ). x ++ more) u.whole ∙ append_assoc u.front u.more more;
+        some = omega (arith, u.some, length-append u.more more);
+        place = u.place;
+      },
+    )

@@ -17,7 +17,7 @@ pub use Rattle.std.proofs.lemmas.Slice.Eq.{bytes_eq-Decides}
 pub use Rattle.std.proofs.lemmas.Str.{is_utf8-from_IsUtf8, IsUtf8-from_is_utf8, IsUtf8-string_bytes}
 pub use Rattle.std.specs.BTreeSet.{UpdatesBy}
 pub use Rattle.std.specs.Cmp.Lexicographic.{slice_cmp, nat_list_eq_equiv}
-pub use Rattle.std.specs.Int.{byte_at}
+pub use Rattle.std.specs.Int.{byte_at, w16, w32, cast_unsigned}
 pub use Rattle.std.specs.Ordering.{is_eq, ordering_then}
 pub use Rattle.std.specs.Str.{is_utf8}
 pub use Rattle.packstream.specs.Prelude.{Tree, dict, Trees, no_trees, tree_then, Entries, no_entries, entry_then, count, entry_count, tree, trees, trees_of, entries, entries_of, text_bytes, canon, canon_all, canon_entries, Pair, null, Size, Here, After, Marker, boolean, int, float, byte_string, text, list, structure, depth, trees_depth, entries_depth, is_among, AreNewKeys, IsSound, AreSound, HaveSoundValues, width, Begins, IsNumber, IsSize, SpellsText, SpellsTree, SpellsAll, SpellsEntries, Read, keys, Reason, size_len, Place, nests, size_in, keys_of, Opened, in_list, in_struct, at_key, at_value, IsOpened, innermost, AreOpened, entry, names, Width, One, Two, Four, Eight, PackFault, IsGood, AreBytes, Spells, outside, BadFront, Bad, UnlessMemory, only_value, value_and_length, Tells, HasOneAnswer, ReadsBack, IsPlain, ArePlain, HavePlain, SpellsInt, ◌>>=◌, within, Seen, hash, in_place, numbered, is_key, is_other, Knows, IsShortest, needs, text_in, Trails, IsBadAlways, faults_in, faults_in_all, faults_in_entries, stands_before, IsFirstTwin, max_depth}

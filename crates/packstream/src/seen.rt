@@ -70,6 +70,5 @@ pub fn is_new<'a, T>(seen: &mut Seen<'a>, pairs: Pairs<T>, key: &'a str) -> Resu
     if is_numbered(pairs, number, key) {
         return Ok(false);
     }
-    let is_new = seen.others.insert((hash, key))?;
-    Ok(is_new)
+    Ok(seen.others.insert((hash, key))?)
 }
