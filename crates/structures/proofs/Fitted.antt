@@ -1,5 +1,5 @@
 -- What is written of a cell, and a cell in the form of a version, one level at a time.
-use Rattle.std.proofs.Common.{◌≡◌, ℕ, ℤ, List, [], ◌∷◌, map, Option, Some, None, String, Global, refl, ap, rules, Vec, Box, string_bytes, sym, ◌∙◌}
+use Rattle.std.proofs.Common.{◌≡◌, ℕ, ℤ, List, [], ◌∷◌, map, Option, Some, None, String, Global, false, ◌==◌, refl, ap, rules, Vec, Box, string_bytes, sym, ◌∙◌}
 use Rattle.structures.proofs.Prelude.{Tree, int, list, dict, structure, no_trees, tree_then, entry_then, tree, trees_of, entries_of, IntValue, value_lemmas, Version, text_of, texts_of, element_of, elements_of, numbers_of, entries, shape, shapes, node_shape, unbound_shape, relationship_shape, path_shape, path_of, row, row_in, table, Pair, node_parts, unbound_parts, relationship_parts, node-out, node-roll, unbound-out, unbound-roll, relationship-out, relationship-roll, path-out, path-roll, shape-List, shape-Dict, form, form_all, form_under, form_entry, fitted, fitted_all, fitted_under, fitted_by, fitted_entry, element_at, elements_at, V50, V51, Cell, ListCase, DictCase, NodeCase, RelationshipCase, UnboundCase, PathCase, the_lemmas, Path, out-Path, roll-Path, every_version, Field, Integer, Text, Labels, Properties}
 use Rattle.cells.specs.declared.cell.ElementIds.{ElementIds}
 use Rattle.cells.specs.declared.cell.Cell.TheViews.{out-roll-Path}
@@ -7,9 +7,6 @@ use Rattle.cells.specs.declared.cell.Cell.TheOpen.{Node-F, UnboundRelationship-F
 use Rattle.cells.specs.declared.cell.Node.{Node, roll-Node}
 use Rattle.cells.specs.declared.cell.Relationship.{Relationship, roll-Relationship}
 use Rattle.cells.specs.declared.cell.UnboundRelationship.{UnboundRelationship, roll-UnboundRelationship}
-
-pub tree-Int : (z : ℤ) → tree (IntValue z) ≡ int z
-tree-Int z = search (rules, value_lemmas)
 
 pub form_list : (v : Version) (ts : List Tree) → form_all v (trees_of ts) ≡ trees_of (map (form v) ts)
 form_list v [] = refl
@@ -23,29 +20,20 @@ pub form_texts : (v : Version) (ss : List (String Global)) → form_all v (trees
 form_texts v [] = refl
 form_texts v (s ∷ ss) = ap (λ x. tree_then (text_of s) x) (form_texts v ss)
 
-pub form_element : (v : Version) (e : Option (String Global)) → form_all v (element_of e) ≡ element_of e
-form_element v None = refl
-form_element v (Some s) = refl
-
-pub node_written : (v : Version) (id : ℤ) (labels : List (String Global)) (ps : List Pair) (e : Option (String Global)) (a b d : Tree) → a ≡ int id → b ≡ texts_of labels → d ≡ dict (entries_of (map (form_entry v) (entries ps)))
-    → structure 0x4E (tree_then a (tree_then b (tree_then d (element_of e)))) ≡ form v (node_parts id labels ps e)
-node_written v id labels ps e a b d ea eb ed = rw (ea, eb, ed, form_texts v labels, form_pairs v (entries ps), form_element v e) refl
-
-pub unbound_written : (v : Version) (id : ℤ) (kind : String Global) (ps : List Pair) (e : Option (String Global)) (a b d : Tree) → a ≡ int id → b ≡ text_of kind → d ≡ dict (entries_of (map (form_entry v) (entries ps)))
-    → structure 0x72 (tree_then a (tree_then b (tree_then d (element_of e)))) ≡ form v (unbound_parts id kind ps e)
-unbound_written v id kind ps e a b d ea eb ed = rw (ea, eb, ed, form_pairs v (entries ps), form_element v e) refl
+-- a node, or a relationship without ends, by its three parts
+pub named_written : (v : Version) (tag : ℕ) (id : ℤ) (x : Tree) (ps : List Pair) (e : Option (String Global)) (w : Tree) → (tag == 0x49) ≡ false → form v x ≡ x
+    → w ≡ structure tag (tree_then (int id) (tree_then x (tree_then (dict (entries_of (map (form_entry v) (entries ps)))) (element_of e)))) → w ≡ form v (structure tag (tree_then (int id) (tree_then x (tree_then (dict (entries_of (entries ps))) (element_of e)))))
+named_written v tag id x ps None w n f h = rw (h, n, f, form_pairs v (entries ps)) refl
+named_written v tag id x ps (Some s) w n f h = rw (h, n, f, form_pairs v (entries ps)) refl
 
 pub form_numbers : (v : Version) (zs : List ℤ) → form_all v (trees_of (map int zs)) ≡ trees_of (map int zs)
 form_numbers v [] = refl
 form_numbers v (z ∷ zs) = ap (λ x. tree_then (int z) x) (form_numbers v zs)
 
-pub form_elements : (v : Version) (e : Option ElementIds) → form_all v (elements_of e) ≡ elements_of e
-form_elements v None = refl
-form_elements v (Some s) = refl
-
-pub relationship_written : (v : Version) (id s t : ℤ) (kind : String Global) (ps : List Pair) (e : Option ElementIds) (b d : Tree) → b ≡ text_of kind → d ≡ dict (entries_of (map (form_entry v) (entries ps)))
-    → structure 0x52 (tree_then (int id) (tree_then (int s) (tree_then (int t) (tree_then b (tree_then d (elements_of e)))))) ≡ form v (relationship_parts id s t kind ps e)
-relationship_written v id s t kind ps e b d eb ed = rw (eb, ed, form_pairs v (entries ps), form_elements v e) refl
+pub relationship_written : (v : Version) (id s t : ℤ) (kind : String Global) (ps : List Pair) (e : Option ElementIds) (w : Tree)
+    → w ≡ structure 0x52 (tree_then (int id) (tree_then (int s) (tree_then (int t) (tree_then (text_of kind) (tree_then (dict (entries_of (map (form_entry v) (entries ps)))) (elements_of e)))))) → w ≡ form v (relationship_parts id s t kind ps e)
+relationship_written v id s t kind ps None w h = rw (h, form_pairs v (entries ps)) refl
+relationship_written v id s t kind ps (Some x) w h = rw (h, form_pairs v (entries ps)) refl
 
 pub path_written : (v : Version) (ns ls : List Tree) (is : List ℤ) (a b d : Tree) → a ≡ list (trees_of (map (form v) ns)) → b ≡ list (trees_of (map (form v) ls)) → d ≡ numbers_of is
     → structure 0x50 (tree_then a (tree_then b (tree_then d no_trees))) ≡ form v (structure 0x50 (tree_then (list (trees_of ns)) (tree_then (list (trees_of ls)) (tree_then (numbers_of is) no_trees))))

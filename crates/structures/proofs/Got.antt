@@ -2,7 +2,7 @@
 use Rattle.std.proofs.Common.{◌≡◌, ◌++◌, take, ℤ, pos, neg_ℤ, ◌-ℤ◌, ◌≤ℤ◌, int_le, ℕ, suc, zero, ◌+◌, ◌<◌, ◌≤◌, List, [], ◌∷◌, map, length, get_or, append-nil, length-append, add-one, Bool, true, false, ◌&&◌, ◌==◌, cond, Option, Some, None, Result, Ok, Err, refl, sym, ap, ◌∙◌, arith, eqb-true, subst, Vec, Global, String}
 use Rattle.std.proofs.lemmas.Int.{ints}
 use Rattle.std.proofs.lemmas.List.{map_push, take_all}
-use Rattle.structures.proofs.Prelude.{Nodes, Relationships, Indices, Tree, null, int, list, dict, structure, Trees, no_trees, tree_then, entry_then, count, tree, trees, trees_of, entries_of, seen_entries, Value, ListValue, DictValue, StructValue, len_trees, tree-List, tree-Dict, tree-Struct, Version, V44, has_element_ids, every_version, Field, Reason, NotInVersion, row, row_in, table, fields_in, fields_at, fields_of, kinds, moment_fields, to_utc, each, is_kind, are_kinds, are_in_range, utc_fields, is_path, wrong, fault, fault_by, has_tag, is_list_of, and_left, and_right, shape-Date, shape-Time, shape-LocalTime, shape-LocalDateTime, shape-DateTime, fine_itself, fine_within, fine_member, typed, typed_all, typed_under, three, tree_at, Got, Follows, typed_entry, IsSound, AreSound, with_fields}
+use Rattle.structures.proofs.Prelude.{Nodes, Relationships, Indices, Tree, null, int, list, dict, structure, Trees, no_trees, tree_then, entry_then, count, tree, trees, trees_of, entries_of, seen_entries, Value, ListValue, DictValue, StructValue, len_trees, tree-List, tree-Dict, tree-Struct, Version, V44, has_element_ids, every_version, Field, Reason, NotInVersion, row, row_in, table, fields_in, fields_at, fields_of, kinds, moment_fields, to_utc, each, is_kind, are_kinds, are_in_range, utc_fields, is_path, wrong, fault, fault_by, has_tag, is_list_of, and_left, and_right, shape-Date, shape-Time, shape-LocalTime, shape-LocalDateTime, shape-DateTime, Pair, entries, fine_itself, fine_within, fine_member, typed, typed_all, typed_under, three, tree_at, Got, Follows, typed_entry, IsSound, AreSound, with_fields}
 use Rattle.structures.specs.Fitting.{trees_in_order}
 
 pub at_some : (xs : List Value) (i : ℕ) (d : Value) → i < length xs → d ≡ get_or xs i d → tree_at i (trees_of (trees xs)) ≡ tree d
@@ -151,9 +151,13 @@ pub typed_list : (ts : List Tree) → typed_all (trees_of ts) ≡ trees_of (map 
 typed_list [] = refl
 typed_list (t ∷ ts) = ap (λ x. tree_then (typed t) x) (typed_list ts)
 
-pub typed_pairs : (es : List (List ℕ × Tree)) → typed_under (entries_of es) ≡ entries_of (map typed_entry es)
+typed_pairs : (es : List (List ℕ × Tree)) → typed_under (entries_of es) ≡ entries_of (map typed_entry es)
 typed_pairs [] = refl
 typed_pairs (e ∷ es) = ap (λ r. entry_then e.0 (typed e.1) r) (typed_pairs es)
+
+-- a dictionary whose entries were read
+pub dict_read : (d : Value) (xs : Vec (String Global × Value) Global) (ps : List Pair) → d ≡ DictValue xs → entries ps ≡ map typed_entry (seen_entries xs.items) → dict (entries_of (entries ps)) ≡ typed (tree d)
+dict_read d xs ps is e = ap (λ es. dict (entries_of es)) e ∙ ap dict (sym (typed_pairs (seen_entries xs.items))) ∙ ap typed (sym (ap tree is ∙ tree-Dict xs))
 
 -- a test of each member, at one of them
 pub each_at : (p : Tree → Bool) (xs : List Value) (i : ℕ) → i < length xs → each p (trees_of (trees xs)) ≡ true → p (tree_at i (trees_of (trees xs))) ≡ true

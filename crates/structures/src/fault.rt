@@ -1,4 +1,6 @@
 //! Why a value is no cell, or a cell has no value.
+ghost use Rattle.std.specs.Prelude.{◌≡◌};
+ghost use Rattle.structures.specs.declared.fault.CellFault.TheVariants.{Memory};
 
 use cells::Reason;
 use std::alloc::{AllocError, AllocFailed};
@@ -19,9 +21,6 @@ pub enum CellFault {
 }
 
 impl From<AllocError> for CellFault {
-    ghost use Rattle.std.specs.Prelude.{◌≡◌};
-    ghost use Rattle.structures.specs.declared.fault.CellFault.TheVariants.{Memory};
-
     ghost from_gives = { λ _ e. e ≡ Memory };
 
     fn from(_e: AllocError) -> CellFault {
@@ -30,9 +29,6 @@ impl From<AllocError> for CellFault {
 }
 
 impl<T: Drop> From<AllocFailed<T>> for CellFault {
-    ghost use Rattle.std.specs.Prelude.{◌≡◌};
-    ghost use Rattle.structures.specs.declared.fault.CellFault.TheVariants.{Memory};
-
     ghost from_gives = { λ _ e. e ≡ Memory };
 
     fn from(_e: AllocFailed<T>) -> CellFault {

@@ -168,27 +168,19 @@ fn unbounds_of(alloc: Global, value: &Value) -> Made<Vec<UnboundRelationship>>
     Ok(relationships)
 }
 
-#[cycle(read)]
-fn properties_in(alloc: Global, value: &Value) -> Made<Vec<(String, Cell)>>
-    requires { IsSound (tree value.now) }
-    ensures { IfOk result (λ v. ReadsAs Field.Properties (tree value.now)
-        (dict (entries_of (entries v.items)))) }
-{
-    match value {
-        Value::Dict(pairs) => pairs_of(alloc, pairs),
-        _ => Ok(Vec::new(alloc)),
-    }
-}
-
 /// The entries in a field, none where it holds no dictionary.
 #[cycle(read)]
+#[tactic(auto, using(crate::proofs::Got::at_some, crate::proofs::Got::at_none, packstream::specs::declared::value::Value::the_lemmas))]
 fn properties_of(alloc: Global, fields: &Vec<Value>, i: usize) -> Made<Vec<(String, Cell)>>
     requires { AreSound fields.now.items }
     ensures { IfOk result (λ v. ReadsAt Field.Properties fields.now.items i
         (dict (entries_of (entries v.items)))) }
 {
     match fields.get(i) {
-        Some(value) => properties_in(alloc, value),
+        Some(value) => match value {
+            Value::Dict(pairs) => pairs_of(alloc, pairs),
+            _ => Ok(Vec::new(alloc)),
+        },
         None => Ok(Vec::new(alloc)),
     }
 }

@@ -38,18 +38,6 @@ fn list_of_texts(alloc: Global, texts: &Vec<String>) -> Made<Value>
     Ok(Value::List(members))
 }
 
-/// A number, then floats.
-fn of_point(alloc: Global, tag: u8, srid: i64, floats: &[u64]) -> Made<Value>
-    ensures { IfOk result (λ w. tree w
-        ≡ structure tag (tree_then (int srid) (trees_of (map float floats.now)))) }
-{
-    let mut fields = vec![in alloc; Value::Int(srid)]?;
-    for bits in floats {
-        fields.push(Value::Float(*bits))?;
-    }
-    Ok(Value::Struct(tag, fields))
-}
-
 /// Two numbers and a zone.
 fn of_zoned(alloc: Global, tag: u8, seconds: i64, nanos: i64, zone: &String) -> Made<Value>
     ensures { IfOk result (λ w. tree w
@@ -141,8 +129,15 @@ pub(crate) fn value_of(scope: Scope, cell: &Cell) -> Made<Value>
             seconds,
             nanos,
         } => of_ints(alloc, tags::DURATION, &[*months, *days, *seconds, *nanos]),
-        Cell::Point2D { srid, x, y } => of_point(alloc, tags::POINT_2D, *srid, &[*x, *y]),
-        Cell::Point3D { srid, x, y, z } => of_point(alloc, tags::POINT_3D, *srid, &[*x, *y, *z]),
+        Cell::Point2D { srid, x, y } => {
+            let fields = vec![in alloc; Value::Int(*srid), Value::Float(*x), Value::Float(*y)]?;
+            Ok(Value::Struct(tags::POINT_2D, fields))
+        }
+        Cell::Point3D { srid, x, y, z } => {
+            let (srid, x) = (Value::Int(*srid), Value::Float(*x));
+            let fields = vec![in alloc; srid, x, Value::Float(*y), Value::Float(*z)]?;
+            Ok(Value::Struct(tags::POINT_3D, fields))
+        }
     }
 }
 
@@ -182,8 +177,7 @@ fn node_value(scope: Scope, node: &Node) -> Made<Value>
     let id = Value::Int(node.id);
     let labels = list_of_texts(alloc, &node.labels)?;
     let properties = Value::Dict(pair_values(scope, &node.properties)?);
-    let value = of_named(alloc, tags::NODE, id, labels, properties, &node.element_id)?;
-    Ok(value)
+    Ok(of_named(alloc, tags::NODE, id, labels, properties, &node.element_id)?)
 }
 
 #[cycle(write)]
@@ -195,40 +189,7 @@ fn unbound_value(scope: Scope, unbound: &UnboundRelationship) -> Made<Value>
     let id = Value::Int(unbound.id);
     let kind = Value::Text(unbound.kind.clone()?);
     let properties = Value::Dict(pair_values(scope, &unbound.properties)?);
-    let value = of_named(alloc, tag, id, kind, properties, &unbound.element_id)?;
-    Ok(value)
-}
-
-/// Five fields, and the element ids if they are there.
-fn of_bound(
-    alloc: Global,
-    id: i64,
-    start: i64,
-    end: i64,
-    kind: Value,
-    properties: Value,
-    ids: &Option<ElementIds>,
-) -> Made<Value>
-    ensures { IfOk result (λ w. tree w
-        ≡ structure relationship_tag
-        (tree_then (int id) (tree_then (int start)
-        (tree_then (int end) (tree_then (tree kind)
-        (tree_then (tree properties) (elements_of ids.now))))))) }
-{
-    let (id, start, end) = (Value::Int(id), Value::Int(start), Value::Int(end));
-    match ids {
-        None => Ok(Value::Struct(
-            tags::RELATIONSHIP,
-            vec![in alloc; id, start, end, kind, properties]?,
-        )),
-        Some(ids) => {
-            let own = Value::Text(ids.own.clone()?);
-            let first = Value::Text(ids.start.clone()?);
-            let last = Value::Text(ids.end.clone()?);
-            let fields = vec![in alloc; id, start, end, kind, properties, own, first, last]?;
-            Ok(Value::Struct(tags::RELATIONSHIP, fields))
-        }
-    }
+    Ok(of_named(alloc, tag, id, kind, properties, &unbound.element_id)?)
 }
 
 #[cycle(write)]
@@ -236,12 +197,21 @@ fn relationship_value(scope: Scope, relationship: &Relationship) -> Made<Value>
     requires { Passes scope.version (relationship_shape relationship.now) }
     ensures { IfOk result (λ w. tree w ≡ form scope.version (relationship_shape relationship.now)) }
 {
-    let (id, start, end) = (relationship.id, relationship.start, relationship.end);
+    let (alloc, tag) = (scope.alloc, tags::RELATIONSHIP);
+    let id = Value::Int(relationship.id);
+    let (start, end) = (Value::Int(relationship.start), Value::Int(relationship.end));
     let kind = Value::Text(relationship.kind.clone()?);
     let properties = Value::Dict(pair_values(scope, &relationship.properties)?);
-    let ids = &relationship.element_ids;
-    let value = of_bound(scope.alloc, id, start, end, kind, properties, ids)?;
-    Ok(value)
+    match &relationship.element_ids {
+        None => Ok(Value::Struct(tag, vec![in alloc; id, start, end, kind, properties]?)),
+        Some(ids) => {
+            let own = Value::Text(ids.own.clone()?);
+            let first = Value::Text(ids.start.clone()?);
+            let last = Value::Text(ids.end.clone()?);
+            let fields = vec![in alloc; id, start, end, kind, properties, own, first, last]?;
+            Ok(Value::Struct(tag, fields))
+        }
+    }
 }
 
 #[cycle(write)]

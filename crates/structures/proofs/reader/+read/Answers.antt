@@ -2,7 +2,7 @@ use Rattle.std.proofs.Common.{◌≡◌, map, List, ◌∷◌, [], subst, ap, sy
 use Rattle.std.proofs.lemmas.List.Elements.{same_from_all_zip}
 use Rattle.std.proofs.lemmas.Result.{IfOk-weaker}
 use Rattle.structures.proofs.Prelude.{Tree, Trees, int, list, dict, structure, no_trees, tree_then, tree, trees, trees_of, entries_of, seen_entries, seen_entry, value_lemmas, the_lemmas, tree-List, tree-Dict, Integer, Text, Labels, Properties, Nodes, Relationships, Indices, fault, entries, text_of, texts_of, numbers_of, element_of, elements_of, node_shape, unbound_shape, shape-List, shape-Dict, path-roll, node-roll, unbound-roll, relationship-roll, relationship_parts, fine_pair, typed, has_tag, is_kind, IsSound, with_fields, AreSound}
-use Rattle.structures.proofs.Got.{typed_pairs, at_some, at_none, typed_list, sound_itself, sound_list, sound_dict, sound_struct, sound_member, sound_within, added_is, read_by, at_both, tag_at, tagged_at, read_next, list_read, path_length, path_kinds}
+use Rattle.structures.proofs.Got.{dict_read, at_some, typed_list, sound_itself, sound_list, sound_dict, sound_struct, sound_member, sound_within, added_is, read_by, at_both, tag_at, tagged_at, read_next, list_read, path_length, path_kinds}
 use Rattle.structures.proofs.reader.+read.Goals as goal
 
 pub cell_of-cells_of-requires : goal.cell_of-cells_of-requires
@@ -30,8 +30,7 @@ cell_of-returns-in_ok-cells_of-in-List t c =
     shape-List c.in_ok-cells_of-in-List.field-0 ∙ ap (λ (ts : List Tree). list (trees_of ts)) c.in_ok-cells_of-in-List.ensures ∙ ap list (sym (typed_list (trees c.in-List.members.items))) ∙ ap typed (sym (ap tree c.in-List.is ∙ tree-List c.in-List.members))
 
 pub cell_of-returns-in_ok-pairs_of-in-Dict : goal.cell_of-returns-in_ok-pairs_of-in-Dict
-cell_of-returns-in_ok-pairs_of-in-Dict t c =
-    shape-Dict c.in_ok-pairs_of-in-Dict.field-0 ∙ ap (λ es. dict (entries_of es)) c.in_ok-pairs_of-in-Dict.ensures ∙ ap dict (sym (typed_pairs (seen_entries c.in-Dict.pairs.items))) ∙ ap typed (sym (ap tree c.in-Dict.is ∙ tree-Dict c.in-Dict.pairs))
+cell_of-returns-in_ok-pairs_of-in-Dict t c = shape-Dict _ ∙ dict_read _ _ _ c.in-Dict.is c.in_ok-pairs_of-in-Dict.ensures
 
 pub structure_of-node_of-requires : goal.structure_of-node_of-requires
 structure_of-node_of-requires t c = (search (rules, value_lemmas), subst (λ m. IsSound (with_fields m c.args.fields.now.items)) c.in-78.is c.requires)
@@ -45,22 +44,14 @@ structure_of-relationship_of-requires t c = (search (rules, value_lemmas), subst
 pub structure_of-path_of-requires : goal.structure_of-path_of-requires
 structure_of-path_of-requires t c = (search (rules, value_lemmas), subst (λ m. IsSound (with_fields m c.args.fields.now.items)) c.in-80.is c.requires)
 
-pub properties_in-pairs_of-requires : goal.properties_in-pairs_of-requires
-properties_in-pairs_of-requires t c = (search (rules, value_lemmas), sound_dict _ c.in-Dict.pairs c.in-Dict.is c.requires)
+pub properties_of-pairs_of-requires : goal.properties_of-pairs_of-requires
+properties_of-pairs_of-requires t c =
+    (search (rules, value_lemmas), sound_dict _ c.in-Dict.pairs c.in-Dict.is (sound_member c.args.fields.now.items c.args.i c.in-Some.value.now (search rules) (search rules) c.requires))
 
-pub properties_in-returns-in-Dict : goal.properties_in-returns-in-Dict
-properties_in-returns-in-Dict t c =
-    IfOk-weaker c.pairs_of.result _ _ (λ v p h. ap (λ es. dict (entries_of es)) p ∙ ap dict (sym (typed_pairs (seen_entries c.in-Dict.pairs.items))) ∙ ap typed (sym (ap tree c.in-Dict.is ∙ tree-Dict c.in-Dict.pairs))) c.pairs_of.ensures
-
-pub properties_of-properties_in-requires : goal.properties_of-properties_in-requires
-properties_of-properties_in-requires t c =
-    (search (rules, value_lemmas), sound_member c.args.fields.now.items c.args.i c.in-Some.value.now (search rules) (search rules) c.requires)
-
-pub properties_of-returns-in-Some : goal.properties_of-returns-in-Some
-properties_of-returns-in-Some t c = rw (at_some c.args.fields.now.items c.args.i c.in-Some.value.now (search rules) (search rules)) c.properties_in.ensures
-
-pub properties_of-returns-in-None : goal.properties_of-returns-in-None
-properties_of-returns-in-None t c = rw (at_none c.args.fields.now.items c.args.i (search rules)) (λ h. cc)
+pub properties_of-returns-in-Dict : goal.properties_of-returns-in-Dict
+properties_of-returns-in-Dict t c =
+    let at = at_some c.args.fields.now.items c.args.i c.in-Some.value.now (search rules) (search rules) in
+    IfOk-weaker c.pairs_of.result _ _ (λ v p h. dict_read _ _ _ c.in-Dict.is p ∙ ap typed (sym at)) c.pairs_of.ensures
 
 pub node_of-properties_of-requires : goal.node_of-properties_of-requires
 node_of-properties_of-requires t c = (search (rules, value_lemmas), sound_within _ _ c.requires)

@@ -1,8 +1,8 @@
-use Rattle.std.proofs.Common.{◌≡◌, ℤ, List, map, ap, sym, ◌∙◌, rules, to_z, of_z, w64}
+use Rattle.std.proofs.Common.{◌≡◌, ℤ, List, None, Some, map, ap, sym, refl, ◌∙◌, rules}
 use Rattle.std.proofs.lemmas.List.Elements.{same_from_all_zip}
-use Rattle.structures.proofs.Prelude.{Tree, int, list, dict, trees_of, entries_of, value_lemmas, tree-List, tree-Dict, structures, all_fine, fault_of_structure, shape, shapes, entry, entries, node_shape, unbound_shape, fine_member, fine_pair, the_lemmas, out-Path, shape-List, shape-Dict, node-out, unbound-out, relationship-out, path-out, form}
+use Rattle.structures.proofs.Prelude.{Tree, text_of, texts_of, int, list, dict, trees_of, entries_of, value_lemmas, tree-List, tree-Dict, structures, all_fine, fault_of_structure, shape, shapes, entry, entries, node_shape, unbound_shape, fine_member, fine_pair, the_lemmas, out-Path, shape-List, shape-Dict, relationship_parts, node-out, unbound-out, relationship-out, path-out, form}
 use Rattle.cells.proofs.Judged.{node_fine, unbound_fine, relationship_fine, path_nodes_fine, path_unbounds_fine}
-use Rattle.structures.proofs.Fitted.{tree-Int, form_list, form_pairs, node_written, unbound_written, relationship_written, path_written}
+use Rattle.structures.proofs.Fitted.{form_list, form_pairs, form_texts, named_written, relationship_written, path_written}
 use Rattle.structures.proofs.writer.+write.Goals as goal
 
 pub value_of-returns-in_ok-clone-in-Bytes : goal.value_of-returns-in_ok-clone-in-Bytes
@@ -19,22 +19,22 @@ value_of-returns-in_ok-pair_values-in-Dict t c =
 pub node_value-returns : goal.node_value-returns
 node_value-returns t c =
     let n = c.args.node.now in
-    let z : to_z w64 (of_z w64 n.id) ≡ n.id = search rules in
-    c.in_ok-value.ensures ∙ node_written c.args.scope.version n.id n.labels.items n.properties.items n.element_id _ _ _ (tree-Int _ ∙ ap int z) c.in_ok-labels.ensures (tree-Dict c.in_ok-pair_values.field-0 ∙ ap (λ es. dict (entries_of es)) c.in_ok-pair_values.ensures) ∙ ap (form c.args.scope.version) (sym (node-out n))
+    named_written c.args.scope.version 0x4E n.id (texts_of n.labels.items) n.properties.items n.element_id _ refl (ap list (form_texts _ n.labels.items)) (search (rules, value_lemmas, tree-Dict, c.in_ok-of_named.ensures, c.in_ok-labels.ensures, c.in_ok-pair_values.ensures)) ∙ ap (form c.args.scope.version) (sym (node-out n))
 
 pub unbound_value-returns : goal.unbound_value-returns
 unbound_value-returns t c =
     let n = c.args.unbound.now in
-    let z : to_z w64 (of_z w64 n.id) ≡ n.id = search rules in
-    c.in_ok-value.ensures ∙ unbound_written c.args.scope.version n.id n.kind n.properties.items n.element_id _ _ _ (tree-Int _ ∙ ap int z) (search (rules, value_lemmas)) (tree-Dict c.in_ok-pair_values.field-0 ∙ ap (λ es. dict (entries_of es)) c.in_ok-pair_values.ensures) ∙ ap (form c.args.scope.version) (sym (unbound-out n))
+    named_written c.args.scope.version 0x72 n.id (text_of n.kind) n.properties.items n.element_id _ refl refl (search (rules, value_lemmas, tree-Dict, c.in_ok-of_named.ensures, c.in_ok-pair_values.ensures)) ∙ ap (form c.args.scope.version) (sym (unbound-out n))
 
-pub relationship_value-returns : goal.relationship_value-returns
-relationship_value-returns t c =
+pub relationship_value-returns-in_ok-vec-in-None : goal.relationship_value-returns-in_ok-vec-in-None
+relationship_value-returns-in_ok-vec-in-None t c =
     let n = c.args.relationship.now in
-    let z0 : to_z w64 (of_z w64 n.id) ≡ n.id = search rules in
-    let z1 : to_z w64 (of_z w64 n.start) ≡ n.start = search rules in
-    let z2 : to_z w64 (of_z w64 n.end) ≡ n.end = search rules in
-    rw (z0, z1, z2) at c.in_ok-value.ensures ∙ relationship_written c.args.scope.version n.id n.start n.end n.kind n.properties.items n.element_ids _ _ (search (rules, value_lemmas)) (tree-Dict c.in_ok-pair_values.field-0 ∙ ap (λ es. dict (entries_of es)) c.in_ok-pair_values.ensures) ∙ ap (form c.args.scope.version) (sym (relationship-out n))
+    relationship_written c.args.scope.version n.id n.start n.end n.kind n.properties.items None _ (search (rules, value_lemmas, tree-Dict, c.in_ok-pair_values.ensures)) ∙ ap (λ e. form c.args.scope.version (relationship_parts n.id n.start n.end n.kind n.properties.items e)) (sym c.in-None.is) ∙ ap (form c.args.scope.version) (sym (relationship-out n))
+
+pub relationship_value-returns-in_ok-fields-in-Some : goal.relationship_value-returns-in_ok-fields-in-Some
+relationship_value-returns-in_ok-fields-in-Some t c =
+    let n = c.args.relationship.now in
+    relationship_written c.args.scope.version n.id n.start n.end n.kind n.properties.items (Some c.in-Some.ids) _ (search (rules, value_lemmas, tree-Dict, c.in_ok-pair_values.ensures)) ∙ ap (λ e. form c.args.scope.version (relationship_parts n.id n.start n.end n.kind n.properties.items e)) (sym c.in-Some.is) ∙ ap (form c.args.scope.version) (sym (relationship-out n))
 
 pub path_value-returns : goal.path_value-returns
 path_value-returns t c =
