@@ -1,62 +1,15 @@
 -- What was read can be written. A value is read and a cell is written in one way, or refused for one fault; so what is answered, clause by clause, is one.
-use Rattle.std.proofs.Common.{◌≡◌, ℕ, List, [], ◌∷◌, length, Bool, true, false, cond, ◌&&◌, ◌==◌, None, is_none, Ok, Err, refl, sym, ap, ◌∙◌, eqb-true, eq-eqb, subst, inl, inr, ◌↔◌, Result, map, Vec, Global, String}
+use Rattle.std.proofs.Common.{◌≡◌, ℕ, List, [], ◌∷◌, length, Bool, true, false, cond, ◌&&◌, ◌==◌, None, is_none, Ok, Err, refl, sym, ap, arith, ◌∙◌, eqb-true, eq-eqb, subst, inl, inr, ◌↔◌, Result, map, Vec, Global, String}
 use Rattle.structures.proofs.Prelude.{Tree, list, dict, structure, Trees, no_trees, tree_then, Entries, no_entries, entry_then, count, IsGood, tree, trees, trees_of, entries_of, seen_entries, Value, ListValue, DictValue, tree-List, tree-Dict, Version, V44, Field, Reason, NotInVersion, Range, PathShape, kinds, first_failed, to_utc, are_in_range, is_path, fault, structures, structures_in, structures_under, scan, IsBad, IsFine, all_fine, moment_tag, fault_of_structure, fault_of_structure_by, IsWritable, IsUnwritable, shape, shapes, entries, both_true, scan_fine, fine_scan, fine_append, fine_itself, fine_within, fine_left, fine_right, Form, typed, typed_all, typed_under, form, HasOneReading, HasOneWriting, Reads, Writes, HasGoodForm, HasBadForm, Gave, UnlessMemory, IsUnpacked, Packs, form_entry, typed_shape, shapes_typed, pairs_typed, Cell, PackReason, CellFault}
 use Rattle.cells.proofs.Scanning.{Found}
-use Rattle.structures.proofs.Got.{passed, fine_at, row_of, of_local}
-use Rattle.structures.proofs.Formed.{ranges_typed, count_typed, path_typed, again, form_is, packed_is}
+use Rattle.structures.proofs.Formed.{read_again, again, form_is, packed_is}
 use Rattle.structures.proofs.Fitted.{form_list, form_pairs}
 use Rattle.packstream.proofs.Checking.{bad_when}
 use Rattle.structures.specs.declared.fault.CellFault.TheVariants as told
 
--- the tag that reading gave is written as it was
-tag_back : (v : Version) (tag : ℕ) (ts : Trees) (b : Bool) → (tag == 0x49) ≡ b → fault v tag ts ≡ None → cond b (moment_tag v) tag ≡ tag
-tag_back V44 tag ts true e h = absurd (let g : fault V44 0x49 ts ≡ None = subst (λ m. fault V44 m ts ≡ None) (eqb-true _ _ e) h in cc)
-tag_back v tag ts false e h = refl
-tag_back v tag ts b e h = sym (eqb-true _ _ e)
-
-passes_by : (ks : List Field) (tag : ℕ) (us : Trees) (a b d : Bool) → (count us == length ks) ≡ a → are_in_range ks us ≡ b → cond (tag == 0x50) (is_path us) true ≡ d
-    → fault_of_structure_by (Ok ks) tag us ≡ first_failed ((a, NotInVersion) ∷ (b, Range) ∷ (d, PathShape) ∷ [])
-passes_by ks tag us a b d ea eb ed = rw (ea, eb, ed) refl
-
-plain_writable : (v : Version) (tag : ℕ) (ts : Trees) → (tag == 0x46) ≡ false → fault v tag ts ≡ None → fault_of_structure v tag (typed_all ts) ≡ None
-plain_writable v tag ts n h =
-    let k = row_of v tag ts h in
-    let p = passed v tag ts k.0 k.1 h in
-    let ranged = ranges_typed k.0 ts ∙ ap (λ c. are_in_range k.0 (cond c (to_utc ts) ts)) (sym n) ∙ p.ranged in
-    ap (λ m. fault_of_structure_by (kinds v m) tag (typed_all ts)) (tag_back v tag ts (tag == 0x49) refl h) ∙ ap (λ r. fault_of_structure_by r tag (typed_all ts)) k.1
-    ∙ passes_by k.0 tag (typed_all ts) true true true (eq-eqb _ _ (count_typed ts ∙ p.counted)) ranged
-    (ap (λ x. cond (tag == 0x50) x true) (path_typed ts) ∙ p.shaped)
-
--- local seconds that were brought to UTC
-moment_writable : (v : Version) (ts : Trees) → fault v 0x46 ts ≡ None → all_fine (fault_of_structure v) (structures (structure 0x49 (to_utc (typed_all ts)))) ≡ true
-moment_writable = of_local (λ w us. all_fine (fault_of_structure w) (structures (structure 0x49 (to_utc (typed_all us)))) ≡ true) (λ a b d h.
-    ap (λ x. is_none (first_failed ((true, NotInVersion) ∷ (x, Range) ∷ (true, PathShape) ∷ [])) && true) h)
-
-structure_writable : (v : Version) (tag : ℕ) (ts : Trees) (b : Bool) → (tag == 0x46) ≡ b → fault v tag ts ≡ None → all_fine (fault_of_structure v) (structures_in (typed_all ts)) ≡ true
-    → all_fine (fault_of_structure v) (structures (structure (cond b 0x49 tag) (cond b (to_utc (typed_all ts)) (typed_all ts)))) ≡ true
-structure_writable v tag ts true e h i = moment_writable v ts (fine_at v tag 0x46 ts (eqb-true _ _ e) h)
-structure_writable v tag ts false e h i = both_true _ _ (ap is_none (plain_writable v tag ts e h)) i
-
-mutual
-  pub writable : (v : Version) (t : Tree) → all_fine (fault v) (structures t) ≡ true → all_fine (fault_of_structure v) (structures (typed t)) ≡ true
-  writable v (list ts) h = writable_all v ts h
-  writable v (dict es) h = writable_under v es h
-  writable v (structure tag ts) h = structure_writable v tag ts (tag == 0x46) refl (fine_itself (fault v) tag ts h) (writable_all v ts (fine_within (fault v) tag ts h))
-  writable v t h = refl
-
-  pub writable_all : (v : Version) (ts : Trees) → all_fine (fault v) (structures_in ts) ≡ true → all_fine (fault_of_structure v) (structures_in (typed_all ts)) ≡ true
-  writable_all v no_trees h = refl
-  writable_all v (tree_then t ts) h =
-      fine_append (fault_of_structure v) (structures (typed t)) (structures_in (typed_all ts)) ∙ both_true _ _ (writable v t (fine_left (fault v) (structures t) (structures_in ts) h)) (writable_all v ts (fine_right (fault v) (structures t) (structures_in ts) h))
-
-  pub writable_under : (v : Version) (es : Entries) → all_fine (fault v) (structures_under es) ≡ true → all_fine (fault_of_structure v) (structures_under (typed_under es)) ≡ true
-  writable_under v no_entries h = refl
-  writable_under v (entry_then k t es) h =
-      fine_append (fault_of_structure v) (structures (typed t)) (structures_under (typed_under es)) ∙ both_true _ _ (writable v t (fine_left (fault v) (structures t) (structures_under es) h)) (writable_under v es (fine_right (fault v) (structures t) (structures_under es) h))
-
 -- what was read can be written
 pub read_writable : (v : Version) (s t : Tree) → Form v s t → IsWritable v s
-read_writable v s t f = subst (IsWritable v) (sym f.1) (scan_fine (fault_of_structure v) 0 (structures (typed t)) (writable v t (fine_scan (fault v) 0 f.0.0 (structures t) f.0.1)))
+read_writable v s t f = subst (IsWritable v) (sym f.1) (scan_fine (fault_of_structure v) 0 (structures (typed t)) (read_again v t (fine_scan (fault v) 0 f.0.0 (structures t) f.0.1)).1)
 
 pub never_unwritable : (v : Version) (s t : Tree) (k : ℕ) (r : Reason) → Form v s t → IsUnwritable v s k r → ⊥
 never_unwritable v s t k r f u = let w = read_writable v s t f in let both : ◌≡◌ {A = Found} (Ok w.0) (Err (r, k)) = sym w.1 ∙ u in cc
@@ -146,22 +99,11 @@ module _ (v : Version) (s : Tree) where
   both_forms t g q o h = good_or_not t q o g.good (unpacked_of t g.formed q o h)
 
   pub writes_value : (r : Result Tree CellFault) → Writes v s r → (t : Tree) → UnlessMemory r ((r ≡ Ok t) ↔ HasGoodForm v s t)
-  writes_value (Ok u) w t = (
-    (λ e. subst (λ r. Writes v s r) e w),
-    (λ h. ap (λ x. Ok x) (same_form v s u t w.formed h.formed)),
-  )
-  writes_value (Err (told.Refused q k)) w t = ((λ e. absurd cc), (λ h. absurd (never_both v s k q h.writable w)))
-  writes_value (Err told.Memory) w t = tt
-  writes_value (Err (told.Pack q o)) w t = ((λ e. absurd cc), (λ h. absurd (both_forms t h q o w)))
+  writes_value (Ok u) w t = ((λ e. subst (λ r. Writes v s r) e w), (λ h. ap (λ x. Ok x) (same_form v s u t w.formed h.formed)))
+  writes_value r w t = grind (arith, never_both, both_forms)
 
   pub writes_pack : (r : Result Tree CellFault) → Writes v s r → (q : PackReason) (o : ℕ) → UnlessMemory r ((r ≡ Err (told.Pack q o)) ↔ HasBadForm v s q o)
-  writes_pack (Ok u) w q o = ((λ e. absurd cc), (λ h. absurd (both_forms u w q o h)))
-  writes_pack (Err (told.Refused p j)) w q o = ((λ e. absurd cc), (λ h. absurd (never_both v s j p h.writable w)))
-  writes_pack (Err told.Memory) w q o = tt
-  writes_pack (Err (told.Pack p i)) w q o = (
-    (λ e. subst (λ r. Writes v s r) e w),
-    (λ h. one_unpacked w.value p q i o w.unpacked (unpacked_of w.value w.formed q o h)),
-  )
+  writes_pack r w q o = grind (arith, never_both, both_forms, one_unpacked, unpacked_of)
 
   -- the clauses are all
   pub writes_by : (r : Result Tree CellFault) → ((t : Tree) → UnlessMemory r ((r ≡ Ok t) ↔ HasGoodForm v s t))

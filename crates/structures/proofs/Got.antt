@@ -2,7 +2,7 @@
 use Rattle.std.proofs.Common.{◌≡◌, ◌++◌, take, ℤ, pos, neg_ℤ, ◌-ℤ◌, ◌≤ℤ◌, int_le, ℕ, suc, zero, ◌+◌, ◌<◌, ◌≤◌, List, [], ◌∷◌, map, length, get_or, append-nil, length-append, add-one, Bool, true, false, ◌&&◌, ◌==◌, cond, Option, Some, None, Result, Ok, Err, refl, sym, ap, ◌∙◌, arith, eqb-true, subst, Vec, Global, String}
 use Rattle.std.proofs.lemmas.Int.{ints}
 use Rattle.std.proofs.lemmas.List.{map_push, take_all}
-use Rattle.structures.proofs.Prelude.{Nodes, Relationships, Indices, Tree, null, int, list, dict, structure, Trees, no_trees, tree_then, entry_then, count, tree, trees, trees_of, entries_of, seen_entries, Value, ListValue, DictValue, StructValue, len_trees, tree-List, tree-Dict, tree-Struct, Version, V44, has_element_ids, every_version, Field, Reason, NotInVersion, row, row_in, table, fields_in, fields_at, fields_of, kinds, moment_fields, to_utc, each, is_kind, are_kinds, are_in_range, utc_fields, is_path, wrong, fault, fault_by, has_tag, is_list_of, and_left, and_right, shape-Date, shape-Time, shape-LocalTime, shape-LocalDateTime, shape-DateTime, Pair, entries, fine_itself, fine_within, fine_member, typed, typed_all, typed_under, three, tree_at, Got, Follows, typed_entry, IsSound, AreSound, with_fields}
+use Rattle.structures.proofs.Prelude.{Nodes, Relationships, Indices, Tree, null, int, list, dict, structure, Trees, no_trees, tree_then, entry_then, count, tree, trees, trees_of, entries_of, seen_entries, Value, ListValue, DictValue, StructValue, len_trees, tree-List, tree-Dict, tree-Struct, Version, V44, has_element_ids, every_version, Field, Reason, NotInVersion, row, row_in, table, fields_in, fields_at, fields_of, kinds, moment_fields, to_utc, each, is_kind, are_kinds, are_in_range, utc_fields, is_path, first_failed, fault_is, fault, fault_by, has_tag, is_list_of, and_left, and_right, shape-Date, shape-Time, shape-LocalTime, shape-LocalDateTime, shape-DateTime, Pair, entries, fine_itself, fine_within, fine_member, typed, typed_all, typed_under, three, tree_at, Got, Follows, typed_entry, IsSound, AreSound, with_fields}
 use Rattle.structures.specs.Fitting.{trees_in_order}
 
 pub at_some : (xs : List Value) (i : ℕ) (d : Value) → i < length xs → d ≡ get_or xs i d → tree_at i (trees_of (trees xs)) ≡ tree d
@@ -29,9 +29,9 @@ fields_are (k ∷ ks) (tree_then u us) (tree_then t ts) n m h g =
     ap (λ x. tree_then x us) e ∙ ap (λ x. tree_then (typed t) x) r
 fields_are ks us ts n m h g = absurd cc
 
-pub first_none : (p : Bool) (r : Reason) (rest : Option Reason) → cond p rest (Some r) ≡ None → (p ≡ true) × (rest ≡ None)
-first_none true r rest h = (refl, h)
-first_none false r rest h = absurd cc
+-- tests that all pass
+pub all_pass : (a b d e : Bool) (q r s u : Reason) → first_failed ((a, q) ∷ (b, r) ∷ (d, s) ∷ (e, u) ∷ []) ≡ None → (a ≡ true) × (b ≡ true) × (d ≡ true) × (e ≡ true)
+all_pass a b d e q r s u h = grind arith
 
 pub record Passed (ks : List Field) (tag : ℕ) (ts : Trees) : Type 0 where
   pub counted : count ts ≡ length ks
@@ -41,20 +41,12 @@ pub record Passed (ks : List Field) (tag : ℕ) (ts : Trees) : Type 0 where
 
 pub passed : (v : Version) (tag : ℕ) (ts : Trees) (ks : List Field) → kinds v tag ≡ Ok ks → fault v tag ts ≡ None → Passed ks tag ts
 passed v tag ts ks e h =
-    let w : wrong ks tag ts ≡ None = sym (ap (λ r. fault_by r tag ts) e) ∙ h in
-    let a = first_none (count ts == length ks) _ _ w in
-    let b = first_none (are_kinds ks ts) _ _ a.1 in
-    let d = first_none (are_in_range ks (utc_fields tag ts)) _ _ b.1 in
-    let s = first_none (cond (tag == 0x50) (is_path ts) true) _ _ d.1 in
-    record { counted = eqb-true _ _ a.0; kinded = b.0; ranged = d.0; shaped = s.0 }
-
-stood_by : (b : Bool) (fs ks : List Field) → ◌≡◌ {A = Result (List Field) Reason} (cond b (Ok fs) (Err NotInVersion)) (Ok ks) → (b ≡ true) × (ks ≡ fs)
-stood_by true fs ks e = let same : fs ≡ ks = cc in (refl, sym same)
-stood_by false fs ks e = absurd cc
+    let p = all_pass (count ts == length ks) (are_kinds ks ts) (are_in_range ks (utc_fields tag ts)) (cond (tag == 0x50) (is_path ts) true) _ _ _ _ (sym (fault_is v tag ts ks e) ∙ h) in
+    record { counted = eqb-true _ _ p.0; kinded = p.1; ranged = p.2; shaped = p.3 }
 
 -- a row that has fields at a version stands there
 pub stood : (v : Version) (s : Version → Bool) (fs more ks : List Field) → fields_at v s fs more ≡ Ok ks → (s v ≡ true) × (ks ≡ fields_in v fs more)
-stood v s fs more ks e = stood_by (s v) (fields_in v fs more) ks e
+stood v s fs more ks e = grind arith
 
 -- a row that stands at a version has its fields there
 pub stands_is : (v : Version) (s : Version → Bool) (fs more : List Field) → s v ≡ true → fields_at v s fs more ≡ Ok (fields_in v fs more)
@@ -62,19 +54,11 @@ stands_is v s fs more h = ap (λ b. cond b (Ok (fields_in v fs more)) (Err NotIn
 
 -- a structure without a fault has a row
 pub row_of : (v : Version) (tag : ℕ) (ts : Trees) → fault v tag ts ≡ None → (ks : List Field) × (kinds v tag ≡ Ok ks)
-row_of v tag ts h = go (kinds v tag) refl
-  where
-    go : (r : Result (List Field) Reason) → kinds v tag ≡ r → (ks : List Field) × (kinds v tag ≡ Ok ks)
-    go (Ok ks) e = (ks, e)
-    go (Err x) e = absurd (let g = sym (ap (λ r. fault_by r tag ts) e) ∙ h in cc)
+row_of v tag ts = elim (kinds v tag) as (λ r. fault_by r tag ts ≡ None → (ks : List Field) × (r ≡ Ok ks)) [ Ok ks ↦ λ h. (ks, refl) | Err x ↦ λ h. absurd cc ]
 
 -- the fields of a row that adds none, at a version where it stands
 at_row : (v : Version) (tag : ℕ) (stands : Version → Bool) (fs : List Field) → row_in tag table ≡ Some (row tag stands fs []) → stands v ≡ true → kinds v tag ≡ Ok fs
-at_row v tag stands fs e s = ap (fields_of v) e ∙ stands_is v stands fs [] s ∙ ap Ok (go (has_element_ids v))
-  where
-    go : (b : Bool) → cond b (fs ++ []) fs ≡ fs
-    go true = append-nil fs
-    go false = refl
+at_row v tag stands fs e s = ap (fields_of v) e ∙ stands_is v stands fs [] s ∙ ap Ok (elim (has_element_ids v) as (λ b. cond b (fs ++ []) fs ≡ fs) [ true ↦ append-nil fs | false ↦ refl ])
 
 pub at_both : (v : Version) (tag : ℕ) (fs : List Field) → row_in tag table ≡ Some (row tag every_version fs []) → kinds v tag ≡ Ok fs
 at_both v tag fs e = at_row v tag every_version fs e refl
@@ -210,12 +194,13 @@ path_passed xs s = passed s.version 0x50 (trees_of (trees xs)) _ (at_both s.vers
 pub path_length : (xs : List Value) → IsSound (with_fields 0x50 xs) → length xs ≡ 3
 path_length xs s = sym (len_trees xs) ∙ (path_passed xs s).counted
 
+-- the fields of a path, by their kinds
+pub kinds_at : (ts : Trees) → count ts ≡ 3 → are_kinds (Nodes ∷ Relationships ∷ Indices ∷ []) ts ≡ true → (is_kind Nodes (tree_at 0 ts) ≡ true) × (is_kind Relationships (tree_at 1 ts) ≡ true) × (is_kind Indices (tree_at 2 ts) ≡ true)
+kinds_at (tree_then a (tree_then b (tree_then d ts))) n h = (and_left _ _ h, and_left _ _ (and_right _ _ h), and_left _ _ (and_right _ _ (and_right _ _ h)))
+kinds_at ts n h = absurd cc
+
 pub path_kinds : (xs : List Value) → IsSound (with_fields 0x50 xs) → (is_kind Nodes (tree_at 0 (trees_of (trees xs))) ≡ true) × (is_kind Relationships (tree_at 1 (trees_of (trees xs))) ≡ true) × (is_kind Indices (tree_at 2 (trees_of (trees xs))) ≡ true)
 path_kinds xs s = kinds_at (trees_of (trees xs)) (path_passed xs s).counted (path_passed xs s).kinded
-  where
-    kinds_at : (ts : Trees) → count ts ≡ 3 → are_kinds (Nodes ∷ Relationships ∷ Indices ∷ []) ts ≡ true → (is_kind Nodes (tree_at 0 ts) ≡ true) × (is_kind Relationships (tree_at 1 ts) ≡ true) × (is_kind Indices (tree_at 2 ts) ≡ true)
-    kinds_at (tree_then a (tree_then b (tree_then d ts))) n h = (and_left _ _ h, and_left _ _ (and_right _ _ h), and_left _ _ (and_right _ _ (and_right _ _ h)))
-    kinds_at ts n h = absurd cc
 
 got_append : (i n : ℕ) (fs more : List Field) (us es ts : Trees) → n ≡ i + length fs → count us ≡ length fs → Got i fs us ts → Got n more es ts → Got i (fs ++ more) (trees_in_order us es) ts
 got_append i n [] more no_trees es ts e c g h = subst (λ m. Got m more es ts) (let same : n ≡ i = omega (arith, e) in same) h

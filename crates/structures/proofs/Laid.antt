@@ -4,8 +4,8 @@ use Rattle.std.proofs.lemmas.Int.{ints}
 use Rattle.std.proofs.lemmas.Bool.{leb-true, le-leb, ltb-true, lt-ltb}
 use Rattle.structures.proofs.Prelude.{Tree, int, float, text, list, dict, structure, Trees, no_trees, tree_then, null, boolean, byte_string, Entries, no_entries, entry_then, count, Version, Field, Integer, Nanosecond, DayNanosecond, Offset, UtcSecond, Float, Text, Labels, Properties, Nodes, Relationships, Indices, has_element_ids, Row, table, row_in, fields_of, kinds, is_int, is_text, has_tag, each, is_kind, are_kinds, in_range, are_in_range, is_relationship, is_walk, is_path, moment_fields, to_utc, fault, structures, structures_in, structures_under, all_fine, and_left, and_right, both_true, three, Form, typed, typed_all, typed_under, V44, fault_is, wrong_is, fine_scan, scan_fine, fine_append, fine_itself, fine_within, fine_left, fine_right}
 use Rattle.structures.specs.Prelude.{AreMade, none_made, then_made, OfKind, any_whole, within_second, within_day, within_offset, within_utc, any_number, any_text, any_labels, any_properties, any_nodes, any_relationships, any_indices, OfKinds, no_kinds, then_kind, Walks, no_steps, then_step, IsShaped, no_path, a_path, HasRow, row_alone, row_with_ids, IsForm, of_null, of_boolean, of_int, of_float, of_bytes, of_text, of_list, of_dict, of_structure, of_local_seconds, AreForms, no_forms, then_form, HaveForms, no_entry_forms, then_entry_form}
-use Rattle.structures.proofs.Got.{between, of_local, stood, stands_is, row_of, passed, at_both}
-use Rattle.structures.proofs.Formed.{there_and_back, back_and_there, of_path}
+use Rattle.structures.proofs.Got.{between, of_local, stood, stands_is, row_of, passed, at_both, kinds_at}
+use Rattle.structures.proofs.Formed.{there_and_back, back_and_there}
 use Rattle.std.proofs.lemmas.List.{length-append}
 
 -- A number in a range passes its test.
@@ -23,36 +23,20 @@ made_pass : {A : Type 0} (make : A → Tree) (p : Tree → Bool) → ((x : A) �
 made_pass make p f _ none_made = refl
 made_pass make p f _ (then_made x ts h) = both_true _ _ (f x) (made_pass make p f ts h)
 
-an_int : (t : Tree) → is_int t ≡ true → (z : ℤ) × (t ≡ int z)
-an_int (int z) h = (z, refl)
-an_int t h = absurd cc
-
-a_text_is : (t : Tree) → is_text t ≡ true → (s : List ℕ) × (t ≡ text s)
-a_text_is (text s) h = (s, refl)
-a_text_is t h = absurd cc
-
-a_structure : (k : ℕ) (t : Tree) → has_tag k t ≡ true → (ts : Trees) × (t ≡ structure k ts)
-a_structure k (structure tag ts) h = (ts, ap (λ n. structure n ts) (eqb-true _ _ h))
-a_structure k t h = absurd cc
-
 -- What a field of a kind holds.
-from_int : (k : Field) (t : Tree) → is_int t ≡ true → in_range k t ≡ true → ((z : ℤ) → in_range k (int z) ≡ true → OfKind k (int z)) → OfKind k t
-from_int k (int z) h r f = f z r
-from_int k t h r f = absurd cc
-
 kind_laid : (k : Field) (t : Tree) → is_kind k t ≡ true → in_range k t ≡ true → OfKind k t
-kind_laid Integer t h r = from_int Integer t h r (λ z b. any_whole z)
-kind_laid Nanosecond t h r = from_int Nanosecond t h r (λ z b. let p = between (pos 0) (pos 999999999) z b in within_second z p.0 p.1)
-kind_laid DayNanosecond t h r = from_int DayNanosecond t h r (λ z b. let p = between (pos 0) (pos 86399999999999) z b in within_day z p.0 p.1)
-kind_laid Offset t h r = from_int Offset t h r (λ z b. let p = between (neg_ℤ (pos 64800)) (pos 64800) z b in within_offset z p.0 p.1)
-kind_laid UtcSecond t h r = from_int UtcSecond t h r (λ z b. let p = between (neg_ℤ (pos 100000000000000000)) (pos 100000000000000000) z b in within_utc z p.0 p.1)
+kind_laid Integer (int z) h r = any_whole z
+kind_laid Nanosecond (int z) h r = let p = between (pos 0) (pos 999999999) z r in within_second z p.0 p.1
+kind_laid DayNanosecond (int z) h r = let p = between (pos 0) (pos 86399999999999) z r in within_day z p.0 p.1
+kind_laid Offset (int z) h r = let p = between (neg_ℤ (pos 64800)) (pos 64800) z r in within_offset z p.0 p.1
+kind_laid UtcSecond (int z) h r = let p = between (neg_ℤ (pos 100000000000000000)) (pos 100000000000000000) z r in within_utc z p.0 p.1
 kind_laid Float (float n) h r = any_number n
 kind_laid Text (text s) h r = any_text s
-kind_laid Labels (list ts) h r = any_labels ts (made text is_text a_text_is ts h)
+kind_laid Labels (list ts) h r = any_labels ts (made text is_text (elim [ text s ↦ λ g. (s, refl) | t ↦ λ g. absurd cc ]) ts h)
 kind_laid Properties (dict es) h r = any_properties es
-kind_laid Nodes (list ts) h r = any_nodes ts (made (structure 0x4E) (has_tag 0x4E) (a_structure 0x4E) ts h)
-kind_laid Relationships (list ts) h r = any_relationships ts (made (structure 0x72) (has_tag 0x72) (a_structure 0x72) ts h)
-kind_laid Indices (list ts) h r = any_indices ts (made int is_int an_int ts h)
+kind_laid Nodes (list ts) h r = any_nodes ts (made (structure 0x4E) (has_tag 0x4E) (elim [ structure tag us ↦ λ g. (us, ap (λ n. structure n us) (eqb-true tag 0x4E g)) | t ↦ λ g. absurd cc ]) ts h)
+kind_laid Relationships (list ts) h r = any_relationships ts (made (structure 0x72) (has_tag 0x72) (elim [ structure tag us ↦ λ g. (us, ap (λ n. structure n us) (eqb-true tag 0x72 g)) | t ↦ λ g. absurd cc ]) ts h)
+kind_laid Indices (list ts) h r = any_indices ts (made int is_int (elim [ int z ↦ λ g. (z, refl) | t ↦ λ g. absurd cc ]) ts h)
 kind_laid k t h r = absurd cc
 
 kind_is : (k : Field) (t : Tree) → OfKind k t → (is_kind k t ≡ true) × (in_range k t ≡ true)
@@ -99,8 +83,10 @@ walk_is n m _ no_steps = refl
 walk_is n m _ (then_step z i ts a b d w) = both_true _ _ (both_true _ _ (lt-ltb 0 (nat_abs z) a) (le-leb _ _ b)) (both_true _ _ (lt-ltb i n d) (walk_is n m ts w))
 
 path_laid : (ts : Trees) → count ts ≡ 3 → are_kinds (Nodes ∷ Relationships ∷ Indices ∷ []) ts ≡ true → is_path ts ≡ true → IsShaped 0x50 ts
-path_laid = of_path (λ us. is_path us ≡ true → IsShaped 0x50 us) (λ a b d i h.
-    a_path a b d (ltb-true 0 (count a) (and_left (nat_lt 0 (count a)) _ h)) (walk_laid (count a) (count b) d i (and_right (nat_lt 0 (count a)) _ h)))
+path_laid (tree_then (list a) (tree_then (list b) (tree_then (list d) no_trees))) n k h =
+    a_path a b d (ltb-true 0 (count a) (and_left (nat_lt 0 (count a)) _ h)) (walk_laid (count a) (count b) d (kinds_at (tree_then (list a) (tree_then (list b) (tree_then (list d) no_trees))) n k).2 (and_right (nat_lt 0 (count a)) _ h))
+path_laid (tree_then t (tree_then u (tree_then w (tree_then x ts)))) n k h = absurd (omega (arith, n))
+path_laid ts n k h = absurd (let p = kinds_at ts n k in cc)
 
 shaped_is : (tag : ℕ) (ts : Trees) → IsShaped tag ts → cond (tag == 0x50) (is_path ts) true ≡ true
 shaped_is _ _ (no_path tag ts n) = ap (λ b. cond b (is_path ts) true) (ne_eqb tag 0x50 n)
@@ -119,22 +105,16 @@ each_in P (q ∷ rs) r f (suc k, lt, is) = each_in P rs r f.1 (k, omega (arith, 
 
 -- is found by its tag, and has at most fifteen fields
 abbrev IsFound : Row → Type 0
-IsFound r = row_in r.tag table ≡ Some r
-
-abbrev IsShort : Row → Type 0
-IsShort r = nat_le (length r.fields + length r.added) 15 ≡ true
+IsFound r = (row_in r.tag table ≡ Some r) × (nat_le (length r.fields + length r.added) 15 ≡ true)
 
 found : Each IsFound table
-found = (refl, (refl, (refl, (refl, (refl, (refl, (refl, (refl, (refl, (refl, (refl, (refl, (refl, (refl, (refl, tt)))))))))))))))
-
-short : Each IsShort table
-short = (refl, (refl, (refl, (refl, (refl, (refl, (refl, (refl, (refl, (refl, (refl, (refl, (refl, (refl, (refl, tt)))))))))))))))
+found = assumption
 
 row_is : (v : Version) (tag : ℕ) (ks : List Field) → HasRow v tag ks → kinds v tag ≡ Ok ks
 row_is v _ _ (row_alone r c s n) =
-    ap (fields_of v) (each_in IsFound table r found c) ∙ stands_is v r.stands r.fields r.added s ∙ ap (λ b. Ok (cond b (r.fields ++ r.added) r.fields)) n
+    ap (fields_of v) (each_in IsFound table r found c).0 ∙ stands_is v r.stands r.fields r.added s ∙ ap (λ b. Ok (cond b (r.fields ++ r.added) r.fields)) n
 row_is v _ _ (row_with_ids r c s n) =
-    ap (fields_of v) (each_in IsFound table r found c) ∙ stands_is v r.stands r.fields r.added s ∙ ap (λ b. Ok (cond b (r.fields ++ r.added) r.fields)) n
+    ap (fields_of v) (each_in IsFound table r found c).0 ∙ stands_is v r.stands r.fields r.added s ∙ ap (λ b. Ok (cond b (r.fields ++ r.added) r.fields)) n
 
 by_tag : (tag : ℕ) (q r : Row) (rs : List Row) (b : Bool) → (tag == q.tag) ≡ b → (row_in tag rs ≡ Some r → Contains rs r × (r.tag ≡ tag)) → cond b (Some q) (row_in tag rs) ≡ Some r → Contains (q ∷ rs) r × (r.tag ≡ tag)
 by_tag tag q r rs true w k e =
@@ -161,8 +141,8 @@ row_laid : (v : Version) (tag : ℕ) (ks : List Field) → kinds v tag ≡ Ok ks
 row_laid v tag ks h = row_by v tag ks (row_in tag table) refl h
 
 few_in : (v : Version) (tag : ℕ) (ks : List Field) → HasRow v tag ks → length ks ≤ 15
-few_in v _ _ (row_alone r c s n) = omega (arith, leb-true _ _ (each_in IsShort table r short c))
-few_in v _ _ (row_with_ids r c s n) = omega (arith, leb-true _ _ (each_in IsShort table r short c), length-append r.fields r.added)
+few_in v _ _ (row_alone r c s n) = omega (arith, leb-true _ _ (each_in IsFound table r found c).1)
+few_in v _ _ (row_with_ids r c s n) = omega (arith, leb-true _ _ (each_in IsFound table r found c).1, length-append r.fields r.added)
 
 -- a structure without a fault has at most fifteen fields
 pub few_fields : (v : Version) (tag : ℕ) (ts : Trees) → fault v tag ts ≡ None → count ts ≤ 15
@@ -171,12 +151,9 @@ few_fields v tag ts h =
     omega (arith, few_in v tag k.0 (row_laid v tag k.0 k.1), (passed v tag ts k.0 k.1 h).counted)
 
 -- Local seconds.
-local_laid : (a b d : ℤ) → are_in_range moment_fields (to_utc (three a b d)) ≡ true → IsForm V44 (structure 0x49 (to_utc (three a b d))) (structure 0x46 (three a b d))
-local_laid a b d h =
-    subst (λ z. IsForm V44 (structure 0x49 (three (a -ℤ d) b d)) (structure 0x46 (three z b d))) (back_and_there a d) (of_local_seconds moment_fields (a -ℤ d) b d (row_laid V44 0x46 moment_fields refl) (kinds_laid moment_fields (three (a -ℤ d) b d) refl refl h))
-
 moment_laid : (v : Version) (ts : Trees) → fault v 0x46 ts ≡ None → IsForm v (structure 0x49 (to_utc (typed_all ts))) (structure 0x46 ts)
-moment_laid = of_local (λ w us. IsForm w (structure 0x49 (to_utc (typed_all us))) (structure 0x46 us)) local_laid
+moment_laid = of_local (λ w us. IsForm w (structure 0x49 (to_utc (typed_all us))) (structure 0x46 us)) (λ a b d h.
+    subst (λ z. IsForm V44 (structure 0x49 (three (a -ℤ d) b d)) (structure 0x46 (three z b d))) (back_and_there a d) (of_local_seconds moment_fields (a -ℤ d) b d (row_laid V44 0x46 moment_fields refl) (kinds_laid moment_fields (three (a -ℤ d) b d) refl refl h)))
 
 -- what a value is read as, and that no structure of the value has a fault
 abbrev IsRead : Version → Tree → Tree → Type 0
@@ -218,15 +195,10 @@ structure_is v tag ks cs ts other k h s m =
 
 mutual
   laid : (v : Version) (t : Tree) → all_fine (fault v) (structures t) ≡ true → IsForm v (typed t) t
-  laid v null h = of_null
-  laid v (boolean b) h = of_boolean b
-  laid v (int z) h = of_int z
-  laid v (float n) h = of_float n
-  laid v (byte_string s) h = of_bytes s
-  laid v (text s) h = of_text s
   laid v (list ts) h = of_list (typed_all ts) ts (laid_all v ts h)
   laid v (dict es) h = of_dict (typed_under es) es (laid_under v es h)
   laid v (structure tag ts) h = structure_laid v tag ts (tag == 0x46) refl (fine_itself (fault v) tag ts h) (laid_all v ts (fine_within (fault v) tag ts h))
+  laid v t h = search (of_null, of_boolean, of_int, of_float, of_bytes, of_text)
 
   laid_all : (v : Version) (ts : Trees) → all_fine (fault v) (structures_in ts) ≡ true → AreForms v (typed_all ts) ts
   laid_all v no_trees h = no_forms

@@ -15,14 +15,8 @@ narrow_append : (xs ys : List (Option PackReason)) → AreNarrow xs → AreNarro
 narrow_append [] ys h k = k
 narrow_append (x ∷ xs) ys h k = (h.0, narrow_append xs ys h.1 k)
 
-own_by : (a b c : Bool) (n : ℕ) → nat_lt 15 n ≡ c → n ≤ 15 → IfSome (cond a (Some pack.KeyTwice) (cond b (Some pack.Depth) (cond c (Some pack.Size) None))) IsOfPacking
-own_by true b c n e h = inl refl
-own_by false true c n e h = inr refl
-own_by false false true n e h = absurd (omega (arith, ltb-true 15 n e, h))
-own_by false false false n e h = tt
-
 own_narrow : (heads : ℕ) (again nests : Bool) (n : ℕ) → n ≤ 15 → IfSome (own_fault heads again nests n) IsOfPacking
-own_narrow heads again nests n h = own_by again (nests && nat_le 32 heads) (nat_lt 15 n) n refl h
+own_narrow heads again nests n h = grind arith
 
 mutual
   narrow : (v : Version) (h : ℕ) (a : Bool) (t : Tree) → all_fine (fault v) (structures t) ≡ true → AreNarrow (faults_in h a t)
