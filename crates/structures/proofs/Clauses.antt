@@ -1,6 +1,6 @@
 -- What was read can be written. A value is read and a cell is written in one way, or refused for one fault; so what is answered, clause by clause, is one.
-use Rattle.std.proofs.Common.{◌≡◌, ℕ, List, [], ◌∷◌, length, Bool, true, false, cond, ◌&&◌, ◌==◌, None, is_none, Ok, Err, refl, sym, ap, arith, ◌∙◌, eqb-true, eq-eqb, subst, inl, inr, ◌↔◌, Result, map, Vec, Global, String}
-use Rattle.structures.proofs.Prelude.{Tree, list, dict, structure, Trees, no_trees, tree_then, Entries, no_entries, entry_then, count, IsGood, tree, trees, trees_of, entries_of, seen_entries, Value, ListValue, DictValue, tree-List, tree-Dict, Version, V44, Field, Reason, NotInVersion, Range, PathShape, kinds, first_failed, to_utc, are_in_range, is_path, fault, structures, structures_in, structures_under, scan, IsBad, IsFine, all_fine, moment_tag, fault_of_structure, fault_of_structure_by, IsWritable, IsUnwritable, shape, shapes, entries, both_true, scan_fine, fine_scan, fine_append, fine_itself, fine_within, fine_left, fine_right, Form, typed, typed_all, typed_under, form, HasOneReading, HasOneWriting, Reads, Writes, HasGoodForm, HasBadForm, Gave, UnlessMemory, IsUnpacked, Packs, form_entry, typed_shape, shapes_typed, pairs_typed, Cell, PackReason, CellFault}
+use Rattle.std.proofs.Common.{◌≡◌, ℕ, List, Ok, Err, refl, sym, ap, arith, ◌∙◌, subst, inl, inr, ◌↔◌, Result, map, Vec, Global, String}
+use Rattle.structures.proofs.Prelude.{Tree, list, dict, IsGood, tree, trees, trees_of, entries_of, seen_entries, Value, ListValue, DictValue, tree-List, tree-Dict, Version, Reason, fault, structures, scan, IsBad, IsFine, fault_of_structure, IsWritable, IsUnwritable, shape, shapes, entries, scan_fine, fine_scan, Form, typed, form, HasOneReading, HasOneWriting, Reads, Writes, HasGoodForm, HasBadForm, Gave, UnlessMemory, IsUnpacked, Packs, form_entry, typed_shape, shapes_typed, pairs_typed, Cell, PackReason, CellFault}
 use Rattle.cells.proofs.Scanning.{Found}
 use Rattle.structures.proofs.Formed.{read_again, again, form_is, packed_is}
 use Rattle.structures.proofs.Fitted.{form_list, form_pairs}

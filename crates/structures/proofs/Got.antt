@@ -1,5 +1,5 @@
 -- The fields of a structure, and the row that it has where it has no fault.
-use Rattle.std.proofs.Common.{◌≡◌, ◌++◌, take, ℤ, pos, neg_ℤ, ◌-ℤ◌, ◌≤ℤ◌, int_le, ℕ, suc, zero, ◌+◌, ◌<◌, ◌≤◌, List, [], ◌∷◌, map, length, get_or, append-nil, length-append, add-one, Bool, true, false, ◌&&◌, ◌==◌, cond, Option, Some, None, Result, Ok, Err, refl, sym, ap, ◌∙◌, arith, eqb-true, subst, Vec, Global, String}
+use Rattle.std.proofs.Common.{◌≡◌, ◌++◌, take, ℤ, pos, neg_ℤ, ◌-ℤ◌, ◌≤ℤ◌, int_le, ℕ, suc, zero, ◌+◌, ◌<◌, ◌≤◌, List, [], ◌∷◌, map, length, get_or, append-nil, length-append, add-one, Bool, true, false, ◌&&◌, ◌==◌, cond, Some, None, Ok, Err, refl, sym, ap, ◌∙◌, arith, eqb-true, subst, Vec, Global, String}
 use Rattle.std.proofs.lemmas.Int.{ints}
 use Rattle.std.proofs.lemmas.List.{map_push, take_all}
 use Rattle.structures.proofs.Prelude.{Nodes, Relationships, Indices, Tree, null, int, list, dict, structure, Trees, no_trees, tree_then, entry_then, count, tree, trees, trees_of, entries_of, seen_entries, Value, ListValue, DictValue, StructValue, len_trees, tree-List, tree-Dict, tree-Struct, Version, V44, has_element_ids, every_version, Field, Reason, NotInVersion, row, row_in, table, fields_in, fields_at, fields_of, kinds, moment_fields, to_utc, each, is_kind, are_kinds, are_in_range, utc_fields, is_path, first_failed, fault_is, fault, fault_by, has_tag, is_list_of, and_left, and_right, shape-Date, shape-Time, shape-LocalTime, shape-LocalDateTime, shape-DateTime, Pair, entries, fine_itself, fine_within, fine_member, typed, typed_all, typed_under, three, tree_at, Got, Follows, typed_entry, IsSound, AreSound, with_fields}

@@ -2,7 +2,7 @@
 use Rattle.std.proofs.Common.{◌≡◌, ℕ, zero, suc, ◌+◌, ◌≤◌, ℤ, pos, neg_ℤ, nat_abs, ◌≤ℤ◌, int_le, nat_lt, nat_le, List, [], ◌∷◌, ◌++◌, length, Bool, true, false, cond, ◌&&◌, ◌==◌, Option, None, Some, Ok, refl, ap, sym, subst, ◌∙◌, arith, eqb-true, ne_eqb, ◌≢◌, ◌↔◌, ◌+ℤ◌, ◌-ℤ◌, is_none, eq-eqb, Contains}
 use Rattle.std.proofs.lemmas.Int.{ints}
 use Rattle.std.proofs.lemmas.Bool.{leb-true, le-leb, ltb-true, lt-ltb}
-use Rattle.structures.proofs.Prelude.{Tree, int, float, text, list, dict, structure, Trees, no_trees, tree_then, null, boolean, byte_string, Entries, no_entries, entry_then, count, Version, Field, Integer, Nanosecond, DayNanosecond, Offset, UtcSecond, Float, Text, Labels, Properties, Nodes, Relationships, Indices, has_element_ids, Row, table, row_in, fields_of, kinds, is_int, is_text, has_tag, each, is_kind, are_kinds, in_range, are_in_range, is_relationship, is_walk, is_path, moment_fields, to_utc, fault, structures, structures_in, structures_under, all_fine, and_left, and_right, both_true, three, Form, typed, typed_all, typed_under, V44, fault_is, wrong_is, fine_scan, scan_fine, fine_append, fine_itself, fine_within, fine_left, fine_right}
+use Rattle.structures.proofs.Prelude.{Tree, int, float, text, list, dict, structure, Trees, no_trees, tree_then, Entries, no_entries, entry_then, count, Version, Field, Integer, Nanosecond, DayNanosecond, Offset, UtcSecond, Float, Text, Labels, Properties, Nodes, Relationships, Indices, has_element_ids, Row, table, row_in, fields_of, kinds, is_int, is_text, has_tag, each, is_kind, are_kinds, in_range, are_in_range, is_relationship, is_walk, is_path, moment_fields, to_utc, fault, structures, structures_in, structures_under, all_fine, and_left, and_right, both_true, three, Form, typed, typed_all, typed_under, V44, fault_is, wrong_is, fine_scan, scan_fine, fine_append, fine_itself, fine_within, fine_left, fine_right}
 use Rattle.structures.specs.Prelude.{AreMade, none_made, then_made, OfKind, any_whole, within_second, within_day, within_offset, within_utc, any_number, any_text, any_labels, any_properties, any_nodes, any_relationships, any_indices, OfKinds, no_kinds, then_kind, Walks, no_steps, then_step, IsShaped, no_path, a_path, HasRow, row_alone, row_with_ids, IsForm, of_null, of_boolean, of_int, of_float, of_bytes, of_text, of_list, of_dict, of_structure, of_local_seconds, AreForms, no_forms, then_form, HaveForms, no_entry_forms, then_entry_form}
 use Rattle.structures.proofs.Got.{between, of_local, stood, stands_is, row_of, passed, at_both, kinds_at}
 use Rattle.structures.proofs.Formed.{there_and_back, back_and_there}

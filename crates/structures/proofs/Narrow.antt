@@ -1,10 +1,8 @@
 -- No structure of a form has more fields than PackStream allows, so packing it is refused for a key or its depth alone.
-use Rattle.std.proofs.Common.{◌≡◌, ◌≤◌, ◌+◌, ℕ, min, List, [], ◌∷◌, ◌++◌, Bool, true, false, cond, ◌&&◌, nat_le, nat_lt, Option, None, Some, IfSome, Result, Err, inl, inr, refl, ap, subst, arith}
-use borrow.Author.Tests.{ltb-true}
+use Rattle.std.proofs.Common.{◌≡◌, ◌≤◌, ◌+◌, ℕ, min, List, [], ◌∷◌, ◌++◌, Bool, true, false, Option, None, Some, IfSome, Result, Err, ap, subst, arith}
 use Rattle.structures.proofs.Prelude.{PackReason, Tree, list, dict, structure, Trees, no_trees, tree_then, Entries, no_entries, entry_then, count, is_among, own_fault, faults_in, faults_in_all, faults_in_entries, Version, fault, structures, structures_in, structures_under, all_fine, fine_scan, fine_itself, fine_within, fine_left, fine_right, Form, IsUnpacked, IsOfPacking}
 use Rattle.packstream.specs.Prelude.{first_fault}
 use Rattle.structures.proofs.Laid.{few_fields}
-use Rattle.packstream.specs.declared.fault.Reason.TheVariants as pack
 
 -- What is wrong with each value of a form is a key or the depth.
 abbrev AreNarrow : List (Option PackReason) → Type 0

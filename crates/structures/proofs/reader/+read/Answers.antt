@@ -1,7 +1,7 @@
 use Rattle.std.proofs.Common.{◌≡◌, map, List, ◌∷◌, [], subst, ap, sym, refl, ◌∙◌, rules, arith, to_z, of_z, w64}
 use Rattle.std.proofs.lemmas.List.Elements.{same_from_all_zip}
 use Rattle.std.proofs.lemmas.Result.{IfOk-weaker}
-use Rattle.structures.proofs.Prelude.{Tree, Trees, int, list, dict, structure, no_trees, tree_then, tree, trees, trees_of, entries_of, seen_entries, seen_entry, value_lemmas, the_lemmas, tree-List, tree-Dict, Integer, Text, Labels, Properties, Nodes, Relationships, Indices, fault, entries, text_of, texts_of, numbers_of, element_of, elements_of, node_shape, unbound_shape, shape-List, shape-Dict, path-roll, node-roll, unbound-roll, relationship-roll, relationship_parts, fine_pair, typed, has_tag, is_kind, IsSound, with_fields, AreSound}
+use Rattle.structures.proofs.Prelude.{Tree, Trees, int, list, dict, structure, no_trees, tree_then, tree, trees, trees_of, entries_of, seen_entry, value_lemmas, the_lemmas, tree-List, Integer, Text, Labels, Properties, Nodes, Relationships, Indices, fault, entries, text_of, texts_of, numbers_of, element_of, elements_of, node_shape, unbound_shape, shape-List, shape-Dict, path-roll, node-roll, unbound-roll, relationship-roll, relationship_parts, fine_pair, typed, has_tag, is_kind, IsSound, with_fields}
 use Rattle.structures.proofs.Got.{dict_read, at_some, typed_list, sound_itself, sound_list, sound_dict, sound_struct, sound_member, sound_within, added_is, read_by, at_both, tag_at, tagged_at, read_next, list_read, path_length, path_kinds}
 use Rattle.structures.proofs.reader.+read.Goals as goal
 
