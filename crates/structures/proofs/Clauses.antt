@@ -2,7 +2,7 @@
 use Rattle.std.proofs.Common.{◌≡◌, ℕ, List, Ok, Err, refl, sym, ap, arith, ◌∙◌, subst, inl, inr, ◌↔◌, Result, map, Vec, Global, String}
 use Rattle.structures.proofs.Prelude.{Tree, list, dict, IsGood, tree, trees, trees_of, entries_of, seen_entries, Value, ListValue, DictValue, tree-List, tree-Dict, Version, Reason, fault, structures, scan, IsBad, IsFine, fault_of_structure, IsWritable, IsUnwritable, shape, shapes, entries, scan_fine, fine_scan, Form, typed, form, HasOneReading, HasOneWriting, Reads, Writes, HasGoodForm, HasBadForm, Gave, UnlessMemory, IsUnpacked, Packs, form_entry, typed_shape, shapes_typed, pairs_typed, Cell, PackReason, CellFault}
 use Rattle.cells.proofs.Scanning.{Found}
-use Rattle.structures.proofs.Formed.{read_again, again, form_is, packed_is}
+use Rattle.structures.proofs.Formed.{read_again, again, form_is, packed_is, writable_when}
 use Rattle.structures.proofs.Fitted.{form_list, form_pairs}
 use Rattle.packstream.proofs.Checking.{bad_when}
 use Rattle.structures.specs.declared.fault.CellFault.TheVariants as told
@@ -14,11 +14,8 @@ read_writable v s t f = subst (IsWritable v) (sym f.1) (scan_fine (fault_of_stru
 pub never_unwritable : (v : Version) (s t : Tree) (k : ℕ) (r : Reason) → Form v s t → IsUnwritable v s k r → ⊥
 never_unwritable v s t k r f u = let w = read_writable v s t f in let both : ◌≡◌ {A = Found} (Ok w.0) (Err (r, k)) = sym w.1 ∙ u in cc
 
-abbrev bad_at : Reason × ℕ → Found
-bad_at x = Err x
-
 -- faults that are one have one number and one reason
-same_place : (x : Reason × ℕ) (k : ℕ) (r : Reason) → bad_at x ≡ Err (r, k) → (x.1 ≡ k) × (x.0 ≡ r)
+same_place : (x : Reason × ℕ) (k : ℕ) (r : Reason) → ◌≡◌ {A = Found} (Err x) (Err (r, k)) → (x.1 ≡ k) × (x.0 ≡ r)
 same_place x k r h = let w : x ≡ (r, k) = cc in (ap (λ (y : Reason × ℕ). y.1) w, ap (λ (y : Reason × ℕ). y.0) w)
 
 read_once : (v : Version) (t : Tree) (f : Found) → scan (fault v) 0 (structures t) ≡ f → HasOneReading v t
@@ -26,14 +23,14 @@ read_once v t (Ok n) e = inl (record {
   cell = typed t;
   formed = ((n, e), refl);
   only = λ s h. sym h.1;
-  never_bad = λ k r h. let bad : Ok n ≡ Err (r, k) = sym e ∙ h in cc;
+  never_bad = λ k r h. cc;
 })
 read_once v t (Err x) e = inr (record {
   number = x.1;
   why = x.0;
   bad = e;
   only = λ k r h. same_place x k r (sym e ∙ h);
-  forms_none = λ s h. let bad : bad_at x ≡ Ok h.0.0 = sym e ∙ h.0.1 in cc;
+  forms_none = λ s h. cc (h.0.1);
 })
 
 pub one_reading_is : (v : Version) (t : Tree) → HasOneReading v t
@@ -59,7 +56,7 @@ written_once v c (Err x) e = inr (record {
   why = x.0;
   unwritable = e;
   only = λ k r h. same_place x k r (sym e ∙ h);
-  never_writable = λ w. let bad : bad_at x ≡ Ok w.0 = sym e ∙ w.1 in cc;
+  never_writable = λ w. cc (w.1);
   has_none = λ t g. never_unwritable v (shape c) t x.1 x.0 g e;
 })
 
@@ -126,3 +123,6 @@ module _ (v : Version) (r : Result Tree CellFault) where
 
   pub dict_packed : (es : List (String Global × Cell)) (x : Vec (String Global × Value) Global) → IsWritable v (dict (entries_of (entries es))) → seen_entries x.items ≡ map (form_entry v) (entries es) → Packs (tree (DictValue x)) r → Writes v (dict (entries_of (entries es))) r
   dict_packed es x w e = packed_is v (dict (entries_of (entries es))) (tree (DictValue x)) r (pairs_typed es) w (tree-Dict x ∙ ap dict (ap entries_of e ∙ sym (form_pairs v (entries es))))
+
+-- what writing cites: that there is a form, what is packed of it, and each clause
+pub ruleset written = (writable_when, cell_packed, list_packed, dict_packed, writes_value, writes_pack)

@@ -1,5 +1,6 @@
 -- What is written of a cell, and a cell in the form of a version, one level at a time.
 use Rattle.std.proofs.Common.{◌≡◌, ℕ, ℤ, List, [], ◌∷◌, map, Option, Some, None, String, Global, false, ◌==◌, refl, ap, rules, Vec, Box, string_bytes, sym, ◌∙◌}
+use Rattle.std.proofs.lemmas.Simd.{map-map}
 use Rattle.structures.proofs.Prelude.{Tree, int, list, dict, structure, no_trees, tree_then, entry_then, trees_of, entries_of, Version, text_of, texts_of, element_of, elements_of, numbers_of, entries, shape, shapes, node_shape, unbound_shape, relationship_shape, path_shape, path_of, row, row_in, table, Pair, relationship_parts, node-out, node-roll, unbound-out, unbound-roll, relationship-out, relationship-roll, path-out, path-roll, shape-List, shape-Dict, form, form_all, form_under, form_entry, fitted, fitted_all, fitted_under, fitted_by, fitted_entry, element_at, elements_at, V50, V51, Cell, ListCase, DictCase, NodeCase, RelationshipCase, UnboundCase, PathCase, the_lemmas, Path, out-Path, roll-Path, every_version, Field, Integer, Text, Labels, Properties}
 use Rattle.cells.specs.declared.cell.ElementIds.{ElementIds}
 use Rattle.cells.specs.declared.cell.Cell.TheViews.{out-roll-Path}
@@ -15,10 +16,6 @@ form_list v (t ∷ ts) = ap (λ x. tree_then (form v t) x) (form_list v ts)
 pub form_pairs : (v : Version) (es : List (List ℕ × Tree)) → form_under v (entries_of es) ≡ entries_of (map (form_entry v) es)
 form_pairs v [] = refl
 form_pairs v (e ∷ es) = ap (λ x. entry_then e.0 (form v e.1) x) (form_pairs v es)
-
-pub form_texts : (v : Version) (ss : List (String Global)) → form_all v (trees_of (map text_of ss)) ≡ trees_of (map text_of ss)
-form_texts v [] = refl
-form_texts v (s ∷ ss) = ap (λ x. tree_then (text_of s) x) (form_texts v ss)
 
 -- a node, or a relationship without ends, by its three parts
 pub named_written : (v : Version) (tag : ℕ) (id : ℤ) (x : Tree) (ps : List Pair) (e : Option (String Global)) (w : Tree) → (tag == 0x49) ≡ false → form v x ≡ x
@@ -47,14 +44,6 @@ pub fitted_pairs : (v : Version) (es : List (List ℕ × Tree)) → fitted_under
 fitted_pairs v [] = refl
 fitted_pairs v (e ∷ es) = ap (λ x. entry_then e.0 (fitted v e.1) x) (fitted_pairs v es)
 
-fitted_texts : (v : Version) (ss : List (String Global)) → fitted_all v (trees_of (map text_of ss)) ≡ trees_of (map text_of ss)
-fitted_texts v [] = refl
-fitted_texts v (s ∷ ss) = ap (λ x. tree_then (text_of s) x) (fitted_texts v ss)
-
-fitted_numbers : (v : Version) (zs : List ℤ) → fitted_all v (trees_of (map int zs)) ≡ trees_of (map int zs)
-fitted_numbers v [] = refl
-fitted_numbers v (z ∷ zs) = ap (λ x. tree_then (int z) x) (fitted_numbers v zs)
-
 -- three fields, and an element id where the version has one
 named_fitted : (v : Version) (tag : ℕ) (a b d : Field) (id : ℤ) (t u : Tree) (e : Option (String Global)) → row_in tag table ≡ Some (row tag every_version (a ∷ b ∷ d ∷ []) (Text ∷ []))
     → structure tag (tree_then (int id) (tree_then (fitted v t) (tree_then (fitted v u) (element_at v id (element_of e))))) ≡ fitted v (structure tag (tree_then (int id) (tree_then t (tree_then u (element_of e)))))
@@ -70,7 +59,7 @@ relationship_fitted v id s d kind ps e = rw (fitted_pairs v (entries ps)) refl
 
 pub fit_node_is : (v : Version) (x : Node-F Cell Node Path Relationship UnboundRelationship) (n : Node) → x.id ≡ n.id → map text_of x.labels.items ≡ map text_of n.labels.items → entries x.properties.items ≡ map (fitted_entry v) (entries n.properties.items) → element_of x.element_id ≡ element_at v n.id (element_of n.element_id)
     → node_shape (roll-Node x) ≡ fitted v (node_shape n)
-fit_node_is v x n i l p e = node-roll x ∙ rw (i, l, p, e, fitted_texts v n.labels.items, fitted_pairs v (entries n.properties.items)) refl
+fit_node_is v x n i l p e = node-roll x ∙ rw (i, l, p, e, fitted_list v (map text_of n.labels.items), map-map (fitted v) text_of n.labels.items, fitted_pairs v (entries n.properties.items)) refl
     ∙ named_fitted v 0x4E Integer Labels Properties n.id (texts_of n.labels.items) (dict (entries_of (entries n.properties.items))) n.element_id refl ∙ ap (fitted v) (sym (node-out n))
 
 pub fit_unbound_is : (v : Version) (x : UnboundRelationship-F Cell Node Path Relationship UnboundRelationship) (n : UnboundRelationship) → x.id ≡ n.id → string_bytes x.kind ≡ string_bytes n.kind → entries x.properties.items ≡ map (fitted_entry v) (entries n.properties.items) → element_of x.element_id ≡ element_at v n.id (element_of n.element_id)
@@ -91,7 +80,7 @@ fit_dict_is v a b h = shape-Dict a ∙ ap (λ es. dict (entries_of es)) h ∙ ap
 pub fit_path_is : (v : Version) (x : Path-F Cell Node Path Relationship UnboundRelationship) (p : Path) → map node_shape x.nodes.items ≡ map (fitted v) (map node_shape (out-Path p).nodes.items) → map unbound_shape x.relationships.items ≡ map (fitted v) (map unbound_shape (out-Path p).relationships.items) → x.indices.items ≡ (out-Path p).indices.items
     → path_shape (roll-Path x) ≡ fitted v (path_shape p)
 fit_path_is v x p n r i =
-    let whole : path_of (map (fitted v) (map node_shape (out-Path p).nodes.items)) (map (fitted v) (map unbound_shape (out-Path p).relationships.items)) (out-Path p).indices.items ≡ fitted v (path_of (map node_shape (out-Path p).nodes.items) (map unbound_shape (out-Path p).relationships.items) (out-Path p).indices.items) = rw (fitted_list v (map node_shape (out-Path p).nodes.items), fitted_list v (map unbound_shape (out-Path p).relationships.items), fitted_numbers v (out-Path p).indices.items) refl in
+    let whole : path_of (map (fitted v) (map node_shape (out-Path p).nodes.items)) (map (fitted v) (map unbound_shape (out-Path p).relationships.items)) (out-Path p).indices.items ≡ fitted v (path_of (map node_shape (out-Path p).nodes.items) (map unbound_shape (out-Path p).relationships.items) (out-Path p).indices.items) = rw (fitted_list v (map node_shape (out-Path p).nodes.items), fitted_list v (map unbound_shape (out-Path p).relationships.items), fitted_list v (map int (out-Path p).indices.items), map-map (fitted v) int (out-Path p).indices.items) refl in
     path-roll x ∙ ap (λ y. path_of y (map unbound_shape x.relationships.items) x.indices.items) n ∙ ap (λ y. path_of (map (fitted v) (map node_shape (out-Path p).nodes.items)) y x.indices.items) r ∙ ap (λ y. path_of (map (fitted v) (map node_shape (out-Path p).nodes.items)) (map (fitted v) (map unbound_shape (out-Path p).relationships.items)) y) i ∙ whole ∙ ap (fitted v) (sym (path-out p))
 
 -- the same of a path whose nodes are fitted first, and then its relationships
@@ -102,17 +91,5 @@ fit_path_in_turn v p ns rs n r =
     fit_path_is v (record (out-Path (roll-Path (record (out-Path p) { nodes = ns }))) { relationships = rs }) p (ap (λ f. map node_shape f.nodes.items) e ∙ n) (r ∙ ap (λ f. map (fitted v) (map unbound_shape f.relationships.items)) e) (ap (λ f. f.indices.items) e)
 
 -- a cell that stands behind a box
-fit_boxed : {A : Type 0} (case : Box A Global → Cell) (see : A → Tree) → ((b : Box A Global) → shape (case b) ≡ see b.value) → (v : Version) (a b : Box A Global) → see a.value ≡ fitted v (see b.value) → shape (case a) ≡ fitted v (shape (case b))
-fit_boxed case see is v a b h = is a ∙ h ∙ ap (fitted v) (sym (is b))
-
-pub fit_node_case : (v : Version) (a b : Box Node Global) → node_shape a.value ≡ fitted v (node_shape b.value) → shape (NodeCase a) ≡ fitted v (shape (NodeCase b))
-fit_node_case = fit_boxed NodeCase node_shape (λ b. search (rules, the_lemmas))
-
-pub fit_relationship_case : (v : Version) (a b : Box Relationship Global) → relationship_shape a.value ≡ fitted v (relationship_shape b.value) → shape (RelationshipCase a) ≡ fitted v (shape (RelationshipCase b))
-fit_relationship_case = fit_boxed RelationshipCase relationship_shape (λ b. search (rules, the_lemmas))
-
-pub fit_unbound_case : (v : Version) (a b : Box UnboundRelationship Global) → unbound_shape a.value ≡ fitted v (unbound_shape b.value) → shape (UnboundCase a) ≡ fitted v (shape (UnboundCase b))
-fit_unbound_case = fit_boxed UnboundCase unbound_shape (λ b. search (rules, the_lemmas))
-
-pub fit_path_case : (v : Version) (a b : Box Path Global) → path_shape a.value ≡ fitted v (path_shape b.value) → shape (PathCase a) ≡ fitted v (shape (PathCase b))
-fit_path_case = fit_boxed PathCase path_shape (λ b. search (rules, the_lemmas))
+pub fit_boxed : {A : Type 0} (case : Box A Global → Cell) (see : A → Tree) → ((b : Box A Global) → shape (case b) ≡ see b.value) → (v : Version) (a b : Box A Global) (old : A) → old ≡ b.value → see a.value ≡ fitted v (see old) → shape (case a) ≡ fitted v (shape (case b))
+fit_boxed case see is v a b old same h = is a ∙ h ∙ ap (λ x. fitted v (see x)) same ∙ ap (fitted v) (sym (is b))

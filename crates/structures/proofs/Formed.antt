@@ -69,14 +69,11 @@ prefix [] more ts h = refl
 prefix (f ∷ fs) more no_trees h = refl
 prefix (f ∷ fs) more (tree_then t ts) h = both_true _ _ (and_left _ _ h) (prefix fs more ts (and_right (is_kind f t) _ h))
 
-fields_kinds : (b : Bool) (fs more : List Field) (ts : Trees) → are_kinds (fs ++ more) ts ≡ true → are_kinds (cond b (fs ++ more) fs) ts ≡ true
-fields_kinds true fs more ts h = h
-fields_kinds false fs more ts h = prefix fs more ts h
-
 table_kinds : (v : Version) (o : Option Row) (ks : List Field) (ts : Trees) → fields_of v o ≡ Ok ks → is_row o ts ≡ true → are_kinds ks ts ≡ true
 table_kinds v None ks ts e h = absurd cc
 table_kinds v (Some r) ks ts e h =
-    let k = fields_kinds (has_element_ids v) r.fields r.added ts (and_right (has_count r ts) _ h) in
+    let q = and_right (has_count r ts) _ h in
+    let k = elim (has_element_ids v) as (λ b. are_kinds (cond b (r.fields ++ r.added) r.fields) ts ≡ true) [ true ↦ q | false ↦ prefix r.fields r.added ts q ] in
     subst (λ x. are_kinds x ts ≡ true) (sym (stood v r.stands r.fields r.added ks e).1) k
 
 pub passes : (ks : List Field) (tag : ℕ) (ts : Trees) → fault_of_structure_by (Ok ks) tag ts ≡ None → ((count ts == length ks) ≡ true) × (are_in_range ks ts ≡ true) × (cond (tag == 0x50) (is_path ts) true ≡ true)
@@ -132,9 +129,11 @@ mutual
       let n = and_left (not (tag == 0x46)) _ k in
       let m = and_right (not (tag == 0x46)) _ k in
       let p = formed_all v ts (and_right (is_row (row_in tag table) ts) _ m) in
-      let row = subst (λ x. is_row (row_in tag table) x ≡ true) (sym p.0) (and_left (is_row (row_in tag table) ts) _ m) in
-      (written_back v tag (form_all v ts) (tag == 0x49) refl n ∙ ap (λ us. structure tag us) p.0, λ h. structure_fine v tag (form_all v ts) (tag == 0x49) refl n row
-      (subst (λ x. fault_of_structure v tag x ≡ None) (sym p.0) (fine_itself (fault_of_structure v) tag ts h)) (p.1 (fine_within (fault_of_structure v) tag ts h)))
+      let row = subst (λ x. is_row (row_in tag table) x ≡ true) (sym p.0) (and_left (is_row (row_in tag table) ts) _ m) in (
+        written_back v tag (form_all v ts) (tag == 0x49) refl n ∙ ap (λ us. structure tag us) p.0,
+        λ h. structure_fine v tag (form_all v ts) (tag == 0x49) refl n row
+            (subst (λ x. fault_of_structure v tag x ≡ None) (sym p.0) (fine_itself (fault_of_structure v) tag ts h)) (p.1 (fine_within (fault_of_structure v) tag ts h)),
+      )
   formed v t k = (refl, λ h. refl)
 
   formed_all : (v : Version) (ts : Trees) → are_typed ts ≡ true → (typed_all (form_all v ts) ≡ ts) × (all_fine (fault_of_structure v) (structures_in ts) ≡ true → all_fine (fault v) (structures_in (form_all v ts)) ≡ true)

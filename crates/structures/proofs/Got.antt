@@ -57,11 +57,8 @@ pub row_of : (v : Version) (tag : ℕ) (ts : Trees) → fault v tag ts ≡ None 
 row_of v tag ts = elim (kinds v tag) as (λ r. fault_by r tag ts ≡ None → (ks : List Field) × (r ≡ Ok ks)) [ Ok ks ↦ λ h. (ks, refl) | Err x ↦ λ h. absurd cc ]
 
 -- the fields of a row that adds none, at a version where it stands
-at_row : (v : Version) (tag : ℕ) (stands : Version → Bool) (fs : List Field) → row_in tag table ≡ Some (row tag stands fs []) → stands v ≡ true → kinds v tag ≡ Ok fs
+pub at_row : (v : Version) (tag : ℕ) (stands : Version → Bool) (fs : List Field) → row_in tag table ≡ Some (row tag stands fs []) → stands v ≡ true → kinds v tag ≡ Ok fs
 at_row v tag stands fs e s = ap (fields_of v) e ∙ stands_is v stands fs [] s ∙ ap Ok (elim (has_element_ids v) as (λ b. cond b (fs ++ []) fs ≡ fs) [ true ↦ append-nil fs | false ↦ refl ])
-
-pub at_both : (v : Version) (tag : ℕ) (fs : List Field) → row_in tag table ≡ Some (row tag every_version fs []) → kinds v tag ≡ Ok fs
-at_both v tag fs e = at_row v tag every_version fs e refl
 
 -- no fault, at the tag by another name
 pub fine_at : (v : Version) (tag k : ℕ) (ts : Trees) → tag ≡ k → fault v tag ts ≡ None → fault v k ts ≡ None
@@ -77,15 +74,6 @@ sound_within tag ts s = record { version = s.version; fine = fine_within (fault 
 pub sound_member : (xs : List Value) (i : ℕ) (d : Value) → i < length xs → d ≡ get_or xs i d → AreSound xs → IsSound (tree d)
 sound_member xs i d h e s = record { version = s.version; fine = fine_member tree (fault s.version) xs i d h e s.fine }
 
-pub sound_list : (d : Value) (xs : Vec Value Global) → d ≡ ListValue xs → IsSound (tree d) → AreSound xs.items
-sound_list d xs is s = subst IsSound (ap tree is ∙ tree-List xs) s
-
-pub sound_dict : (d : Value) (xs : Vec (String Global × Value) Global) → d ≡ DictValue xs → IsSound (tree d) → IsSound (dict (entries_of (seen_entries xs.items)))
-sound_dict d xs is s = subst IsSound (ap tree is ∙ tree-Dict xs) s
-
-pub sound_struct : (d : Value) (tag : ℕ) (xs : Vec Value Global) → d ≡ StructValue tag xs → IsSound (tree d) → IsSound (with_fields tag xs.items)
-sound_struct d tag xs is s = subst IsSound (ap tree is ∙ tree-Struct tag xs) s
-
 -- a row stands where a structure of its tag has no fault
 pub at_fine : (v : Version) (tag : ℕ) (stands : Version → Bool) (fs : List Field) (ts : Trees) → row_in tag table ≡ Some (row tag stands fs []) → fault v tag ts ≡ None → kinds v tag ≡ Ok fs
 at_fine v tag stands fs ts e h = let k = row_of v tag ts h in at_row v tag stands fs e (stood v stands fs [] k.0 (sym (ap (fields_of v) e) ∙ k.1)).0
@@ -93,11 +81,8 @@ at_fine v tag stands fs ts e h = let k = row_of v tag ts h in at_row v tag stand
 pub read_by : (v : Version) (tag : ℕ) (ts us : Trees) (ks : List Field) → kinds v tag ≡ Ok ks → fault v tag ts ≡ None → count us ≡ length ks → Got 0 ks us ts → us ≡ typed_all ts
 read_by v tag ts us ks e h n g = let p = passed v tag ts ks e h in fields_are ks us ts p.counted n p.kinded g
 
-pub le_true : (x y : ℤ) → int_le x y ≡ true → x ≤ℤ y
-le_true x y h = grind (arith, ints)
-
 pub between : (low high z : ℤ) → (int_le low z && int_le z high) ≡ true → (low ≤ℤ z) × (z ≤ℤ high)
-between low high z h = (le_true low z (and_left (int_le low z) _ h), le_true z high (and_right (int_le low z) _ h))
+between low high z h = grind (arith, ints)
 
 -- what holds of any three numbers holds of what passes as the fields of a DateTime
 pub of_three : (P : Trees → Type 0) → ((a b d : ℤ) → P (three a b d)) → (ts : Trees) → count ts ≡ 3 → are_kinds moment_fields ts ≡ true → P ts
@@ -184,12 +169,12 @@ pub tagged_at : (k tag : ℕ) (v d : Value) (xs ys : Vec Value Global) (zs : Lis
 tagged_at k tag v d xs ys zs i is same di lt at s g =
     let e = ap tree di ∙ tree-Struct tag ys in
     let n : tag ≡ k = eqb-true _ _ (sym (ap (has_tag k) e) ∙ tag_at k v d xs zs i is same lt at g) in
-    let m = sound_struct d tag ys di (sound_member zs i d lt at (subst AreSound (sym same) (sound_list v xs is s))) in
+    let m = subst IsSound (ap tree di ∙ tree-Struct tag ys) (sound_member zs i d lt at (subst AreSound (sym same) (subst IsSound (ap tree is ∙ tree-List xs) s))) in
     (subst (λ q. IsSound (with_fields q ys.items)) n m, at_some zs i d lt at ∙ e ∙ ap (λ q. with_fields q ys.items) n)
 
 -- what passes as the three fields of a path
 path_passed : (xs : List Value) (s : IsSound (with_fields 0x50 xs)) → Passed (Nodes ∷ Relationships ∷ Indices ∷ []) 0x50 (trees_of (trees xs))
-path_passed xs s = passed s.version 0x50 (trees_of (trees xs)) _ (at_both s.version 0x50 _ refl) (sound_itself 0x50 _ s)
+path_passed xs s = passed s.version 0x50 (trees_of (trees xs)) _ (at_row s.version 0x50 every_version _ refl refl) (sound_itself 0x50 _ s)
 
 pub path_length : (xs : List Value) → IsSound (with_fields 0x50 xs) → length xs ≡ 3
 path_length xs s = sym (len_trees xs) ∙ (path_passed xs s).counted

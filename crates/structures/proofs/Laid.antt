@@ -2,9 +2,9 @@
 use Rattle.std.proofs.Common.{◌≡◌, ℕ, zero, suc, ◌+◌, ◌≤◌, ℤ, pos, neg_ℤ, nat_abs, ◌≤ℤ◌, int_le, nat_lt, nat_le, List, [], ◌∷◌, ◌++◌, length, Bool, true, false, cond, ◌&&◌, ◌==◌, Option, None, Some, Ok, refl, ap, sym, subst, ◌∙◌, arith, eqb-true, ne_eqb, ◌≢◌, ◌↔◌, ◌+ℤ◌, ◌-ℤ◌, is_none, eq-eqb, Contains}
 use Rattle.std.proofs.lemmas.Int.{ints}
 use Rattle.std.proofs.lemmas.Bool.{leb-true, le-leb, ltb-true, lt-ltb}
-use Rattle.structures.proofs.Prelude.{Tree, int, float, text, list, dict, structure, Trees, no_trees, tree_then, Entries, no_entries, entry_then, count, Version, Field, Integer, Nanosecond, DayNanosecond, Offset, UtcSecond, Float, Text, Labels, Properties, Nodes, Relationships, Indices, has_element_ids, Row, table, row_in, fields_of, kinds, is_int, is_text, has_tag, each, is_kind, are_kinds, in_range, are_in_range, is_relationship, is_walk, is_path, moment_fields, to_utc, fault, structures, structures_in, structures_under, all_fine, and_left, and_right, both_true, three, Form, typed, typed_all, typed_under, V44, fault_is, wrong_is, fine_scan, scan_fine, fine_append, fine_itself, fine_within, fine_left, fine_right}
+use Rattle.structures.proofs.Prelude.{Tree, int, float, text, list, dict, structure, Trees, no_trees, tree_then, Entries, no_entries, entry_then, count, Version, every_version, Field, Integer, Nanosecond, DayNanosecond, Offset, UtcSecond, Float, Text, Labels, Properties, Nodes, Relationships, Indices, has_element_ids, Row, table, row_in, fields_of, kinds, is_int, is_text, has_tag, each, is_kind, are_kinds, in_range, are_in_range, is_relationship, is_walk, is_path, moment_fields, to_utc, fault, structures, structures_in, structures_under, all_fine, and_left, and_right, both_true, three, Form, typed, typed_all, typed_under, V44, fault_is, wrong_is, fine_scan, scan_fine, fine_append, fine_itself, fine_within, fine_left, fine_right}
 use Rattle.structures.specs.Prelude.{AreMade, none_made, then_made, OfKind, any_whole, within_second, within_day, within_offset, within_utc, any_number, any_text, any_labels, any_properties, any_nodes, any_relationships, any_indices, OfKinds, no_kinds, then_kind, Walks, no_steps, then_step, IsShaped, no_path, a_path, HasRow, row_alone, row_with_ids, IsForm, of_null, of_boolean, of_int, of_float, of_bytes, of_text, of_list, of_dict, of_structure, of_local_seconds, AreForms, no_forms, then_form, HaveForms, no_entry_forms, then_entry_form}
-use Rattle.structures.proofs.Got.{between, of_local, stood, stands_is, row_of, passed, at_both, kinds_at}
+use Rattle.structures.proofs.Got.{between, of_local, stood, stands_is, row_of, passed, at_row, kinds_at}
 use Rattle.structures.proofs.Formed.{there_and_back, back_and_there}
 use Rattle.std.proofs.lemmas.List.{length-append}
 
@@ -126,16 +126,13 @@ in_rows : (tag : ℕ) (rs : List Row) (r : Row) → row_in tag rs ≡ Some r →
 in_rows tag [] r e = absurd cc
 in_rows tag (q ∷ rs) r e = by_tag tag q r rs (tag == q.tag) refl (in_rows tag rs r) e
 
-standing_by : (v : Version) (r : Row) (b : Bool) → has_element_ids v ≡ b → Contains table r → r.stands v ≡ true → HasRow v r.tag (cond b (r.fields ++ r.added) r.fields)
-standing_by v r true e c s = row_with_ids r c s e
-standing_by v r false e c s = row_alone r c s e
-
 row_by : (v : Version) (tag : ℕ) (ks : List Field) (o : Option Row) → row_in tag table ≡ o → fields_of v o ≡ Ok ks → HasRow v tag ks
 row_by v tag ks None e h = absurd cc
 row_by v tag ks (Some r) e h =
     let s = stood v r.stands r.fields r.added ks h in
     let p = in_rows tag table r e in
-    subst (λ n. HasRow v n ks) p.1 (subst (HasRow v r.tag) (sym s.1) (standing_by v r (has_element_ids v) refl p.0 s.0))
+    let w = elim (has_element_ids v) as (λ b. has_element_ids v ≡ b → HasRow v r.tag (cond b (r.fields ++ r.added) r.fields)) [ true ↦ λ b. row_with_ids r p.0 s.0 b | false ↦ λ b. row_alone r p.0 s.0 b ] in
+    subst (λ n. HasRow v n ks) p.1 (subst (HasRow v r.tag) (sym s.1) (w refl))
 
 row_laid : (v : Version) (tag : ℕ) (ks : List Field) → kinds v tag ≡ Ok ks → HasRow v tag ks
 row_laid v tag ks h = row_by v tag ks (row_in tag table) refl h
@@ -172,7 +169,7 @@ shape_laid : (v : Version) (tag : ℕ) (ts : Trees) (b : Bool) → (tag == 0x50)
 shape_laid v tag ts false e h = no_path tag ts (λ same. let t : (tag == 0x50) ≡ true = eq-eqb _ _ same in absurd cc)
 shape_laid v tag ts true e h =
     let is = eqb-true tag 0x50 e in
-    let p = passed v 0x50 ts (Nodes ∷ Relationships ∷ Indices ∷ []) (at_both v 0x50 _ refl) (subst (λ n. fault v n ts ≡ None) is h) in
+    let p = passed v 0x50 ts (Nodes ∷ Relationships ∷ Indices ∷ []) (at_row v 0x50 every_version _ refl refl) (subst (λ n. fault v n ts ≡ None) is h) in
     subst (λ n. IsShaped n ts) (sym is) (path_laid ts p.counted p.kinded p.shaped)
 
 plain_laid : (v : Version) (tag : ℕ) (ts : Trees) → (tag == 0x46) ≡ false → fault v tag ts ≡ None → AreForms v (typed_all ts) ts → IsForm v (structure tag (typed_all ts)) (structure tag ts)

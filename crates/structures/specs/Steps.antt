@@ -1,5 +1,5 @@
 -- What the code sees of values and cells, a part at a time. Private functions and proofs alone need it.
-use Rattle.std.specs.Prelude.{◌≡◌, ◌≢◌, ◌<◌, ℕ, suc, zero, List, [], ◌∷◌, length, true}
+use Rattle.std.specs.Prelude.{◌≡◌, ◌≢◌, ◌<◌, ℕ, suc, zero, List, [], ◌∷◌, map, length, true}
 use Rattle.packstream.specs.Tree.{Tree, null, list, structure, Trees, no_trees, tree_then}
 use Rattle.packstream.specs.Good.{count}
 use Rattle.packstream.specs.View.{trees, trees_of}
@@ -20,9 +20,17 @@ typed_entry e = (e.0, typed e.1)
 abbrev pub form_entry : Version → List ℕ × Tree → List ℕ × Tree
 form_entry v e = (e.0, form v e.1)
 
+-- these are those, each by f
+abbrev pub AreEach : {A B : Type 0} → (A → B) → List A → List B → Type 0
+AreEach f xs ys = ys ≡ map f xs
+
 -- a structure of these values
 abbrev pub with_fields : ℕ → List Value → Tree
 with_fields tag xs = structure tag (trees_of (trees xs))
+
+-- what a structure of these values is read as
+abbrev pub IsRead : ℕ → List Value → Tree → Type 0
+IsRead tag xs s = s ≡ typed (with_fields tag xs)
 
 -- no structure of the value has a fault, at some version
 pub record IsSound (t : Tree) : Type 0 where

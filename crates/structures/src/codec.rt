@@ -1,9 +1,11 @@
 //! Cells of values, and values of cells.
+#![tactic(auto, using(cells::proofs::Fine::fine_scan, crate::proofs::Clauses::written))]
+
 ghost use Rattle.std.specs.Prelude.{◌≡◌, Err};
 ghost use Rattle.packstream.specs.Prelude.{dict, list, tree, trees_of, entries_of};
 ghost use Rattle.cells.specs.Prelude.{IsFine, shape, shapes, entries, IsWritable};
 ghost use Rattle.structures.specs.declared.fault.CellFault.TheVariants as fault;
-ghost use Rattle.structures.specs.Prelude.{ReadsForm, ReadsFault, WritesForm, WritesFault, WritesPackFault, Writes, Packs};
+ghost use Rattle.structures.specs.Prelude.{ReadsForm, ReadsFault, WritesForm, WritesFault, WritesPackFault, Packs};
 
 use crate::fault::CellFault;
 use crate::reader::cell_of;
@@ -15,7 +17,6 @@ use std::alloc::Global;
 use wire::Version;
 
 /// The cell of a value that stands inside another, as `read` reads it.
-#[tactic(auto, using(cells::proofs::Fine::fine_scan))]
 pub fn read_value(alloc: Global, version: Version, value: &Value) -> Result<Cell, CellFault>
     ensures cell { ReadsForm version (tree value.now) result }
     ensures fault { ReadsFault version (tree value.now) result }
@@ -41,7 +42,10 @@ pub fn read(alloc: Global, version: Version, packed: &Packed) -> Result<Cell, Ce
     read_value(alloc, version, packed.value())
 }
 
-fn pack(alloc: Global, value: Value) -> Result<Packed, CellFault>
+/// A value that can be packed, or why there is none.
+type Written = Result<Packed, CellFault>;
+
+fn pack(alloc: Global, value: Value) -> Written
     ensures { Packs (tree value) result }
 {
     match Packed::new_in(alloc, value) {
@@ -51,23 +55,12 @@ fn pack(alloc: Global, value: Value) -> Result<Packed, CellFault>
     }
 }
 
-#[tactic(auto, using(cells::proofs::Fine::fine_scan, crate::proofs::Formed::writable_when, crate::proofs::Clauses::cell_packed))]
-fn write_cell(scope: Scope, cell: &Cell) -> Result<Packed, CellFault>
-    ensures { Writes scope.version (shape cell.now) result }
-{
-    match check_cell(scope.version, cell, 0) {
-        Err((reason, number)) => Err(CellFault::Refused(reason, number)),
-        Ok(_) => pack(scope.alloc, value_of(scope, cell)?),
-    }
-}
-
 /// The value of a cell in the form of a version.
 ///
 /// Refuses the first typed cell in preorder with a fault, by its number from 0 and its first fault in this order: cell
 /// or element ids of another version (S6), number out of its range (S4), path without a node or that doesn't walk (S5).
 /// If there is none, refuses a value that is too deep or has a key twice (S8), and for want of memory (S7).
-#[tactic(auto, using(crate::proofs::Clauses::writes_value, crate::proofs::Clauses::writes_pack))]
-pub fn write(alloc: Global, version: Version, cell: &Cell) -> Result<Packed, CellFault>
+pub fn write(alloc: Global, version: Version, cell: &Cell) -> Written
     // Apart from memory, it is the cell's form, if the cell has one and that is good; else the first fault of a cell, or
     // that of the form.
     ensures value { WritesForm version (shape cell.now) result }
@@ -75,55 +68,40 @@ pub fn write(alloc: Global, version: Version, cell: &Cell) -> Result<Packed, Cel
     ensures pack { WritesPackFault version (shape cell.now) result }
     ensures memory { result ≡ Err fault.Memory → IsWritable version (shape cell.now) }
 {
-    write_cell(Scope { alloc, version }, cell)
-}
-
-#[tactic(auto, using(cells::proofs::Fine::fine_scan, crate::proofs::Formed::writable_when, crate::proofs::Clauses::list_packed))]
-fn write_list(scope: Scope, members: &Vec<Cell>) -> Result<Packed, CellFault>
-    ensures { Writes scope.version (list (trees_of (shapes members.now.items))) result }
-{
-    match check_cells(scope.version, members, 0) {
+    match check_cell(version, cell, 0) {
         Err((reason, number)) => Err(CellFault::Refused(reason, number)),
-        Ok(_) => pack(scope.alloc, Value::List(values_of(scope, members)?)),
+        Ok(_) => pack(alloc, value_of(Scope { alloc, version }, cell)?),
     }
 }
 
 /// The value of a list of these cells, as `write` writes it.
-#[tactic(auto, using(crate::proofs::Clauses::writes_value, crate::proofs::Clauses::writes_pack))]
-pub fn write_members(
-    alloc: Global,
-    version: Version,
-    members: &Vec<Cell>,
-) -> Result<Packed, CellFault>
+pub fn write_members(alloc: Global, version: Version, members: &Vec<Cell>) -> Written
     ensures value { WritesForm version (list (trees_of (shapes members.now.items))) result }
     ensures fault { WritesFault version (list (trees_of (shapes members.now.items))) result }
     ensures pack { WritesPackFault version (list (trees_of (shapes members.now.items))) result }
     ensures memory { result ≡ Err fault.Memory → IsWritable version (list (trees_of (shapes members.now.items))) }
 {
-    write_list(Scope { alloc, version }, members)
-}
-
-#[tactic(auto, using(cells::proofs::Fine::fine_scan, crate::proofs::Formed::writable_when, crate::proofs::Clauses::dict_packed))]
-fn write_dict(scope: Scope, pairs: &Vec<(String, Cell)>) -> Result<Packed, CellFault>
-    ensures { Writes scope.version (dict (entries_of (entries pairs.now.items))) result }
-{
-    match check_entries(scope.version, pairs, 0) {
+    match check_cells(version, members, 0) {
         Err((reason, number)) => Err(CellFault::Refused(reason, number)),
-        Ok(_) => pack(scope.alloc, Value::Dict(pair_values(scope, pairs)?)),
+        Ok(_) => pack(
+            alloc,
+            Value::List(values_of(Scope { alloc, version }, members)?),
+        ),
     }
 }
 
 /// The value of a dictionary of these entries, as `write` writes it.
-#[tactic(auto, using(crate::proofs::Clauses::writes_value, crate::proofs::Clauses::writes_pack))]
-pub fn write_entries(
-    alloc: Global,
-    version: Version,
-    pairs: &Vec<(String, Cell)>,
-) -> Result<Packed, CellFault>
+pub fn write_entries(alloc: Global, version: Version, pairs: &Vec<(String, Cell)>) -> Written
     ensures value { WritesForm version (dict (entries_of (entries pairs.now.items))) result }
     ensures fault { WritesFault version (dict (entries_of (entries pairs.now.items))) result }
     ensures pack { WritesPackFault version (dict (entries_of (entries pairs.now.items))) result }
     ensures memory { result ≡ Err fault.Memory → IsWritable version (dict (entries_of (entries pairs.now.items))) }
 {
-    write_dict(Scope { alloc, version }, pairs)
+    match check_entries(version, pairs, 0) {
+        Err((reason, number)) => Err(CellFault::Refused(reason, number)),
+        Ok(_) => pack(
+            alloc,
+            Value::Dict(pair_values(Scope { alloc, version }, pairs)?),
+        ),
+    }
 }

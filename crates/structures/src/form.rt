@@ -2,6 +2,7 @@
 ghost use Rattle.std.specs.Prelude.{◌≡◌, IfOk, map};
 ghost use Rattle.cells.specs.Shape.{shape, node_shape, unbound_shape, relationship_shape, path_shape, element_of, elements_of, entries, shapes};
 ghost use Rattle.structures.specs.Fitting.{fitted, fitted_entry, element_at, elements_at, Fits};
+ghost use Rattle.structures.specs.Steps.{AreEach};
 
 use crate::fault::CellFault;
 use crate::scope::{Made, Scope};
@@ -68,8 +69,7 @@ fn fit_cell(scope: Scope, cell: &mut Cell) -> Made<()>
 
 #[cycle(fitting)]
 fn fit_members(scope: Scope, members: &mut Vec<Cell>) -> Made<()>
-    ensures { IfOk result (λ _. shapes members.new.items
-        ≡ map (fitted scope.version) (shapes members.old.items)) }
+    ensures { IfOk result (λ _. AreEach (fitted scope.version) (shapes members.old.items) (shapes members.new.items)) }
 {
     for i in 0..members.len() {
         fit_cell(scope, &mut members[i])?;
@@ -79,8 +79,7 @@ fn fit_members(scope: Scope, members: &mut Vec<Cell>) -> Made<()>
 
 #[cycle(fitting)]
 fn fit_pairs(scope: Scope, pairs: &mut Vec<(String, Cell)>) -> Made<()>
-    ensures { IfOk result (λ _. entries pairs.new.items
-        ≡ map (fitted_entry scope.version) (entries pairs.old.items)) }
+    ensures { IfOk result (λ _. AreEach (fitted_entry scope.version) (entries pairs.old.items) (entries pairs.new.items)) }
 {
     for i in 0..pairs.len() {
         fit_cell(scope, &mut pairs[i].1)?;
@@ -90,8 +89,7 @@ fn fit_pairs(scope: Scope, pairs: &mut Vec<(String, Cell)>) -> Made<()>
 
 #[cycle(fitting)]
 fn fit_nodes(scope: Scope, nodes: &mut Vec<Node>) -> Made<()>
-    ensures { IfOk result (λ _. map node_shape nodes.new.items
-        ≡ map (fitted scope.version) (map node_shape nodes.old.items)) }
+    ensures { IfOk result (λ _. AreEach (fitted scope.version) (map node_shape nodes.old.items) (map node_shape nodes.new.items)) }
 {
     for i in 0..nodes.len() {
         fit_node(scope, &mut nodes[i])?;
@@ -100,12 +98,11 @@ fn fit_nodes(scope: Scope, nodes: &mut Vec<Node>) -> Made<()>
 }
 
 #[cycle(fitting)]
-fn fit_unbounds(scope: Scope, relationships: &mut Vec<UnboundRelationship>) -> Made<()>
-    ensures { IfOk result (λ _. map unbound_shape relationships.new.items
-        ≡ map (fitted scope.version) (map unbound_shape relationships.old.items)) }
+fn fit_unbounds(scope: Scope, unbounds: &mut Vec<UnboundRelationship>) -> Made<()>
+    ensures { IfOk result (λ _. AreEach (fitted scope.version) (map unbound_shape unbounds.old.items) (map unbound_shape unbounds.new.items)) }
 {
-    for i in 0..relationships.len() {
-        fit_unbound(scope, &mut relationships[i])?;
+    for i in 0..unbounds.len() {
+        fit_unbound(scope, &mut unbounds[i])?;
     }
     Ok(())
 }

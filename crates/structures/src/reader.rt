@@ -2,7 +2,7 @@
 ghost use Rattle.std.specs.Prelude.{◌≡◌, IfOk, map, true};
 ghost use Rattle.packstream.specs.Prelude.{dict, list, tree, trees, trees_of, entries_of, entries as seen_entries};
 ghost use Rattle.cells.specs.Prelude.{is_kind, shape, shapes, node_shape, unbound_shape, relationship_shape, path_shape, entries, node_tag, relationship_tag, unbound_tag, path_tag};
-ghost use Rattle.structures.specs.Prelude.{typed, typed_entry, IsSound, ReadsAs, ReadsAt, with_fields, AreSound};
+ghost use Rattle.structures.specs.Prelude.{typed, typed_entry, IsSound, ReadsAs, ReadsAt, IsRead, with_fields, AreSound};
 
 use crate::fields::{element_at, elements_at, int_at, ints_of, text_at, texts_at};
 use crate::plain::plain_of;
@@ -60,7 +60,7 @@ fn pairs_of(alloc: Global, pairs: &Vec<(String, Value)>) -> Made<Vec<(String, Ce
 #[cycle(read)]
 fn structure_of(alloc: Global, tag: u8, fields: &Vec<Value>) -> Made<Cell>
     requires { IsSound (with_fields tag fields.now.items) }
-    ensures { IfOk result (λ c. shape c ≡ typed (with_fields tag fields.now.items)) }
+    ensures { IfOk result (λ c. IsRead tag fields.now.items (shape c)) }
 {
     match tag {
         tags::NODE => Ok(Cell::Node(Box::new(alloc, node_of(alloc, fields)?)?)),
@@ -78,7 +78,7 @@ fn structure_of(alloc: Global, tag: u8, fields: &Vec<Value>) -> Made<Cell>
 #[cycle(read)]
 fn node_of(alloc: Global, fields: &Vec<Value>) -> Made<Node>
     requires { IsSound (with_fields node_tag fields.now.items) }
-    ensures { IfOk result (λ n. node_shape n ≡ typed (with_fields node_tag fields.now.items)) }
+    ensures { IfOk result (λ n. IsRead node_tag fields.now.items (node_shape n)) }
 {
     Ok(Node {
         id: int_at(fields, 0),
@@ -91,8 +91,7 @@ fn node_of(alloc: Global, fields: &Vec<Value>) -> Made<Node>
 #[cycle(read)]
 fn unbound_of(alloc: Global, fields: &Vec<Value>) -> Made<UnboundRelationship>
     requires { IsSound (with_fields unbound_tag fields.now.items) }
-    ensures { IfOk result (λ n. unbound_shape n
-        ≡ typed (with_fields unbound_tag fields.now.items)) }
+    ensures { IfOk result (λ n. IsRead unbound_tag fields.now.items (unbound_shape n)) }
 {
     Ok(UnboundRelationship {
         id: int_at(fields, 0),
@@ -105,8 +104,7 @@ fn unbound_of(alloc: Global, fields: &Vec<Value>) -> Made<UnboundRelationship>
 #[cycle(read)]
 fn relationship_of(alloc: Global, fields: &Vec<Value>) -> Made<Relationship>
     requires { IsSound (with_fields relationship_tag fields.now.items) }
-    ensures { IfOk result (λ n. relationship_shape n
-        ≡ typed (with_fields relationship_tag fields.now.items)) }
+    ensures { IfOk result (λ n. IsRead relationship_tag fields.now.items (relationship_shape n)) }
 {
     Ok(Relationship {
         id: int_at(fields, 0),
@@ -119,9 +117,10 @@ fn relationship_of(alloc: Global, fields: &Vec<Value>) -> Made<Relationship>
 }
 
 #[cycle(read)]
+#[tactic(auto, using(crate::proofs::Got::path_length))]
 fn path_of(alloc: Global, fields: &Vec<Value>) -> Made<Path>
     requires { IsSound (with_fields path_tag fields.now.items) }
-    ensures { IfOk result (λ p. path_shape p ≡ typed (with_fields path_tag fields.now.items)) }
+    ensures { IfOk result (λ p. IsRead path_tag fields.now.items (path_shape p)) }
 {
     Ok(Path {
         nodes: nodes_of(alloc, &fields[0])?,

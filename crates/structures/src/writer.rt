@@ -2,7 +2,7 @@
 ghost use Rattle.std.specs.Prelude.{◌≡◌, IfOk, map, None};
 ghost use Rattle.packstream.specs.Prelude.{int, float, list, dict, structure, no_trees, tree_then, tree, trees, trees_of, entries_of, entries as seen_entries};
 ghost use Rattle.cells.specs.Prelude.{fault_of_structure, shape, shapes, entries, node_shape, unbound_shape, relationship_shape, path_shape, text_of, texts_of, element_of, elements_of, relationship_tag, date_time_tag};
-ghost use Rattle.structures.specs.Prelude.{form, form_entry, Passes, date_time_fields};
+ghost use Rattle.structures.specs.Prelude.{form, form_entry, AreEach, Passes, date_time_fields};
 
 use crate::scope::{Made, Scope};
 use cells::{Cell, ElementIds, Node, Path, Relationship, UnboundRelationship, tags};
@@ -144,8 +144,7 @@ pub(crate) fn value_of(scope: Scope, cell: &Cell) -> Made<Value>
 #[cycle(write)]
 pub(crate) fn values_of(scope: Scope, members: &Vec<Cell>) -> Made<Vec<Value>>
     requires { Passes scope.version (list (trees_of (shapes members.now.items))) }
-    ensures { IfOk result (λ v. trees v.items
-        ≡ map (form scope.version) (shapes members.now.items)) }
+    ensures { IfOk result (λ v. AreEach (form scope.version) (shapes members.now.items) (trees v.items)) }
 {
     let mut values = Vec::with_capacity(scope.alloc, members.len())?;
     for member in members {
@@ -157,8 +156,7 @@ pub(crate) fn values_of(scope: Scope, members: &Vec<Cell>) -> Made<Vec<Value>>
 #[cycle(write)]
 pub(crate) fn pair_values(scope: Scope, pairs: &Vec<(String, Cell)>) -> Made<Vec<(String, Value)>>
     requires { Passes scope.version (dict (entries_of (entries pairs.now.items))) }
-    ensures { IfOk result (λ v. seen_entries v.items
-        ≡ map (form_entry scope.version) (entries pairs.now.items)) }
+    ensures { IfOk result (λ v. AreEach (form_entry scope.version) (entries pairs.now.items) (seen_entries v.items)) }
 {
     let mut values = Vec::with_capacity(scope.alloc, pairs.len())?;
     for (key, cell) in pairs {
@@ -228,8 +226,7 @@ fn path_value(scope: Scope, path: &Path) -> Made<Value>
 #[cycle(write)]
 fn node_values(scope: Scope, nodes: &Vec<Node>) -> Made<Vec<Value>>
     requires { Passes scope.version (list (trees_of (map node_shape nodes.now.items))) }
-    ensures { IfOk result (λ v. trees v.items
-        ≡ map (form scope.version) (map node_shape nodes.now.items)) }
+    ensures { IfOk result (λ v. AreEach (form scope.version) (map node_shape nodes.now.items) (trees v.items)) }
 {
     let mut values = Vec::with_capacity(scope.alloc, nodes.len())?;
     for node in nodes {
@@ -241,8 +238,7 @@ fn node_values(scope: Scope, nodes: &Vec<Node>) -> Made<Vec<Value>>
 #[cycle(write)]
 fn unbound_values(scope: Scope, relationships: &Vec<UnboundRelationship>) -> Made<Vec<Value>>
     requires { Passes scope.version (list (trees_of (map unbound_shape relationships.now.items))) }
-    ensures { IfOk result (λ v. trees v.items
-        ≡ map (form scope.version) (map unbound_shape relationships.now.items)) }
+    ensures { IfOk result (λ v. AreEach (form scope.version) (map unbound_shape relationships.now.items) (trees v.items)) }
 {
     let mut values = Vec::with_capacity(scope.alloc, relationships.len())?;
     for unbound in relationships {

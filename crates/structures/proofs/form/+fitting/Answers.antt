@@ -1,40 +1,28 @@
 use Rattle.std.proofs.Common.{◌≡◌, to_z, of_z, w64, rules, refl}
 use Rattle.std.proofs.lemmas.Result.{IfOk-weaker}
-use Rattle.structures.proofs.Prelude.{the_lemmas}
-use Rattle.structures.proofs.Fitted.{fit_node_case, fit_relationship_case, fit_unbound_case, fit_path_case, fit_node_is, fit_unbound_is, fit_relationship_is, fit_path_in_turn}
+use Rattle.structures.proofs.Prelude.{the_lemmas, NodeCase, RelationshipCase, UnboundCase, PathCase, node_shape, relationship_shape, unbound_shape, path_shape}
+use Rattle.structures.proofs.Fitted.{fit_boxed, fit_node_is, fit_unbound_is, fit_relationship_is, fit_path_in_turn}
 use Rattle.structures.proofs.form.+fitting.Goals as goal
 
 pub fit_cell-returns-in_ok-fit_node-in-Node : goal.fit_cell-returns-in_ok-fit_node-in-Node
 fit_cell-returns-in_ok-fit_node-in-Node t c =
-    let same : c.deref_mut.result.now ≡ c.in-Node.node.value = search (rules, the_lemmas) in
-    let new = record c.in-Node.node { value = c.fit_node.new.node } in
-    let h = rw same at c.in_ok-fit_node-in-Node.ensures in
-    search (rules, the_lemmas, fit_node_case c.args.scope.version new c.in-Node.node h)
+    search (rules, the_lemmas, fit_boxed NodeCase node_shape (λ b. search (rules, the_lemmas)) c.args.scope.version (record c.in-Node.node { value = c.fit_node.new.node }) c.in-Node.node c.deref_mut.result.now (search (rules, the_lemmas)) c.in_ok-fit_node-in-Node.ensures)
 
 pub fit_cell-returns-in_ok-fit_relationship-in-Relationship : goal.fit_cell-returns-in_ok-fit_relationship-in-Relationship
 fit_cell-returns-in_ok-fit_relationship-in-Relationship t c =
-    let same : c.deref_mut-in-Relationship.result.now ≡ c.in-Relationship.relationship.value = search (rules, the_lemmas) in
-    let new = record c.in-Relationship.relationship { value = c.fit_relationship.new.relationship } in
-    let h = rw same at c.in_ok-fit_relationship-in-Relationship.ensures in
-    search (rules, the_lemmas, fit_relationship_case c.args.scope.version new c.in-Relationship.relationship h)
+    search (rules, the_lemmas, fit_boxed RelationshipCase relationship_shape (λ b. search (rules, the_lemmas)) c.args.scope.version (record c.in-Relationship.relationship { value = c.fit_relationship.new.relationship }) c.in-Relationship.relationship c.deref_mut-in-Relationship.result.now (search (rules, the_lemmas)) c.in_ok-fit_relationship-in-Relationship.ensures)
 
 pub fit_cell-returns-in_ok-fit_unbound-in-UnboundRelationship : goal.fit_cell-returns-in_ok-fit_unbound-in-UnboundRelationship
 fit_cell-returns-in_ok-fit_unbound-in-UnboundRelationship t c =
-    let same : c.deref_mut-in-UnboundRelationship.result.now ≡ c.in-UnboundRelationship.unbound.value = search (rules, the_lemmas) in
-    let new = record c.in-UnboundRelationship.unbound { value = c.fit_unbound.new.unbound } in
-    let h = rw same at c.in_ok-fit_unbound-in-UnboundRelationship.ensures in
-    search (rules, the_lemmas, fit_unbound_case c.args.scope.version new c.in-UnboundRelationship.unbound h)
+    search (rules, the_lemmas, fit_boxed UnboundCase unbound_shape (λ b. search (rules, the_lemmas)) c.args.scope.version (record c.in-UnboundRelationship.unbound { value = c.fit_unbound.new.unbound }) c.in-UnboundRelationship.unbound c.deref_mut-in-UnboundRelationship.result.now (search (rules, the_lemmas)) c.in_ok-fit_unbound-in-UnboundRelationship.ensures)
 
 pub fit_cell-returns-in_ok-fit_path-in-Path : goal.fit_cell-returns-in_ok-fit_path-in-Path
 fit_cell-returns-in_ok-fit_path-in-Path t c =
-    let same : c.deref_mut-in-Path.result.now ≡ c.in-Path.path.value = search (rules, the_lemmas) in
-    let new = record c.in-Path.path { value = c.fit_path.new.path } in
-    let h = rw same at c.in_ok-fit_path-in-Path.ensures in
-    search (rules, the_lemmas, fit_path_case c.args.scope.version new c.in-Path.path h)
+    search (rules, the_lemmas, fit_boxed PathCase path_shape (λ b. search (rules, the_lemmas)) c.args.scope.version (record c.in-Path.path { value = c.fit_path.new.path }) c.in-Path.path c.deref_mut-in-Path.result.now (search (rules, the_lemmas)) c.in_ok-fit_path-in-Path.ensures)
 
 pub fit_path-returns : goal.fit_path-returns
 fit_path-returns t c =
-    IfOk-weaker c.fit_unbounds.result _ _ (λ x h. fit_path_in_turn c.args.scope.version c.args.path.now c.fit_nodes.new.nodes c.fit_unbounds.new.relationships c.in_ok-fit_nodes.ensures h) c.fit_unbounds.ensures
+    IfOk-weaker c.fit_unbounds.result _ _ (λ x h. fit_path_in_turn c.args.scope.version c.args.path.now c.fit_nodes.new.nodes c.fit_unbounds.new.unbounds c.in_ok-fit_nodes.ensures h) c.fit_unbounds.ensures
 
 pub fit_node-returns : goal.fit_node-returns
 fit_node-returns t c =

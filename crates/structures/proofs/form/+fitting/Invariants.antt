@@ -12,4 +12,4 @@ abbrev pub invariant-fit_nodes-loop-i : goal.invariant-fit_nodes-loop-i
 invariant-fit_nodes-loop-i l = record { unvisited : goal.unvisited-fit_nodes-loop-i l; visited : map node_shape (take l.i l.nodes.items) ≡ map (fitted l.scope.version) (map node_shape (take l.i l.initial.nodes.items)) }
 
 abbrev pub invariant-fit_unbounds-loop-i : goal.invariant-fit_unbounds-loop-i
-invariant-fit_unbounds-loop-i l = record { unvisited : goal.unvisited-fit_unbounds-loop-i l; visited : map unbound_shape (take l.i l.relationships.items) ≡ map (fitted l.scope.version) (map unbound_shape (take l.i l.initial.relationships.items)) }
+invariant-fit_unbounds-loop-i l = record { unvisited : goal.unvisited-fit_unbounds-loop-i l; visited : map unbound_shape (take l.i l.unbounds.items) ≡ map (fitted l.scope.version) (map unbound_shape (take l.i l.initial.unbounds.items)) }

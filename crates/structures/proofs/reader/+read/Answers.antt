@@ -1,18 +1,18 @@
 use Rattle.std.proofs.Common.{◌≡◌, map, List, ◌∷◌, [], subst, ap, sym, refl, ◌∙◌, rules, arith, to_z, of_z, w64}
 use Rattle.std.proofs.lemmas.List.Elements.{same_from_all_zip}
 use Rattle.std.proofs.lemmas.Result.{IfOk-weaker}
-use Rattle.structures.proofs.Prelude.{Tree, Trees, int, list, dict, structure, no_trees, tree_then, tree, trees, trees_of, entries_of, seen_entry, value_lemmas, the_lemmas, tree-List, Integer, Text, Labels, Properties, Nodes, Relationships, Indices, fault, entries, text_of, texts_of, numbers_of, element_of, elements_of, node_shape, unbound_shape, shape-List, shape-Dict, path-roll, node-roll, unbound-roll, relationship-roll, relationship_parts, fine_pair, typed, has_tag, is_kind, IsSound, with_fields}
-use Rattle.structures.proofs.Got.{dict_read, at_some, typed_list, sound_itself, sound_list, sound_dict, sound_struct, sound_member, sound_within, added_is, read_by, at_both, tag_at, tagged_at, read_next, list_read, path_length, path_kinds}
+use Rattle.structures.proofs.Prelude.{Tree, Trees, int, list, dict, structure, no_trees, tree_then, tree, trees, trees_of, entries_of, seen_entry, value_lemmas, the_lemmas, tree-List, tree-Dict, tree-Struct, every_version, Integer, Text, Labels, Properties, Nodes, Relationships, Indices, fault, entries, text_of, texts_of, numbers_of, element_of, elements_of, node_shape, unbound_shape, shape-List, shape-Dict, path-roll, node-roll, unbound-roll, relationship-roll, relationship_parts, fine_pair, typed, has_tag, is_kind, IsSound, with_fields}
+use Rattle.structures.proofs.Got.{dict_read, at_some, typed_list, sound_itself, sound_member, sound_within, added_is, read_by, at_row, tag_at, tagged_at, read_next, list_read, path_length, path_kinds}
 use Rattle.structures.proofs.reader.+read.Goals as goal
 
 pub cell_of-cells_of-requires : goal.cell_of-cells_of-requires
-cell_of-cells_of-requires t c = (search (rules, value_lemmas), sound_list _ c.in-List.members c.in-List.is c.requires)
+cell_of-cells_of-requires t c = (search (rules, value_lemmas), subst IsSound (ap tree c.in-List.is ∙ tree-List c.in-List.members) c.requires)
 
 pub cell_of-pairs_of-requires : goal.cell_of-pairs_of-requires
-cell_of-pairs_of-requires t c = (search (rules, value_lemmas), sound_dict _ c.in-Dict.pairs c.in-Dict.is c.requires)
+cell_of-pairs_of-requires t c = (search (rules, value_lemmas), subst IsSound (ap tree c.in-Dict.is ∙ tree-Dict c.in-Dict.pairs) c.requires)
 
 pub cell_of-structure_of-requires : goal.cell_of-structure_of-requires
-cell_of-structure_of-requires t c = (search (rules, value_lemmas), sound_struct _ c.in-Struct.tag c.in-Struct.fields c.in-Struct.is c.requires)
+cell_of-structure_of-requires t c = (search (rules, value_lemmas), subst IsSound (ap tree c.in-Struct.is ∙ tree-Struct c.in-Struct.tag c.in-Struct.fields) c.requires)
 
 pub cells_of-cell_of-requires : goal.cells_of-cell_of-requires
 cells_of-cell_of-requires t c =
@@ -46,7 +46,7 @@ structure_of-path_of-requires t c = (search (rules, value_lemmas), subst (λ m. 
 
 pub properties_of-pairs_of-requires : goal.properties_of-pairs_of-requires
 properties_of-pairs_of-requires t c =
-    (search (rules, value_lemmas), sound_dict _ c.in-Dict.pairs c.in-Dict.is (sound_member c.args.fields.now.items c.args.i c.in-Some.value.now (search rules) (search rules) c.requires))
+    (search (rules, value_lemmas), subst IsSound (ap tree c.in-Dict.is ∙ tree-Dict c.in-Dict.pairs) (sound_member c.args.fields.now.items c.args.i c.in-Some.value.now (search rules) (search rules) c.requires))
 
 pub properties_of-returns-in-Dict : goal.properties_of-returns-in-Dict
 properties_of-returns-in-Dict t c =
@@ -142,15 +142,6 @@ path_of-returns t c =
     let s1 = at_some xs 1 c.index-2.result.now (omega (arith, n)) c.index-2.ensures in
     let s2 = at_some xs 2 c.index-3.result.now (omega (arith, n)) c.index-3.ensures in
     let k2 = sym (ap (is_kind Indices) s2) ∙ (path_kinds xs c.requires).2 in
-    let e = read_by c.requires.version 0x50 (trees_of (trees xs)) (tree_then (list (trees_of (map node_shape c.in_ok-nodes_of.field-0.items))) (tree_then (list (trees_of (map unbound_shape c.in_ok-unbounds_of.field-0.items))) (tree_then (numbers_of c.in_ok-ints_of.field-0.items) no_trees))) (Nodes ∷ Relationships ∷ Indices ∷ []) (at_both c.requires.version 0x50 _ refl) (sound_itself 0x50 _ c.requires) refl
+    let e = read_by c.requires.version 0x50 (trees_of (trees xs)) (tree_then (list (trees_of (map node_shape c.in_ok-nodes_of.field-0.items))) (tree_then (list (trees_of (map unbound_shape c.in_ok-unbounds_of.field-0.items))) (tree_then (numbers_of c.in_ok-ints_of.field-0.items) no_trees))) (Nodes ∷ Relationships ∷ Indices ∷ []) (at_row c.requires.version 0x50 every_version _ refl refl) (sound_itself 0x50 _ c.requires) refl
     ((λ h. c.in_ok-nodes_of.ensures ∙ ap typed (sym s0)), ((λ h. c.in_ok-unbounds_of.ensures ∙ ap typed (sym s1)), ((λ h. c.in_ok-ints_of.ensures k2 ∙ ap typed (sym s2)), tt))) in
     path-roll _ ∙ ap (λ (x : Trees). structure 0x50 x) e
-
-pub path_of-index-requires : goal.path_of-index-requires
-path_of-index-requires t c = omega (arith, path_length c.args.fields.now.items c.requires)
-
-pub path_of-index-requires-2 : goal.path_of-index-requires-2
-path_of-index-requires-2 t c = omega (arith, path_length c.args.fields.now.items c.requires)
-
-pub path_of-index-requires-3 : goal.path_of-index-requires-3
-path_of-index-requires-3 t c = omega (arith, path_length c.args.fields.now.items c.requires)

@@ -1,8 +1,9 @@
 use Rattle.std.proofs.Common.{ℤ, List, None, Some, map, ap, sym, refl, ◌∙◌, rules}
 use Rattle.std.proofs.lemmas.List.Elements.{same_from_all_zip}
+use Rattle.std.proofs.lemmas.Simd.{map-map}
 use Rattle.structures.proofs.Prelude.{Tree, text_of, texts_of, int, list, dict, trees_of, entries_of, value_lemmas, tree-List, tree-Dict, structures, all_fine, fault_of_structure, shape, shapes, entry, entries, node_shape, unbound_shape, fine_member, fine_pair, the_lemmas, out-Path, shape-List, shape-Dict, relationship_parts, node-out, unbound-out, relationship-out, path-out, form}
 use Rattle.cells.proofs.Judged.{node_fine, unbound_fine, relationship_fine, path_nodes_fine, path_unbounds_fine}
-use Rattle.structures.proofs.Fitted.{form_list, form_pairs, form_texts, named_written, relationship_written, path_written}
+use Rattle.structures.proofs.Fitted.{form_list, form_pairs, named_written, relationship_written, path_written}
 use Rattle.structures.proofs.writer.+write.Goals as goal
 
 pub value_of-returns-in_ok-clone-in-Bytes : goal.value_of-returns-in_ok-clone-in-Bytes
@@ -19,7 +20,7 @@ value_of-returns-in_ok-pair_values-in-Dict t c =
 pub node_value-returns : goal.node_value-returns
 node_value-returns t c =
     let n = c.args.node.now in
-    named_written c.args.scope.version 0x4E n.id (texts_of n.labels.items) n.properties.items n.element_id _ refl (ap list (form_texts _ n.labels.items)) (search (rules, value_lemmas, tree-Dict, c.in_ok-of_named.ensures, c.in_ok-labels.ensures, c.in_ok-pair_values.ensures)) ∙ ap (form c.args.scope.version) (sym (node-out n))
+    named_written c.args.scope.version 0x4E n.id (texts_of n.labels.items) n.properties.items n.element_id _ refl (ap list (form_list _ (map text_of n.labels.items) ∙ ap trees_of (map-map _ text_of n.labels.items))) (search (rules, value_lemmas, tree-Dict, c.in_ok-of_named.ensures, c.in_ok-labels.ensures, c.in_ok-pair_values.ensures)) ∙ ap (form c.args.scope.version) (sym (node-out n))
 
 pub unbound_value-returns : goal.unbound_value-returns
 unbound_value-returns t c =
