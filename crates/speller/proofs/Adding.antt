@@ -1,8 +1,8 @@
 -- How what is added comes together: one after the other, in a loop, and behind the head of a list, a dictionary or a structure.
-use Rattle.std.proofs.Common.{◌≡◌, ℕ, suc, ◌+◌, ◌≤◌, ◌<◌, List, [], ◌∷◌, ◌++◌, length, map, drop, get_or, sym, ap, subst, ◌∙◌, refl, append_assoc, true, Result, arith}
+use Rattle.std.proofs.Common.{◌≡◌, ℕ, ℤ, FitsSigned, w64, suc, ◌+◌, ◌≤◌, ◌<◌, List, [], ◌∷◌, ◌++◌, length, map, drop, get_or, sym, ap, subst, ◌∙◌, refl, append_assoc, true, Result, arith}
 use Rattle.std.proofs.lemmas.List.{append-nil, drop_more, drop_all}
 use Rattle.std.proofs.lemmas.Result.{on_ok_weaker}
-use Rattle.packstream.specs.Prelude.{Tree, float, Trees, no_trees, tree_then, Entries, no_entries, entry_then, structure, count, entry_count, AreNewKeys, head, canon_all, trees_of, entries_of}
+use Rattle.packstream.specs.Prelude.{Tree, Trees, no_trees, tree_then, Entries, no_entries, entry_then, structure, count, entry_count, AreNewKeys, head, int_bytes, canon_all, trees_of, entries_of}
 use Rattle.packstream.specs.Writing.{Grown}
 use Rattle.wire.specs.declared.Version.{Version}
 use Rattle.cells.specs.declared.cell.Cell.{Cell}
@@ -21,6 +21,10 @@ none {o} = record { added = sym (append-nil o.more); ready = tt }
 
 pub then : {a b : List ℕ} {P Q : Type 0} {o m n : Grown} → Adds a P o m → Adds b Q m n → Adds (a ++ b) (P × Q) o n
 then {a} {b} {P} {Q} {o} p q = record { added = q.added ∙ ap (λ (x : List ℕ). x ++ b) p.added ∙ append_assoc o.more a b; ready = (p.ready, q.ready) }
+
+-- an integer that is another
+pub as_is : {z w : ℤ} {o n : Grown} → Adds (int_bytes z) (FitsSigned w64 z) o n → z ≡ w → Adds (int_bytes w) (FitsSigned w64 w) o n
+as_is p e = rw (← e) p
 
 -- what a last call puts, seen with what was put before it
 pub last : {T E : Type 0} {P Q : Grown → Grown → Type 0} {o m n : Grown} {r : Result T E} → Puts P m n r → m.before ≡ o.before → (P m n → Q o n) → Puts Q o n r
@@ -76,10 +80,6 @@ entry_count_form v (entry_then k t es) = ap suc (entry_count_form v es)
 new_form : (v : Version) (before : List (List ℕ)) (es : Entries) → AreNewKeys before es → AreNewKeys before (form_under v es)
 new_form v before no_entries h = tt
 new_form v before (entry_then k t es) h = (h.0, new_form v (before ++ k ∷ []) es h.1)
-
-pub form_floats : (v : Version) (ns : List ℕ) → form_all v (trees_of (map float ns)) ≡ trees_of (map float ns)
-form_floats v [] = refl
-form_floats v (n ∷ ns) = ap (λ x. tree_then (float n) x) (form_floats v ns)
 
 pub count_each : {A : Type 0} (f : A → Tree) (xs : List A) → count (trees_of (map f xs)) ≡ length xs
 count_each f [] = refl

@@ -1,5 +1,5 @@
--- What is added to an output. Private functions and proofs alone need it.
-use Rattle.std.specs.Prelude.{◌≡◌, ◌+◌, ◌-◌, ◌++◌, ℕ, List, map, true, String, Result, OnOk}
+-- What is added to an output. But for list_of and dict_of private functions and proofs alone need it.
+use Rattle.std.specs.Prelude.{◌≡◌, ◌+◌, ◌-◌, ◌++◌, ℕ, List, map, true, String, Result, IfOk, OnOk}
 use Rattle.std.specs.declared.alloc.Global.{Global}
 use Rattle.packstream.specs.Prelude.{Tree, list, dict, Trees, canon, canon_all, canon_entries, trees_of, entries_of}
 use Rattle.packstream.specs.Writing.{Grown}
@@ -67,3 +67,8 @@ pub record IsInner (s i : Scope) : Type 0 where
 pub record Opens (s : Scope) (bytes : List ℕ) (old new : Grown) (i : Scope) : Type 0 where
   pub inner : IsInner s i
   pub added : new.more ≡ old.more ++ bytes
+
+-- what was there before the mark stays, and these bytes are added in that way if the answer is yes
+pub record PutsHead {E : Type 0} (s : Scope) (bytes : List ℕ) (old new : Grown) (result : Result Scope E) : Type 0 where
+  pub before : new.before ≡ old.before
+  pub opens : IfOk result (Opens s bytes old new)

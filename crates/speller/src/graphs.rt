@@ -1,5 +1,5 @@
 //! Structures: nodes, relationships and paths, and what of them is looked for first.
-ghost use Rattle.std.specs.Prelude.{◌≡◌, ◌≤◌, true, OnOk};
+ghost use Rattle.std.specs.Prelude.{◌≡◌, ◌≤◌, OnOk};
 ghost use Rattle.packstream.specs.Prelude.{count, int};
 ghost use Rattle.cells.specs.Prelude.{shape, text_of, element_of, elements_of, node_shape, unbound_shape, relationship_shape, path_shape};
 ghost use Rattle.speller.specs.Adding.{Spells, SpellsAnywhere, Puts, IsPassed, list_of};
@@ -77,25 +77,16 @@ fn put_elements(out: &mut Output, ids: &Option<ElementIds>) -> Spelled<()>
     }
 }
 
-/// Whether the structures of a cell have no fault at the version, looked at unless that is known.
-fn is_fine(scope: Scope, cell: &Cell) -> bool
-    ensures { result ≡ true → IsPassed scope (shape cell.now) }
-{
-    match scope.inside {
-        Inside::Fine => true,
-        Inside::Unchecked => check_cell(scope.version, cell, 0).is_ok(),
-    }
-}
-
 /// Spells a structure, whose faults and those of what it holds are looked for first and once.
 #[cycle(speller)]
+#[tactic(auto, using(crate::proofs::Flat::passed))]
 #[inline(never)]
 pub(crate) fn put_structure(out: &mut Output, mut scope: Scope, cell: &Cell) -> Spelled<()>
     ensures spelled { Puts (Spells scope (shape cell.now)) out.old out.new result }
     ensures fine { OnOk result (IsPassed scope (shape cell.now)) }
 {
-    if !is_fine(scope, cell) {
-        return Err(Unspelled);
+    if let Inside::Unchecked = scope.inside {
+        check_cell(scope.version, cell, 0).or(Err(Unspelled))?;
     }
     scope.inside = Inside::Fine;
     match cell {
@@ -148,37 +139,19 @@ fn put_relationship(out: &mut Output, scope: Scope, relationship: &Relationship)
     put_elements(out, &relationship.element_ids)
 }
 
-/// Spells a path.
+/// Spells a path: the list of its nodes, that of its relationships, and the indices of its walk.
 #[cycle(speller)]
 fn put_path(out: &mut Output, scope: Scope, path: &Path) -> Spelled<()>
     ensures { Puts (Spells scope (path_shape path.now)) out.old out.new result }
 {
     let inner = put_opening(out, scope, 3, tags::PATH)?;
-    put_nodes(out, inner, &path.nodes)?;
-    put_unbounds(out, inner, &path.relationships)?;
+    let among = put_list_head(out, inner, path.nodes.len())?;
+    for node in &path.nodes {
+        put_node(out, among, node)?;
+    }
+    let between = put_list_head(out, inner, path.relationships.len())?;
+    for unbound in &path.relationships {
+        put_unbound(out, between, unbound)?;
+    }
     put_number_list(out, inner, &path.indices)
-}
-
-/// Spells a list of nodes.
-#[cycle(speller)]
-fn put_nodes(out: &mut Output, scope: Scope, nodes: &[Node]) -> Spelled<()>
-    ensures { Puts (Spells scope (list_of node_shape nodes.now)) out.old out.new result }
-{
-    let inner = put_list_head(out, scope, nodes.len())?;
-    for node in nodes {
-        put_node(out, inner, node)?;
-    }
-    Ok(())
-}
-
-/// Spells a list of relationships as a path has them.
-#[cycle(speller)]
-fn put_unbounds(out: &mut Output, scope: Scope, unbounds: &[UnboundRelationship]) -> Spelled<()>
-    ensures { Puts (Spells scope (list_of unbound_shape unbounds.now)) out.old out.new result }
-{
-    let inner = put_list_head(out, scope, unbounds.len())?;
-    for unbound in unbounds {
-        put_unbound(out, inner, unbound)?;
-    }
-    Ok(())
 }

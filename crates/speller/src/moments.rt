@@ -1,14 +1,14 @@
 //! Times, durations and points.
 ghost use Rattle.std.specs.Prelude.{◌≤◌, length, map};
-ghost use Rattle.packstream.specs.Prelude.{int, float, structure, no_trees, tree_then, trees_of};
+ghost use Rattle.packstream.specs.Prelude.{int, structure, no_trees, tree_then, trees_of};
 ghost use Rattle.cells.specs.Prelude.{shape, text_of, date_time_tag};
 ghost use Rattle.speller.specs.Adding.{AddsTree, Spells, SpellsAnywhere, Puts};
 
 use crate::fault::{Spelled, Unspelled};
 use crate::scope::Scope;
-use crate::texts::{put_number, put_opening, put_string};
+use crate::texts::{put_bits, put_number, put_opening, put_string};
 use cells::{Cell, tags};
-use packstream::writing::{Output, put_float};
+use packstream::writing::Output;
 
 /// Spells integers, one after the other.
 pub(crate) fn put_ints(out: &mut Output, numbers: &[i64]) -> Spelled<()>
@@ -16,16 +16,6 @@ pub(crate) fn put_ints(out: &mut Output, numbers: &[i64]) -> Spelled<()>
 {
     for number in numbers {
         put_number(out, *number)?;
-    }
-    Ok(())
-}
-
-/// Spells floats, one after the other.
-fn put_floats(out: &mut Output, floats: &[u64]) -> Spelled<()>
-    ensures { Puts (SpellsAnywhere (trees_of (map float floats.now))) out.old out.new result }
-{
-    for bits in floats {
-        put_float(out, *bits)?;
     }
     Ok(())
 }
@@ -38,17 +28,6 @@ fn put_numbers(out: &mut Output, scope: Scope, tag: u8, numbers: &[i64]) -> Spel
 {
     put_opening(out, scope, numbers.len() as u8, tag)?;
     put_ints(out, numbers)
-}
-
-/// Spells a structure of an integer and floats.
-fn put_point(out: &mut Output, scope: Scope, tag: u8, srid: i64, floats: &[u64]) -> Spelled<()>
-    requires { length floats.now ≤ 14 }
-    ensures { Puts (AddsTree scope (structure tag (tree_then (int srid)
-        (trees_of (map float floats.now))))) out.old out.new result }
-{
-    put_opening(out, scope, 1 + floats.len() as u8, tag)?;
-    put_number(out, srid)?;
-    put_floats(out, floats)
 }
 
 /// Spells a structure of two integers and the name of a zone.
@@ -77,9 +56,7 @@ fn put_date_time(out: &mut Output, scope: Scope, utc: i64, nanos: i64, offset: i
     if scope.version.has_utc_times() {
         return put_numbers(out, scope, tags::DATE_TIME, &[utc, nanos, offset]);
     }
-    let Some(local) = utc.checked_add(offset) else {
-        return Err(Unspelled);
-    };
+    let local = utc.checked_add(offset).ok_or(Unspelled)?;
     put_numbers(out, scope, tags::LEGACY_DATE_TIME, &[local, nanos, offset])
 }
 
@@ -116,9 +93,18 @@ pub(crate) fn put_moment(out: &mut Output, scope: Scope, cell: &Cell) -> Spelled
             tags::DURATION,
             &[*months, *days, *seconds, *nanos],
         ),
-        Cell::Point2D { srid, x, y } => put_point(out, scope, tags::POINT_2D, *srid, &[*x, *y]),
+        Cell::Point2D { srid, x, y } => {
+            put_opening(out, scope, 3, tags::POINT_2D)?;
+            put_number(out, *srid)?;
+            put_bits(out, *x)?;
+            put_bits(out, *y)
+        }
         Cell::Point3D { srid, x, y, z } => {
-            put_point(out, scope, tags::POINT_3D, *srid, &[*x, *y, *z])
+            put_opening(out, scope, 4, tags::POINT_3D)?;
+            put_number(out, *srid)?;
+            put_bits(out, *x)?;
+            put_bits(out, *y)?;
+            put_bits(out, *z)
         }
         _ => Err(Unspelled),
     }

@@ -28,10 +28,7 @@ impl Scope {
     pub(crate) fn inner(mut self) -> Spelled<Scope>
         ensures { IfOk result (IsInner self) }
     {
-        if self.room == 0 {
-            return Err(Unspelled);
-        }
-        self.room -= 1;
+        self.room = self.room.checked_sub(1).ok_or(Unspelled)?;
         Ok(self)
     }
 }

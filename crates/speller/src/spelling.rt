@@ -1,18 +1,16 @@
 //! Cells, lists and dictionaries.
-ghost use Rattle.std.specs.Prelude.{◌≡◌, OnOk, true, []};
-ghost use Rattle.packstream.specs.Prelude.{AreNewKeys, entries_of};
-ghost use Rattle.cells.specs.Prelude.{shape, entries};
+ghost use Rattle.std.specs.Prelude.{OnOk};
+ghost use Rattle.cells.specs.Prelude.{shape};
 ghost use Rattle.speller.specs.Adding.{Spells, Puts, IsPassed, list_of, dict_of};
 
 use crate::fault::{Spelled, Unspelled};
 use crate::graphs::put_structure;
 use crate::scope::Scope;
-use crate::texts::{put_bytes, put_list_head, put_number, put_string};
+use crate::texts::{put_bits, put_bytes, put_list_head, put_number, put_string};
 use cells::Cell;
 use packstream::MAX_SIZE;
 use packstream::twins::{Lookup, first_twin};
-use packstream::writing::{Output, put_float, put_head};
-use std::alloc::Global;
+use packstream::writing::{Output, put_head};
 
 /// Spells a cell that nests within the room.
 #[cycle(speller)]
@@ -25,7 +23,7 @@ fn put_cell(out: &mut Output, scope: Scope, cell: &Cell) -> Spelled<()>
         Cell::Null => Ok(out.push(0xC0)?),
         Cell::Bool(b) => Ok(out.push(if *b { 0xC3 } else { 0xC2 })?),
         Cell::Int(n) => put_number(out, *n),
-        Cell::Float(bits) => Ok(put_float(out, *bits)?),
+        Cell::Float(bits) => put_bits(out, *bits),
         Cell::Bytes(bytes) => put_bytes(out, bytes),
         Cell::Text(text) => put_string(out, text),
         Cell::List(members) => put_cells(out, scope, members),
@@ -67,7 +65,7 @@ pub(crate) fn put_entries(out: &mut Output, scope: Scope, pairs: &[(String, Cell
     ensures fine { OnOk result (IsPassed scope (dict_of pairs.now)) }
 {
     let inner = scope.inner()?;
-    if pairs.len() > MAX_SIZE || !are_new(out.allocator(), pairs) {
+    if pairs.len() > MAX_SIZE || first_twin(Lookup::InSet(out.allocator()), pairs) < pairs.len() {
         return Err(Unspelled);
     }
     put_head(out, 0xA0, 0xD8, pairs.len() as u32)?;
@@ -76,11 +74,4 @@ pub(crate) fn put_entries(out: &mut Output, scope: Scope, pairs: &[(String, Cell
         put_cell(out, inner, &pair.1)?;
     }
     Ok(())
-}
-
-/// Whether no key stands twice.
-fn are_new(alloc: Global, pairs: &[(String, Cell)]) -> bool
-    ensures { result ≡ true → AreNewKeys [] (entries_of (entries pairs.now)) }
-{
-    first_twin(Lookup::InSet(alloc), pairs) == pairs.len()
 }

@@ -1,21 +1,21 @@
 //! Heads, integers, texts and bytes.
-ghost use Rattle.std.specs.Prelude.{◌≡◌, ◌≤◌, ◌+◌, ◌∷◌, [], ◌++◌, length, string_bytes, FitsSigned, IfOk, OnOk};
+ghost use Rattle.std.specs.Prelude.{◌≡◌, ◌≤◌, ◌<◌, ◌+◌, ◌^◌, ◌∷◌, [], ◌++◌, length, string_bytes, FitsSigned, OnOk};
 ghost use Rattle.std.specs.Int.{w64};
 ghost use Rattle.std.specs.Str.{IsUtf8};
+ghost use Rattle.byteorder.specs.Endian.{big_bytes};
 ghost use Rattle.packstream.specs.Prelude.{head, long_head, int_bytes, text_bytes, AreBytes};
-ghost use Rattle.speller.specs.Adding.{Adds, Puts, Opens};
+ghost use Rattle.speller.specs.Adding.{Adds, Puts, PutsHead};
 
 use crate::fault::{Spelled, Unspelled};
 use crate::scope::Scope;
 use packstream::MAX_SIZE;
-use packstream::writing::{Output, put_head, put_int, put_short_bytes, put_short_text};
+use packstream::writing::{Output, put_float, put_head, put_int, put_short_bytes, put_short_text};
 
 /// Adds the marker and the tag that a structure of so many fields begins with, and gives the scope of these.
 #[inline]
 pub(crate) fn put_opening(out: &mut Output, scope: Scope, fields: u8, tag: u8) -> Spelled<Scope>
     requires { fields ≤ 15 }
-    ensures before { out.new.before ≡ out.old.before }
-    ensures opens { IfOk result (Opens scope ((0xB0 + fields) ∷ tag ∷ []) out.old out.new) }
+    ensures { PutsHead scope ((0xB0 + fields) ∷ tag ∷ []) out.old out.new result }
 {
     let inner = scope.inner()?;
     out.extend_from_slice(&[0xB0 + fields, tag])?;
@@ -25,8 +25,7 @@ pub(crate) fn put_opening(out: &mut Output, scope: Scope, fields: u8, tag: u8) -
 /// Adds the head of a list of so many members, and gives the scope of these; or says no, to more than 65,536, or for want of memory.
 #[inline]
 pub(crate) fn put_list_head(out: &mut Output, scope: Scope, members: usize) -> Spelled<Scope>
-    ensures before { out.new.before ≡ out.old.before }
-    ensures opens { IfOk result (Opens scope (head 0x90 0xD4 members) out.old out.new) }
+    ensures { PutsHead scope (head 0x90 0xD4 members) out.old out.new result }
 {
     let inner = scope.inner()?;
     if members > MAX_SIZE {
@@ -45,8 +44,7 @@ pub fn put_text(out: &mut Output, text: &str) -> Result<(), Unspelled>
     if text.len() > MAX_SIZE {
         return Err(Unspelled);
     }
-    put_short_text(out, text)?;
-    Ok(())
+    Ok(put_short_text(out, text)?)
 }
 
 /// Spells a text.
@@ -67,6 +65,13 @@ pub(crate) fn put_number(out: &mut Output, n: i64) -> Spelled<()>
     Ok(put_int(out, n)?)
 }
 
+/// Spells a float, by its bits.
+pub(crate) fn put_bits(out: &mut Output, bits: u64) -> Spelled<()>
+    ensures { Puts (Adds (0xC1 ∷ big_bytes 8 bits) (bits < 2 ^ 64)) out.old out.new result }
+{
+    Ok(put_float(out, bits)?)
+}
+
 /// Spells bytes.
 #[tactic(auto, using(packstream::proofs::Ranges::bytes_from_each))]
 pub(crate) fn put_bytes(out: &mut Output, bytes: &[u8]) -> Spelled<()>
@@ -76,6 +81,5 @@ pub(crate) fn put_bytes(out: &mut Output, bytes: &[u8]) -> Spelled<()>
     if bytes.len() > MAX_SIZE {
         return Err(Unspelled);
     }
-    put_short_bytes(out, bytes)?;
-    Ok(())
+    Ok(put_short_bytes(out, bytes)?)
 }

@@ -1,10 +1,11 @@
 //! Lists and dictionaries of cells.
 ghost use Rattle.std.specs.Prelude.{◌≡◌, ◌≤◌, ◌++◌, OnOk};
-ghost use Rattle.packstream.specs.Prelude.{canon, IsGood, depth, list, dict, trees_of, entries_of};
-ghost use Rattle.cells.specs.Prelude.{shapes, entries, IsWritable};
+ghost use Rattle.packstream.specs.Prelude.{canon, IsGood, depth};
+ghost use Rattle.cells.specs.Prelude.{shape, IsWritable};
 ghost use Rattle.structures.specs.Form.{form};
+ghost use Rattle.speller.specs.Adding.{list_of, dict_of};
 
-use crate::fault::Unspelled;
+use crate::fault::Spelled;
 use crate::scope::{Inside, Scope};
 use crate::spelling::{put_cells, put_entries};
 use cells::Cell;
@@ -13,19 +14,15 @@ use wire::Version;
 
 /// Adds the shortest spelling of a list of these cells in the form of the version, which can be written there, is good and nests at most
 /// `room` deep.
-pub fn put_list(
-    out: &mut Output,
-    version: Version,
-    members: &[Cell],
-    room: u8,
-) -> Result<(), Unspelled>
+#[tactic(auto, using(crate::proofs::Sure::all_sure, cells::proofs::Fine::scan_fine))]
+pub fn put_list(out: &mut Output, version: Version, members: &[Cell], room: u8) -> Spelled<()>
     requires { room ≤ 32 }
     ensures before { out.new.before ≡ out.old.before }
     ensures spelled { OnOk result (out.new.more
-        ≡ out.old.more ++ canon (form version (list (trees_of (shapes members.now))))) }
-    ensures good { OnOk result (IsGood (form version (list (trees_of (shapes members.now))))) }
-    ensures deep { OnOk result (depth (form version (list (trees_of (shapes members.now)))) ≤ room) }
-    ensures writable { OnOk result (IsWritable version (list (trees_of (shapes members.now)))) }
+        ≡ out.old.more ++ canon (form version (list_of shape members.now))) }
+    ensures good { OnOk result (IsGood (form version (list_of shape members.now))) }
+    ensures deep { OnOk result (depth (form version (list_of shape members.now)) ≤ room) }
+    ensures writable { OnOk result (IsWritable version (list_of shape members.now)) }
 {
     let scope = Scope {
         version,
@@ -37,19 +34,20 @@ pub fn put_list(
 }
 
 /// Adds the shortest spelling of a dictionary of these entries, as `put_list` that of a list.
+#[tactic(auto, using(crate::proofs::Sure::under_sure, cells::proofs::Fine::scan_fine))]
 pub fn put_dict(
     out: &mut Output,
     version: Version,
     pairs: &[(String, Cell)],
     room: u8,
-) -> Result<(), Unspelled>
+) -> Spelled<()>
     requires { room ≤ 32 }
     ensures before { out.new.before ≡ out.old.before }
     ensures spelled { OnOk result (out.new.more
-        ≡ out.old.more ++ canon (form version (dict (entries_of (entries pairs.now))))) }
-    ensures good { OnOk result (IsGood (form version (dict (entries_of (entries pairs.now))))) }
-    ensures deep { OnOk result (depth (form version (dict (entries_of (entries pairs.now)))) ≤ room) }
-    ensures writable { OnOk result (IsWritable version (dict (entries_of (entries pairs.now)))) }
+        ≡ out.old.more ++ canon (form version (dict_of pairs.now))) }
+    ensures good { OnOk result (IsGood (form version (dict_of pairs.now))) }
+    ensures deep { OnOk result (depth (form version (dict_of pairs.now)) ≤ room) }
+    ensures writable { OnOk result (IsWritable version (dict_of pairs.now)) }
 {
     let scope = Scope {
         version,

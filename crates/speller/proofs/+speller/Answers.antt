@@ -1,9 +1,11 @@
-use Rattle.std.proofs.Common.{◌≡◌, ◌∙◌, true, w64, to_z, of_z, refl, length, rules, arith, lit<}
+use Rattle.std.proofs.Common.{◌≡◌, ◌∙◌, w64, to_z, of_z, refl, length, rules, arith, lit<}
 use Rattle.packstream.specs.Prelude.{head}
+use Rattle.cells.specs.declared.cell.Path.{out-Path}
 use Rattle.cells.specs.Prelude.{shape, node_shape, unbound_shape}
 use Rattle.cells.proofs.Views.{node-out, unbound-out, relationship-out, path-out}
 use Rattle.speller.specs.Adding.{Opens}
 use Rattle.speller.proofs.Adding.{last, none, then, one_more, one_member, one_pair, all_of, list_put, dict_put, structure_put}
+use Rattle.speller.proofs.Flat.{all_new}
 use Rattle.speller.proofs.+speller.Goals as goal
 
 pub spelling::put_cells-loop-member-preserved : goal.spelling::put_cells-loop-member-preserved
@@ -21,26 +23,17 @@ spelling::put_entries-loop-pair-preserved t c =
 
 pub spelling::put_entries-returns : goal.spelling::put_entries-returns
 spelling::put_entries-returns t c =
-    let yes : c.are_new.result ≡ true = search rules in
     let h : Opens c.args.scope (head 0xA0 0xD8 (length c.args.pairs.now)) c.args.out.now c.put_head.new.out c.in_ok-inner.inner = record { inner = c.in_ok-inner.ensures; added = c.in_ok-put_head.ensures.ok } in
     let all = all_of c.loop-pair.invariant.1 (omega (arith, c.loop-pair-test.false)) (none, λ u. refl) in
-    record { spelled = record { before = search rules; put = dict_put c.args.pairs.now h (c.are_new.ensures yes) all.0 }; fine = rw c.in_ok-inner.ensures.is at all.1 }
+    record { spelled = record { before = search rules; put = dict_put c.args.pairs.now h (all_new c.args.pairs.now c.first_twin.result c.first_twin.ensures (omega arith)) all.0 }; fine = rw c.in_ok-inner.ensures.is at all.1 }
 
-pub graphs::put_nodes-loop-node-preserved : goal.graphs::put_nodes-loop-node-preserved
-graphs::put_nodes-loop-node-preserved t c =
+pub graphs::put_path-loop-node-preserved : goal.graphs::put_path-loop-node-preserved
+graphs::put_path-loop-node-preserved t c =
     (c.put_node.ensures.before ∙ c.loop-node.invariant.0, one_more c.loop-node.invariant.1 c.loop-node-test.true c.node-item.is (λ ys e q. then c.in_ok-put_node.ensures.put q))
 
-pub graphs::put_nodes-returns : goal.graphs::put_nodes-returns
-graphs::put_nodes-returns t c =
-    record { before = search rules; put = list_put node_shape c.args.nodes.now c.in_ok-inner.ensures.opens (all_of c.loop-node.invariant.1 (omega (arith, c.loop-node-test.false)) none) }
-
-pub graphs::put_unbounds-loop-unbound-preserved : goal.graphs::put_unbounds-loop-unbound-preserved
-graphs::put_unbounds-loop-unbound-preserved t c =
+pub graphs::put_path-loop-unbound-preserved : goal.graphs::put_path-loop-unbound-preserved
+graphs::put_path-loop-unbound-preserved t c =
     (c.put_unbound.ensures.before ∙ c.loop-unbound.invariant.0, one_more c.loop-unbound.invariant.1 c.loop-unbound-test.true c.unbound-item.is (λ ys e q. then c.in_ok-put_unbound.ensures.put q))
-
-pub graphs::put_unbounds-returns : goal.graphs::put_unbounds-returns
-graphs::put_unbounds-returns t c =
-    record { before = search rules; put = list_put unbound_shape c.args.unbounds.now c.in_ok-inner.ensures.opens (all_of c.loop-unbound.invariant.1 (omega (arith, c.loop-unbound-test.false)) none) }
 
 pub graphs::put_node-returns : goal.graphs::put_node-returns
 graphs::put_node-returns t c =
@@ -71,5 +64,7 @@ graphs::put_relationship-returns t c =
 
 pub graphs::put_path-returns : goal.graphs::put_path-returns
 graphs::put_path-returns t c =
-    last c.put_number_list.ensures (search rules) (λ p. structure_put _ c.in_ok-inner.ensures.opens (path-out c.args.path.now) refl (lit< tt) (omega arith) refl
-    (then (rw c.deref.ensures.value at c.in_ok-put_nodes.ensures.put) (then (rw c.deref-2.ensures.value at c.in_ok-put_unbounds.ensures.put) (then (rw c.deref-3.ensures.value at p) none))))
+    let path = out-Path c.args.path.now in
+    let nodes = list_put node_shape path.nodes.items (rw (c.len.ensures, path.nodes.ok.0) at c.in_ok-among.ensures.opens) (rw c.deref-node-items.ensures.value at (all_of c.loop-node.invariant.1 (omega (arith, c.loop-node-test.false)) none)) in
+    let unbounds = list_put unbound_shape path.relationships.items (rw (c.len-2.ensures, path.relationships.ok.0) at c.in_ok-between.ensures.opens) (rw c.deref-unbound-items.ensures.value at (all_of c.loop-unbound.invariant.1 (omega (arith, c.loop-unbound-test.false)) none)) in
+    last c.put_number_list.ensures (search rules) (λ p. structure_put _ c.in_ok-inner.ensures.opens (path-out c.args.path.now) refl (lit< tt) (omega arith) refl (then nodes (then unbounds (then (rw c.deref.ensures.value at p) none))))

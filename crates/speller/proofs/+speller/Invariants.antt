@@ -22,12 +22,6 @@ decreases-graphs::put_relationship l = 4 * l.scope.room
 abbrev pub decreases-graphs::put_path : goal.decreases-graphs::put_path
 decreases-graphs::put_path l = 4 * l.scope.room
 
-abbrev pub decreases-graphs::put_nodes : goal.decreases-graphs::put_nodes
-decreases-graphs::put_nodes l = 4 * l.scope.room
-
-abbrev pub decreases-graphs::put_unbounds : goal.decreases-graphs::put_unbounds
-decreases-graphs::put_unbounds l = 4 * l.scope.room
-
 abbrev pub decreases-graphs::put_structure : goal.decreases-graphs::put_structure
 decreases-graphs::put_structure l = 4 * l.scope.room + 1
 
@@ -43,8 +37,8 @@ invariant-spelling::put_cells-loop-member l = (l.out.before ≡ l.fn.out.before)
 abbrev pub invariant-spelling::put_entries-loop-pair : goal.invariant-spelling::put_entries-loop-pair
 invariant-spelling::put_entries-loop-pair l = (l.out.before ≡ l.fn.out.before) × Left (Pairs l.inner) l.pairs l.pair-index l.initial.out l.out
 
-abbrev pub invariant-graphs::put_nodes-loop-node : goal.invariant-graphs::put_nodes-loop-node
-invariant-graphs::put_nodes-loop-node l = (l.out.before ≡ l.fn.out.before) × Left (SpellsEach l.inner node_shape) l.nodes l.node-index l.initial.out l.out
+abbrev pub invariant-graphs::put_path-loop-node : goal.invariant-graphs::put_path-loop-node
+invariant-graphs::put_path-loop-node l = (l.out.before ≡ l.fn.out.before) × Left (SpellsEach l.among node_shape) l.node-items l.node-index l.initial.out l.out
 
-abbrev pub invariant-graphs::put_unbounds-loop-unbound : goal.invariant-graphs::put_unbounds-loop-unbound
-invariant-graphs::put_unbounds-loop-unbound l = (l.out.before ≡ l.fn.out.before) × Left (SpellsEach l.inner unbound_shape) l.unbounds l.unbound-index l.initial.out l.out
+abbrev pub invariant-graphs::put_path-loop-unbound : goal.invariant-graphs::put_path-loop-unbound
+invariant-graphs::put_path-loop-unbound l = (l.out.before ≡ l.fn.out.before) × Left (SpellsEach l.between unbound_shape) l.unbound-items l.unbound-index l.initial.out l.out
