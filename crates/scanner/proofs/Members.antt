@@ -1,27 +1,25 @@
 -- Members and entries, and one more behind them.
 use Rattle.std.proofs.Common.{◌≡◌, ℕ, suc, ℤ, Ok, rules, List, [], ◌∷◌, ◌++◌, ◌+◌, ◌-◌, ◌<◌, map, string_bytes, true, refl, sym, ap, ◌∙◌, append_assoc, arith}
 use Rattle.std.proofs.lemmas.List.{append-nil, map_push}
+use Rattle.std.proofs.lemmas.Simd.{map-map}
 use Rattle.packstream.specs.Prelude.{Tree, names, int, trees_of, entries_of, keys, key_at, layer, inner, items_at, entries_at}
 use Rattle.packstream.proofs.Complete.{Pairs}
 use Rattle.packstream.proofs.Steps.{items_on}
 use Rattle.cells.specs.declared.cell.Cell.{Int as IntCase, the_lemmas}
-use Rattle.cells.specs.Prelude.{all_fine, fault_of_structure, structures, structures_in, structures_under, shape, entries}
+use Rattle.cells.specs.Prelude.{all_fine, fault_of_structure, structures, structures_in, structures_under, shape, entry, entries}
 use Rattle.cells.proofs.Both.{both_true}
 use Rattle.cells.proofs.Fine.{fine_append}
-use Rattle.cells.proofs.Views.{Pair, shape-Dict}
+use Rattle.cells.proofs.Views.{Pair}
 use Rattle.structures.specs.Prelude.{form, form_entry}
 use Rattle.scanner.specs.declared.scope.Scope.{Scope}
 use Rattle.scanner.specs.Fronts.{CellJoins, PairJoins}
-
-pub ruleset dicts = (shape-Dict)
 
 pub shape_of_int : (z : ℤ) → shape (IntCase z) ≡ int z
 shape_of_int z = search (rules, the_lemmas)
 
 -- the entries' keys
-firsts_are : (es : List Pair) → map (λ (e : List ℕ × Tree). e.0) (entries es) ≡ names es
-firsts_are [] = refl
-firsts_are (e ∷ es) = ap (λ (ks : List (List ℕ)). string_bytes e.0 ∷ ks) (firsts_are es)
+firsts_are : (es : List Pair) → keys (entries es) ≡ names es
+firsts_are es = map-map (λ e. e.0) entry es
 
 -- what is gathered of a list's elements, and of one more behind them
 gathered : {A B : Type 0} (F : List A → List B) (f : A → List B) → F [] ≡ [] → ((x : A) (xs : List A) → F (x ∷ xs) ≡ f x ++ F xs) → (xs : List A) (y : A) → F (xs ++ y ∷ []) ≡ F xs ++ f y
@@ -48,16 +46,12 @@ EntriesSoFar s room n i es rest b =
     (entries_at (layer (inner room)) (n - i) (map (form_entry s.version) es) rest ≡ entries_at (layer (inner room)) n [] b)
     × (all_fine (fault_of_structure s.version) (structures_under (entries_of es)) ≡ true)
 
-keys_are : (s : Scope) (es : Pairs) → keys (map (form_entry s.version) es) ≡ map (λ (e : List ℕ × Tree). e.0) es
-keys_are s [] = refl
-keys_are s (e ∷ es) = ap (λ (ks : List (List ℕ)). e.0 ∷ ks) (keys_are s es)
-
 pub entries_on : (s : Scope) (room n i : ℕ) (old : List Pair) (new : Pairs) (key rest value mid b : List ℕ) → i < n → key_at (names old) rest ≡ Ok (key, value) → PairJoins s room key (entries old) new value mid → EntriesSoFar s room n i (entries old) rest b → EntriesSoFar s room n (i + 1) new mid b
 unfolding entries_at
 entries_on s room n i old new key rest value mid b lt k m so_far =
     let j = fault_of_structure s.version in
     let one : n - i ≡ suc (n - (i + 1)) = omega (arith, lt) in
-    let first : key_at (keys (map (form_entry s.version) (entries old))) rest ≡ Ok (key, value) = rw (keys_are s (entries old), firsts_are old) k in
+    let first : key_at (keys (map (form_entry s.version) (entries old))) rest ≡ Ok (key, value) = rw (map-map (λ (e : List ℕ × Tree). e.0) (form_entry s.version) (entries old), firsts_are old) k in
     let all = rw (one, first, m.2.0) at so_far.0 in
     rw m.1 (
       rw (map_push (form_entry s.version) (entries old) (key, m.0)) all,
@@ -67,4 +61,4 @@ entries_on s room n i old new key rest value mid b lt k m so_far =
 -- the keys with that of an entry that joined
 pub names_on : (s : Scope) (room : ℕ) (old new : List Pair) (key b rest : List ℕ) → PairJoins s room key (entries old) (entries new) b rest → names new ≡ names old ++ key ∷ []
 names_on s room old new key b rest m =
-    sym (firsts_are new) ∙ ap (map (λ (e : List ℕ × Tree). e.0)) m.1 ∙ map_push (λ (e : List ℕ × Tree). e.0) (entries old) (key, m.0) ∙ ap (λ (ks : List (List ℕ)). ks ++ key ∷ []) (firsts_are old)
+    sym (firsts_are new) ∙ ap keys m.1 ∙ map_push (λ (e : List ℕ × Tree). e.0) (entries old) (key, m.0) ∙ ap (λ (ks : List (List ℕ)). ks ++ key ∷ []) (firsts_are old)

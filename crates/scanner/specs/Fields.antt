@@ -1,9 +1,9 @@
 -- The fields of a structure at the front of bytes, and what opens a list or a structure.
-use Rattle.std.specs.Prelude.{◌≡◌, ◌≤◌, ℕ, ◌-◌, Ok, Some, List, [], ◌∷◌}
+use Rattle.std.specs.Prelude.{◌≡◌, ◌≤◌, ℕ, ◌+◌, ◌-◌, Ok, Some, List, [], ◌∷◌}
 use Rattle.packstream.specs.Tree.{Tree, list, Trees, no_trees, tree_then}
 use Rattle.packstream.specs.View.{trees_of}
 use Rattle.packstream.specs.Good.{count}
-use Rattle.packstream.specs.Reading.{items_at, struct_at, layer, inner}
+use Rattle.packstream.specs.Reading.{◌>>=◌, items_at, struct_at, layer, inner}
 use Rattle.structures.specs.Form.{form, form_all}
 use Rattle.scanner.specs.Fronts.{IsRead}
 use Rattle.scanner.specs.declared.scope.Scope.{Scope}
@@ -13,10 +13,10 @@ abbrev pub Laid : ℕ → Trees → List ℕ → List ℕ → Type 0
 Laid room no_trees b after = after ≡ b
 Laid room (tree_then t ts) b after = (mid : List ℕ) × IsRead room t b mid × Laid room ts mid after
 
--- so many fields are the forms of these at the version
-abbrev pub AreLaid : Scope → ℕ → ℕ → Trees → List ℕ → List ℕ → Type 0
-AreLaid s room n ts b after =
-    (n ≡ count (form_all s.version ts)) × Laid room (form_all s.version ts) b after
+-- the last of n fields, behind so many, are the forms of these at the version
+abbrev pub AreLeft : Scope → ℕ → ℕ → ℕ → Trees → List ℕ → List ℕ → Type 0
+AreLeft s room behind n ts b after =
+    (n ≡ behind + count (form_all s.version ts)) × Laid room (form_all s.version ts) b after
 
 -- behind a structure's marker stand this tag and b, whose n fields make the form of t at the version, and after follows them
 abbrev pub HasFields : Scope → ℕ → ℕ → ℕ → Tree → List ℕ → List ℕ → Type 0
@@ -27,9 +27,8 @@ HasFields s room n tag t b after =
 abbrev pub OpensList : ℕ → ℕ → List ℕ → List ℕ → Type 0
 OpensList room n b rest =
     (1 ≤ room)
-    × ((xs : List Tree) (after : List ℕ)
-    → items_at (layer (inner (room - 1))) n [] rest ≡ Ok (xs, after)
-    → IsRead room (list (trees_of xs)) b after)
+    × (layer (inner room) b ≡ (items_at (layer (inner (room - 1))) n [] rest
+    >>= λ xs. Ok (list (trees_of xs.0), xs.1)))
 
 -- b opens a structure of n fields and this tag, which may nest so deep, and rest is what follows its tag
 abbrev pub OpensStructure : ℕ → ℕ → ℕ → List ℕ → List ℕ → Type 0

@@ -1,15 +1,26 @@
--- What stands at the front of bytes. Of it all only SpellsFront is said to callers.
-use Rattle.std.specs.Prelude.{◌≡◌, ◌++◌, ◌∷◌, ℕ, List, Ok, true, [], map}
-use Rattle.packstream.specs.Tree.{Tree}
+-- What stands at the front of bytes. Of it all only SpellsFront, list_shape and dict_shape are said to callers.
+use Rattle.std.specs.Prelude.{◌≡◌, ◌++◌, ◌∷◌, ℕ, List, Ok, true, [], map, String}
+use Rattle.std.specs.declared.alloc.Global.{Global}
+use Rattle.packstream.specs.Tree.{Tree, list, dict}
 use Rattle.packstream.specs.View.{entries_of, trees_of}
 use Rattle.packstream.specs.Spelling.{Spells}
-use Rattle.packstream.specs.Reading.{Read, items_at, entries_at, layer, inner}
-use Rattle.cells.specs.Faults.{structures, structures_in, structures_under}
+use Rattle.packstream.specs.Reading.{Read, entries_at, layer, inner}
+use Rattle.cells.specs.declared.cell.Cell.{Cell}
+use Rattle.cells.specs.Shape.{shapes, entries}
+use Rattle.cells.specs.Faults.{structures, structures_under}
 use Rattle.cells.specs.Writing.{fault_of_structure}
 use Rattle.cells.specs.Steps.{all_fine}
 use Rattle.structures.specs.Form.{form}
 use Rattle.structures.specs.Steps.{form_entry}
 use Rattle.scanner.specs.declared.scope.Scope.{Scope}
+
+-- a list of these cells, as a tree
+abbrev pub list_shape : List Cell → Tree
+list_shape cs = list (trees_of (shapes cs))
+
+-- a dictionary of these entries
+abbrev pub dict_shape : List (String Global × Cell) → Tree
+dict_shape es = dict (entries_of (entries es))
 
 -- b is a spelling of t, and then rest
 abbrev pub SpellsFront : Tree → List ℕ → List ℕ → Type 0
@@ -28,12 +39,6 @@ Takes s t rest read =
 -- the same from the front of b, where so many may open around each other
 abbrev pub IsTaken : Scope → ℕ → Tree → List ℕ → List ℕ → Type 0
 IsTaken s room t b rest = Takes s t rest (layer (inner room) b)
-
--- so many members of a list are read from the front of b as the forms of these, and rest follows them
-abbrev pub CellsTaken : Scope → ℕ → ℕ → List Tree → List ℕ → List ℕ → Type 0
-CellsTaken s room n ts b rest =
-    (items_at (layer (inner room)) n [] b ≡ Ok (map (form s.version) ts, rest))
-    × (all_fine (fault_of_structure s.version) (structures_in (trees_of ts)) ≡ true)
 
 -- a member that is read from the front of b joins those before it, and rest follows it
 abbrev pub CellJoins : Scope → ℕ → List Tree → List Tree → List ℕ → List ℕ → Type 0

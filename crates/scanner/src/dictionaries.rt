@@ -1,8 +1,8 @@
 //! Dictionaries at the front of bytes.
 ghost use Rattle.std.specs.Prelude.{◌≡◌, IfOk, OnOk, [], ◌∷◌, ◌++◌, string_bytes};
-ghost use Rattle.packstream.specs.Prelude.{dict_at, inner, int, text, dict, entries_of};
+ghost use Rattle.packstream.specs.Prelude.{dict_at, inner, int, text};
 ghost use Rattle.cells.specs.Prelude.{entries};
-ghost use Rattle.scanner.specs.Fronts.{Takes, IsTaken, PairsTaken, PairJoins};
+ghost use Rattle.scanner.specs.Fronts.{Takes, IsTaken, PairsTaken, PairJoins, dict_shape};
 
 use crate::fault::{Left, Scanned, Unscanned};
 use crate::plain::{int_in, marker_in, text_in};
@@ -16,7 +16,7 @@ use packstream::twins::FEW;
 use std::alloc::Global;
 
 /// The entries of a dictionary in their order.
-type Pairs = Vec<(String, Cell)>;
+pub(crate) type Pairs = Vec<(String, Cell)>;
 
 /// A dictionary behind its marker.
 #[cycle(scanner)]
@@ -28,7 +28,7 @@ pub(crate) fn dict_of(
     size: Size,
     bytes: &[u8],
 ) -> Scanned<'_, Pairs>
-    ensures { IfOk result (λ x. Takes scope (dict (entries_of (entries x.0.items))) x.1.now
+    ensures { IfOk result (λ x. Takes scope (dict_shape x.0.items) x.1.now
         (dict_at (inner room) left size bytes.now)) }
 {
     if room == 0 {
@@ -141,8 +141,7 @@ fn many_pairs_of(scope: Scope, room: u8, count: u64, bytes: &[u8]) -> Scanned<'_
 #[cycle(scanner)]
 #[tactic(auto, unfolding(packstream::specs::Reading::form_at))]
 pub(crate) fn dict_in(scope: Scope, room: u8, bytes: &[u8]) -> Scanned<'_, Pairs>
-    ensures { IfOk result
-        (λ x. IsTaken scope room (dict (entries_of (entries x.0.items))) bytes.now x.1.now) }
+    ensures { IfOk result (λ x. IsTaken scope room (dict_shape x.0.items) bytes.now x.1.now) }
 {
     let (marker, rest) = marker_in(bytes)?;
     match marker {

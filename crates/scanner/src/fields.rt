@@ -3,7 +3,7 @@ ghost use Rattle.std.specs.Prelude.{ℕ, IfOk};
 ghost use Rattle.cells.specs.Shape.{text_of, texts_of, numbers_of, element_of, elements_of};
 ghost use Rattle.structures.specs.Form.{form};
 ghost use Rattle.scanner.specs.Fronts.{IsRead};
-ghost use Rattle.scanner.specs.Fields.{AreLaid, OpensList, OpensStructure};
+ghost use Rattle.scanner.specs.Fields.{AreLeft, OpensList, OpensStructure};
 
 use crate::fault::{Scanned, Unscanned};
 use crate::plain::{int_in, marker_in, text_in};
@@ -50,6 +50,7 @@ pub(crate) fn string_in(alloc: Global, bytes: &[u8]) -> Scanned<'_, String>
 }
 
 /// A list of texts.
+#[tactic(auto, using(crate::proofs::Laid::members), unfolding(packstream::specs::Reading::items_at))]
 pub(crate) fn labels_in(scope: Scope, room: u8, bytes: &[u8]) -> Scanned<'_, Vec<String>>
     ensures { IfOk result
         (λ x. IsRead room (form scope.version (texts_of x.0.items)) bytes.now x.1.now) }
@@ -65,6 +66,7 @@ pub(crate) fn labels_in(scope: Scope, room: u8, bytes: &[u8]) -> Scanned<'_, Vec
 }
 
 /// A list of integers.
+#[tactic(auto, using(crate::proofs::Laid::members), unfolding(packstream::specs::Reading::items_at))]
 pub(crate) fn indices_in(scope: Scope, room: u8, bytes: &[u8]) -> Scanned<'_, Vec<i64>>
     ensures { IfOk result
         (λ x. IsRead room (form scope.version (numbers_of x.0.items)) bytes.now x.1.now) }
@@ -79,14 +81,14 @@ pub(crate) fn indices_in(scope: Scope, room: u8, bytes: &[u8]) -> Scanned<'_, Ve
     Ok((indices, rest))
 }
 
-/// The element id, if one field is left.
+/// The element id, if there are four fields in place of three.
 pub(crate) fn element_in(scope: Scope, count: u64, bytes: &[u8]) -> Scanned<'_, Option<String>>
     ensures { (room : ℕ)
-        → IfOk result (λ x. AreLaid scope room count (element_of x.0) bytes.now x.1.now) }
+        → IfOk result (λ x. AreLeft scope room 3 count (element_of x.0) bytes.now x.1.now) }
 {
     match count {
-        0 => Ok((None, bytes)),
-        1 => {
+        3 => Ok((None, bytes)),
+        4 => {
             let (id, rest) = string_in(scope.alloc, bytes)?;
             Ok((Some(id), rest))
         }
@@ -94,14 +96,14 @@ pub(crate) fn element_in(scope: Scope, count: u64, bytes: &[u8]) -> Scanned<'_, 
     }
 }
 
-/// The element ids of a relationship and its ends, if three fields are left.
+/// The element ids of a relationship and its ends, if there are eight fields in place of five.
 pub(crate) fn elements_in(scope: Scope, count: u64, bytes: &[u8]) -> Scanned<'_, Option<ElementIds>>
     ensures { (room : ℕ)
-        → IfOk result (λ x. AreLaid scope room count (elements_of x.0) bytes.now x.1.now) }
+        → IfOk result (λ x. AreLeft scope room 5 count (elements_of x.0) bytes.now x.1.now) }
 {
     match count {
-        0 => Ok((None, bytes)),
-        3 => {
+        5 => Ok((None, bytes)),
+        8 => {
             let (own, rest) = string_in(scope.alloc, bytes)?;
             let (start, rest) = string_in(scope.alloc, rest)?;
             let (end, rest) = string_in(scope.alloc, rest)?;

@@ -35,17 +35,13 @@ pub(crate) fn made_of(
         }
         tags::RELATIONSHIP => {
             let (relationship, rest) = relationship_of(scope, room, count, bytes)?;
-            Ok((
-                Cell::Relationship(Box::new(scope.alloc, relationship)?),
-                rest,
-            ))
+            let relationship = Box::new(scope.alloc, relationship)?;
+            Ok((Cell::Relationship(relationship), rest))
         }
         tags::UNBOUND_RELATIONSHIP => {
             let (unbound, rest) = unbound_of(scope, room, count, bytes)?;
-            Ok((
-                Cell::UnboundRelationship(Box::new(scope.alloc, unbound)?),
-                rest,
-            ))
+            let unbound = Box::new(scope.alloc, unbound)?;
+            Ok((Cell::UnboundRelationship(unbound), rest))
         }
         tags::PATH => {
             let (path, rest) = path_of(scope, room, count, bytes)?;
@@ -61,13 +57,10 @@ fn node_of(scope: Scope, room: u8, count: u64, bytes: &[u8]) -> Scanned<'_, Node
     ensures { IfOk result
         (λ x. HasFields scope room count node_tag (node_shape x.0) bytes.now x.1.now) }
 {
-    if count < 3 {
-        return Err(Unscanned);
-    }
     let (id, rest) = int_in(bytes)?;
     let (labels, rest) = labels_in(scope, room, rest)?;
     let (properties, rest) = dict_in(scope, room, rest)?;
-    let (element_id, rest) = element_in(scope, count - 3, rest)?;
+    let (element_id, rest) = element_in(scope, count, rest)?;
     let node = Node {
         id,
         labels,
@@ -83,13 +76,10 @@ fn unbound_of(scope: Scope, room: u8, count: u64, bytes: &[u8]) -> Scanned<'_, U
     ensures { IfOk result
         (λ x. HasFields scope room count unbound_tag (unbound_shape x.0) bytes.now x.1.now) }
 {
-    if count < 3 {
-        return Err(Unscanned);
-    }
     let (id, rest) = int_in(bytes)?;
     let (kind, rest) = string_in(scope.alloc, rest)?;
     let (properties, rest) = dict_in(scope, room, rest)?;
-    let (element_id, rest) = element_in(scope, count - 3, rest)?;
+    let (element_id, rest) = element_in(scope, count, rest)?;
     let unbound = UnboundRelationship {
         id,
         kind,
@@ -105,15 +95,12 @@ fn relationship_of(scope: Scope, room: u8, count: u64, bytes: &[u8]) -> Scanned<
     ensures { IfOk result (λ x. HasFields scope room count relationship_tag
         (relationship_shape x.0) bytes.now x.1.now) }
 {
-    if count < 5 {
-        return Err(Unscanned);
-    }
     let (id, rest) = int_in(bytes)?;
     let (start, rest) = int_in(rest)?;
     let (end, rest) = int_in(rest)?;
     let (kind, rest) = string_in(scope.alloc, rest)?;
     let (properties, rest) = dict_in(scope, room, rest)?;
-    let (element_ids, rest) = elements_in(scope, count - 5, rest)?;
+    let (element_ids, rest) = elements_in(scope, count, rest)?;
     let relationship = Relationship {
         id,
         start,
@@ -147,6 +134,7 @@ fn path_of(scope: Scope, room: u8, count: u64, bytes: &[u8]) -> Scanned<'_, Path
 
 /// A list of nodes.
 #[cycle(scanner)]
+#[tactic(auto, using(crate::proofs::Laid::members), unfolding(packstream::specs::Reading::items_at, packstream::specs::Reading::struct_at))]
 fn nodes_in(scope: Scope, room: u8, bytes: &[u8]) -> Scanned<'_, Vec<Node>>
     ensures { IfOk result (λ x. IsRead room
         (form scope.version (list (trees_of (map node_shape x.0.items)))) bytes.now x.1.now) }
@@ -164,6 +152,7 @@ fn nodes_in(scope: Scope, room: u8, bytes: &[u8]) -> Scanned<'_, Vec<Node>>
 
 /// A list of relationships without their ends.
 #[cycle(scanner)]
+#[tactic(auto, using(crate::proofs::Laid::members), unfolding(packstream::specs::Reading::items_at, packstream::specs::Reading::struct_at))]
 fn unbounds_in(scope: Scope, room: u8, bytes: &[u8]) -> Scanned<'_, Vec<UnboundRelationship>>
     ensures { IfOk result (λ x. IsRead room
         (form scope.version (list (trees_of (map unbound_shape x.0.items)))) bytes.now x.1.now) }

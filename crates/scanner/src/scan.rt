@@ -1,8 +1,8 @@
 //! Cells at the front of bytes.
 ghost use Rattle.std.specs.Prelude.{ℕ, IfOk};
-ghost use Rattle.packstream.specs.Prelude.{list_at, struct_at, inner, list, trees_of};
+ghost use Rattle.packstream.specs.Prelude.{list_at, struct_at, inner};
 ghost use Rattle.cells.specs.Prelude.{shape, shapes};
-ghost use Rattle.scanner.specs.Fronts.{Takes, IsTaken, CellsTaken, CellJoins};
+ghost use Rattle.scanner.specs.Fronts.{Takes, IsTaken, CellJoins, list_shape};
 
 use crate::dictionaries::dict_of;
 use crate::fault::{Left, Scanned, Unscanned};
@@ -15,7 +15,7 @@ use packstream::reading::{bytes_of, first_room, number_of, signed_of, size_of, t
 
 /// A cell that nests within the room, and of whose structures none has a fault at the version.
 #[cycle(scanner)]
-#[tactic(auto, using(crate::proofs::Members::dicts), unfolding(packstream::specs::Reading::form_at))]
+#[tactic(auto, using(cells::proofs::Views::dicts), unfolding(packstream::specs::Reading::form_at))]
 pub(crate) fn cell_in(scope: Scope, room: u8, bytes: &[u8]) -> Scanned<'_, Cell>
     ensures { IfOk result (λ x. IsTaken scope room (shape x.0) bytes.now x.1.now) }
 {
@@ -57,14 +57,18 @@ pub(crate) fn cell_in(scope: Scope, room: u8, bytes: &[u8]) -> Scanned<'_, Cell>
 #[cycle(scanner)]
 #[tactic(auto, using(packstream::proofs::Steps::inner_more, structures::proofs::Fitted::form_list), unfolding(packstream::specs::Reading::list_at))]
 fn list_of(scope: Scope, room: u8, left: usize, size: Size, bytes: &[u8]) -> Scanned<'_, Vec<Cell>>
-    ensures { IfOk result (λ x. Takes scope (list (trees_of (shapes x.0.items))) x.1.now
+    ensures { IfOk result (λ x. Takes scope (list_shape x.0.items) x.1.now
         (list_at (inner room) left size bytes.now)) }
 {
     if room == 0 {
         return Err(Unscanned);
     }
-    let (count, rest) = size_of(left, size, bytes)?;
-    Ok(members_of(scope, room - 1, count, rest)?)
+    let (count, mut rest) = size_of(left, size, bytes)?;
+    let mut members = Vec::with_capacity(scope.alloc, first_room(count, rest))?;
+    for _ in 0..count {
+        rest = push_member(&mut members, scope, room - 1, rest)?;
+    }
+    Ok((members, rest))
 }
 
 /// A member joins those before it. Integers are put there by this function itself, if there is room: a cell that a call answers is
@@ -95,24 +99,10 @@ fn push_other<'a>(members: &mut Vec<Cell>, scope: Scope, room: u8, bytes: &'a [u
     Ok(rest)
 }
 
-/// So many members of a list.
-#[cycle(scanner)]
-fn members_of(scope: Scope, room: u8, count: u64, bytes: &[u8]) -> Scanned<'_, Vec<Cell>>
-    ensures { IfOk result (λ x. CellsTaken scope room count (shapes x.0.items) bytes.now x.1.now) }
-{
-    let mut members = Vec::with_capacity(scope.alloc, first_room(count, bytes))?;
-    let mut rest = bytes;
-    for _ in 0..count {
-        rest = push_member(&mut members, scope, room, rest)?;
-    }
-    Ok((members, rest))
-}
-
 /// The members of a list.
 #[tactic(auto, unfolding(packstream::specs::Reading::form_at))]
 pub(crate) fn list_in(scope: Scope, room: u8, bytes: &[u8]) -> Scanned<'_, Vec<Cell>>
-    ensures { IfOk result
-        (λ x. IsTaken scope room (list (trees_of (shapes x.0.items))) bytes.now x.1.now) }
+    ensures { IfOk result (λ x. IsTaken scope room (list_shape x.0.items) bytes.now x.1.now) }
 {
     let (marker, rest) = marker_in(bytes)?;
     match marker {
@@ -134,9 +124,7 @@ fn structure_of(scope: Scope, room: u8, count: u64, bytes: &[u8]) -> Scanned<'_,
     if room == 0 {
         return Err(Unscanned);
     }
-    let Some((&tag, rest)) = bytes.split_first() else {
-        return Err(Unscanned);
-    };
+    let (&tag, rest) = bytes.split_first().ok_or(Unscanned)?;
     let (cell, rest) = made_of(scope, room - 1, tag, count, rest)?;
     match check_cell(scope.version, &cell, 0) {
         Ok(_) => Ok((cell, rest)),

@@ -1,11 +1,11 @@
 //! Cells, lists, dictionaries, integers and texts at the front of a message's bytes, or of what is left of them.
 ghost use Rattle.std.specs.Prelude.{◌≤◌, IfOk};
-ghost use Rattle.packstream.specs.Prelude.{IsGood, depth, int, text, list, dict, trees_of, entries_of};
-ghost use Rattle.cells.specs.Prelude.{shape, shapes, entries, IsWritable};
+ghost use Rattle.packstream.specs.Prelude.{IsGood, depth, int, text};
+ghost use Rattle.cells.specs.Prelude.{shape, IsWritable};
 ghost use Rattle.structures.specs.Form.{form};
-ghost use Rattle.scanner.specs.Fronts.{SpellsFront};
+ghost use Rattle.scanner.specs.Fronts.{SpellsFront, list_shape, dict_shape};
 
-use crate::dictionaries::dict_in;
+use crate::dictionaries::{Pairs, dict_in};
 use crate::fault::Scanned;
 use crate::plain::{int_in, text_in};
 use crate::scan::{cell_in, list_in};
@@ -29,28 +29,21 @@ pub fn scan_cell(alloc: Global, version: Version, bytes: &[u8], room: u8) -> Sca
 /// The members of the list whose form at the version the front of the bytes spells, as `scan_cell` a cell.
 pub fn scan_list(alloc: Global, version: Version, bytes: &[u8], room: u8) -> Scanned<'_, Vec<Cell>>
     requires { room ≤ 32 }
-    ensures spelled { IfOk result
-        (λ x. SpellsFront (form version (list (trees_of (shapes x.0.items)))) x.1.now bytes.now) }
-    ensures good { IfOk result (λ x. IsGood (form version (list (trees_of (shapes x.0.items))))) }
-    ensures deep { IfOk result (λ x. depth (form version (list (trees_of (shapes x.0.items)))) ≤ room) }
-    ensures writable { IfOk result (λ x. IsWritable version (list (trees_of (shapes x.0.items)))) }
+    ensures spelled { IfOk result (λ x. SpellsFront (form version (list_shape x.0.items)) x.1.now bytes.now) }
+    ensures good { IfOk result (λ x. IsGood (form version (list_shape x.0.items))) }
+    ensures deep { IfOk result (λ x. depth (form version (list_shape x.0.items)) ≤ room) }
+    ensures writable { IfOk result (λ x. IsWritable version (list_shape x.0.items)) }
 {
     list_in(Scope { alloc, version }, room, bytes)
 }
 
 /// The entries of the dictionary whose form at the version the front of the bytes spells, as `scan_cell` a cell.
-pub fn scan_dict(
-    alloc: Global,
-    version: Version,
-    bytes: &[u8],
-    room: u8,
-) -> Scanned<'_, Vec<(String, Cell)>>
+pub fn scan_dict(alloc: Global, version: Version, bytes: &[u8], room: u8) -> Scanned<'_, Pairs>
     requires { room ≤ 32 }
-    ensures spelled { IfOk result
-        (λ x. SpellsFront (form version (dict (entries_of (entries x.0.items)))) x.1.now bytes.now) }
-    ensures good { IfOk result (λ x. IsGood (form version (dict (entries_of (entries x.0.items))))) }
-    ensures deep { IfOk result (λ x. depth (form version (dict (entries_of (entries x.0.items)))) ≤ room) }
-    ensures writable { IfOk result (λ x. IsWritable version (dict (entries_of (entries x.0.items)))) }
+    ensures spelled { IfOk result (λ x. SpellsFront (form version (dict_shape x.0.items)) x.1.now bytes.now) }
+    ensures good { IfOk result (λ x. IsGood (form version (dict_shape x.0.items))) }
+    ensures deep { IfOk result (λ x. depth (form version (dict_shape x.0.items)) ≤ room) }
+    ensures writable { IfOk result (λ x. IsWritable version (dict_shape x.0.items)) }
 {
     dict_in(Scope { alloc, version }, room, bytes)
 }

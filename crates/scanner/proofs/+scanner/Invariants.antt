@@ -1,7 +1,7 @@
-use Rattle.std.proofs.Common.{◌*◌, ◌+◌, map}
+use Rattle.std.proofs.Common.{◌*◌, ◌+◌, ◌-◌, map}
 use Rattle.packstream.specs.Prelude.{Knows, names}
 use Rattle.cells.specs.Prelude.{shapes, entries, node_shape, unbound_shape}
-use Rattle.scanner.proofs.Laid.{ListSoFar}
+use Rattle.scanner.proofs.Laid.{ReadSoFar}
 use Rattle.scanner.proofs.Members.{MembersSoFar, EntriesSoFar}
 use Rattle.scanner.proofs.+scanner.Given as goal
 
@@ -47,9 +47,6 @@ decreases-dictionaries::push_value l = 6 * l.room + 4
 abbrev pub decreases-graphs::made_of : goal.decreases-graphs::made_of
 decreases-graphs::made_of l = 6 * l.room + 4
 
-abbrev pub decreases-scan::members_of : goal.decreases-scan::members_of
-decreases-scan::members_of l = 6 * l.room + 5
-
 abbrev pub decreases-dictionaries::pairs_of : goal.decreases-dictionaries::pairs_of
 decreases-dictionaries::pairs_of l = 6 * l.room + 6
 
@@ -62,8 +59,8 @@ decreases-graphs::nodes_in l = 6 * l.room + 1
 abbrev pub decreases-graphs::unbounds_in : goal.decreases-graphs::unbounds_in
 decreases-graphs::unbounds_in l = 6 * l.room + 1
 
-abbrev pub invariant-scan::members_of-loop : goal.invariant-scan::members_of-loop
-invariant-scan::members_of-loop l = MembersSoFar l.scope l.room l.count l.counter (shapes l.members.items) l.rest l.bytes
+abbrev pub invariant-scan::list_of-loop : goal.invariant-scan::list_of-loop
+invariant-scan::list_of-loop l = MembersSoFar l.scope (l.room - 1) l.count l.counter (shapes l.members.items) l.rest l.initial.rest
 
 abbrev pub invariant-dictionaries::pairs_of-loop : goal.invariant-dictionaries::pairs_of-loop
 invariant-dictionaries::pairs_of-loop l = EntriesSoFar l.scope l.room l.count l.counter (entries l.pairs.items) l.rest l.bytes
@@ -72,7 +69,7 @@ abbrev pub invariant-dictionaries::many_pairs_of-loop : goal.invariant-dictionar
 invariant-dictionaries::many_pairs_of-loop l = EntriesSoFar l.scope l.room l.count l.counter (entries l.pairs.items) l.rest l.bytes × Knows l.seen (names l.pairs.items)
 
 abbrev pub invariant-graphs::nodes_in-loop : goal.invariant-graphs::nodes_in-loop
-invariant-graphs::nodes_in-loop l = ListSoFar l.scope.version l.room l.count l.counter (map node_shape l.nodes.items) l.rest l.bytes
+invariant-graphs::nodes_in-loop l = ReadSoFar l.scope.version (l.room - 1) l.count l.counter (map node_shape l.nodes.items) l.rest l.initial.rest
 
 abbrev pub invariant-graphs::unbounds_in-loop : goal.invariant-graphs::unbounds_in-loop
-invariant-graphs::unbounds_in-loop l = ListSoFar l.scope.version l.room l.count l.counter (map unbound_shape l.unbounds.items) l.rest l.bytes
+invariant-graphs::unbounds_in-loop l = ReadSoFar l.scope.version (l.room - 1) l.count l.counter (map unbound_shape l.unbounds.items) l.rest l.initial.rest

@@ -1,6 +1,6 @@
 use Rattle.std.proofs.Common.{refl, rules}
 use Rattle.scanner.proofs.fields.elements_in.Goals as goal
 
-pub returns-in_ok-end-in-3 : goal.returns-in_ok-end-in-3
-returns-in_ok-end-in-3 c =
-    λ room. (search rules, (c.in_ok-own-in-3.rest.now, c.in_ok-own-in-3.ensures room, (c.in_ok-start-in-3.rest.now, c.in_ok-start-in-3.ensures room, (c.in_ok-end-in-3.rest.now, c.in_ok-end-in-3.ensures room, refl))))
+pub returns-in_ok-end-in-8 : goal.returns-in_ok-end-in-8
+returns-in_ok-end-in-8 c =
+    λ room. (search rules, (c.in_ok-own-in-8.rest.now, c.in_ok-own-in-8.ensures room, (c.in_ok-start-in-8.rest.now, c.in_ok-start-in-8.ensures room, (c.in_ok-end-in-8.rest.now, c.in_ok-end-in-8.ensures room, refl))))

@@ -1,7 +1,7 @@
-use Rattle.std.proofs.Common.{map}
+use Rattle.std.proofs.Common.{map, ◌-◌}
 use Rattle.packstream.specs.Prelude.{int}
-use Rattle.scanner.proofs.Laid.{ListSoFar}
+use Rattle.scanner.proofs.Laid.{ReadSoFar}
 use Rattle.scanner.proofs.fields.indices_in.Given as goal
 
 abbrev pub invariant-loop : goal.invariant-loop
-invariant-loop l = ListSoFar l.fn.scope.version l.room l.count l.counter (map int l.indices.items) l.rest l.bytes
+invariant-loop l = ReadSoFar l.fn.scope.version (l.room - 1) l.count l.counter (map int l.indices.items) l.rest l.initial.rest
