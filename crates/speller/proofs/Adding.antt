@@ -1,19 +1,5 @@
 -- How what is added comes together: one after the other, in a loop, and behind the head of a list, a dictionary or a structure.
-use Rattle.std.proofs.Common.{◌≡◌, ℕ, ℤ, FitsSigned, w64, suc, ◌+◌, ◌≤◌, ◌<◌, List, [], ◌∷◌, ◌++◌, length, map, drop, get_or, sym, ap, subst, ◌∙◌, refl, append_assoc, true, Result, arith}
-use Rattle.std.proofs.lemmas.List.{append-nil, drop_more, drop_all}
-use Rattle.std.proofs.lemmas.Result.{on_ok_weaker}
-use Rattle.packstream.specs.Prelude.{Tree, Trees, no_trees, tree_then, Entries, no_entries, entry_then, structure, count, entry_count, AreNewKeys, head, int_bytes, canon_all, trees_of, entries_of}
-use Rattle.packstream.specs.Writing.{Grown}
-use Rattle.wire.specs.declared.Version.{Version}
-use Rattle.cells.specs.declared.cell.Cell.{Cell}
-use Rattle.cells.specs.Prelude.{entries, text_of, shape, shapes, structures, structures_in, structures_under, all_fine, fault_of_structure}
-use Rattle.cells.proofs.Both.{both_true}
-use Rattle.cells.proofs.Fine.{fine_append}
-use Rattle.structures.specs.Prelude.{form, form_all, form_under}
-use Rattle.speller.specs.declared.scope.Scope.{Scope}
-use Rattle.speller.specs.declared.scope.Inside.TheVariants.{Unchecked}
-use Rattle.speller.specs.Ready.{AreReady}
-use Rattle.speller.specs.Adding.{Adds, AddsTree, Spells, SpellsAll, SpellsEach, SpellsPairs, Puts, IsPassed, Opens, list_of, dict_of}
+use Rattle.speller.proofs.Words.{◌≡◌, ℕ, ℤ, FitsSigned, w64, suc, ◌+◌, ◌≤◌, ◌<◌, List, [], ◌∷◌, ◌++◌, length, map, drop, get_or, sym, ap, subst, ◌∙◌, refl, append_assoc, true, Result, arith, append-nil, drop_more, drop_all, on_ok_weaker, Tree, Trees, no_trees, tree_then, Entries, no_entries, entry_then, structure, count, entry_count, AreNewKeys, head, int_bytes, canon_all, trees_of, entries_of, Grown, Version, Cell, entries, text_of, shape, shapes, structures, structures_in, structures_under, all_fine, fault_of_structure, both_true, fine_append, form, form_all, form_under, Scope, Unchecked, AreReady, Adds, AddsTree, Spells, SpellsAll, SpellsEach, SpellsPairs, Puts, IsPassed, Opens, list_of, dict_of}
 use Rattle.speller.proofs.Flat.{Pair}
 
 pub none : {o : Grown} → Adds [] (Unit {0}) o o

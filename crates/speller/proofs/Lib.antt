@@ -1,3 +1,4 @@
+pub mod Words
 pub mod Flat
 pub mod Sure
 pub mod Adding

@@ -1,7 +1,5 @@
 -- What is ready is good and nests within its room.
-use Rattle.std.proofs.Common.{ℕ, ◌-◌, ◌≤◌, arith}
-use Rattle.packstream.specs.Prelude.{Tree, null, boolean, list, dict, structure, Trees, no_trees, tree_then, Entries, no_entries, entry_then, IsPlain, ArePlain, HavePlain, depth, trees_depth, entries_depth, IsSound, AreSound, HaveSoundValues, IsGood}
-use Rattle.speller.specs.Ready.{IsReady, AreReady, HaveReady}
+use Rattle.speller.proofs.Words.{ℕ, ◌-◌, ◌≤◌, arith, Tree, null, boolean, list, dict, structure, Trees, no_trees, tree_then, Entries, no_entries, entry_then, IsPlain, ArePlain, HavePlain, depth, trees_depth, entries_depth, IsSound, AreSound, HaveSoundValues, IsReady, AreReady, HaveReady}
 
 -- what nests no deeper than the room, is sound and plain
 abbrev pub IsSure : ℕ → ℕ → Type 0 → Type 0 → Type 0
@@ -29,6 +27,3 @@ mutual
       let a = sure t r h.1.0 in
       let b = under_sure es r h.1.1 in
       (omega (arith, a.0, b.0), (a.1, b.1), (h.0, a.2, b.2))
-
-pub good_by : (t : Tree) (r : ℕ) → r ≤ 32 → IsReady r t → IsGood t
-good_by t r le h = let s = sure t r h in record { deep = omega (arith, s.0, le); sound = s.1; plain = s.2 }

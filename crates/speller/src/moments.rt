@@ -1,8 +1,5 @@
 //! Times, durations and points.
-ghost use Rattle.std.specs.Prelude.{◌≤◌, length, map};
-ghost use Rattle.packstream.specs.Prelude.{int, structure, no_trees, tree_then, trees_of};
-ghost use Rattle.cells.specs.Prelude.{shape, text_of, date_time_tag};
-ghost use Rattle.speller.specs.Adding.{AddsTree, Spells, SpellsAnywhere, Puts};
+ghost use Rattle.speller.specs.Prelude.{◌≤◌, length, map, int, structure, no_trees, tree_then, trees_of, shape, text_of, date_time_tag, AddsTree, Spells, SpellsAnywhere, Puts};
 
 use crate::fault::{Spelled, Unspelled};
 use crate::scope::Scope;
@@ -31,6 +28,7 @@ fn put_numbers(out: &mut Output, scope: Scope, tag: u8, numbers: &[i64]) -> Spel
 }
 
 /// Spells a structure of two integers and the name of a zone.
+#[tactic(auto, using(crate::proofs::Adding::structure_added, crate::proofs::Adding::none, crate::proofs::Adding::then))]
 fn put_zoned(
     out: &mut Output,
     scope: Scope,

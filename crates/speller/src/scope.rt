@@ -1,6 +1,5 @@
 //! How a cell is spelled.
-ghost use Rattle.std.specs.Prelude.{IfOk};
-ghost use Rattle.speller.specs.Adding.{IsInner};
+ghost use Rattle.speller.specs.Prelude.{IfOk, IsInner};
 
 use crate::fault::{Spelled, Unspelled};
 use wire::Version;

@@ -1,7 +1,5 @@
 //! Cells, lists and dictionaries.
-ghost use Rattle.std.specs.Prelude.{OnOk};
-ghost use Rattle.cells.specs.Prelude.{shape};
-ghost use Rattle.speller.specs.Adding.{Spells, Puts, IsPassed, list_of, dict_of};
+ghost use Rattle.speller.specs.Prelude.{OnOk, shape, Spells, Puts, IsPassed, list_of, dict_of};
 
 use crate::fault::{Spelled, Unspelled};
 use crate::graphs::put_structure;

@@ -1,10 +1,5 @@
 //! Heads, integers, texts and bytes.
-ghost use Rattle.std.specs.Prelude.{◌≡◌, ◌≤◌, ◌<◌, ◌+◌, ◌^◌, ◌∷◌, [], ◌++◌, length, string_bytes, FitsSigned, OnOk};
-ghost use Rattle.std.specs.Int.{w64};
-ghost use Rattle.std.specs.Str.{IsUtf8};
-ghost use Rattle.byteorder.specs.Endian.{big_bytes};
-ghost use Rattle.packstream.specs.Prelude.{head, long_head, int_bytes, text_bytes, AreBytes};
-ghost use Rattle.speller.specs.Adding.{Adds, Puts, PutsHead};
+ghost use Rattle.speller.specs.Prelude.{◌≡◌, ◌≤◌, ◌<◌, ◌+◌, ◌^◌, ◌∷◌, [], ◌++◌, length, string_bytes, FitsSigned, OnOk, w64, IsUtf8, big_bytes, head, long_head, int_bytes, text_bytes, AreBytes, Adds, Puts, PutsHead};
 
 use crate::fault::{Spelled, Unspelled};
 use crate::scope::Scope;

@@ -1,9 +1,5 @@
 //! Lists and dictionaries of cells.
-ghost use Rattle.std.specs.Prelude.{◌≡◌, ◌≤◌, ◌++◌, OnOk};
-ghost use Rattle.packstream.specs.Prelude.{canon, IsGood, depth};
-ghost use Rattle.cells.specs.Prelude.{shape, IsWritable};
-ghost use Rattle.structures.specs.Form.{form};
-ghost use Rattle.speller.specs.Adding.{list_of, dict_of};
+ghost use Rattle.speller.specs.Prelude.{◌≡◌, ◌≤◌, ◌++◌, OnOk, canon, IsGood, depth, shape, IsWritable, form, list_of, dict_of};
 
 use crate::fault::Spelled;
 use crate::scope::{Inside, Scope};

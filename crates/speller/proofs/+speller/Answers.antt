@@ -1,9 +1,4 @@
-use Rattle.std.proofs.Common.{◌≡◌, ◌∙◌, w64, to_z, of_z, refl, length, rules, arith, lit<}
-use Rattle.packstream.specs.Prelude.{head}
-use Rattle.cells.specs.declared.cell.Path.{out-Path}
-use Rattle.cells.specs.Prelude.{shape, node_shape, unbound_shape}
-use Rattle.cells.proofs.Views.{node-out, unbound-out, relationship-out, path-out}
-use Rattle.speller.specs.Adding.{Opens}
+use Rattle.speller.proofs.Words.{◌≡◌, ◌∙◌, w64, to_z, of_z, refl, length, rules, arith, lit<, head, out-Path, shape, node_shape, unbound_shape, node-out, unbound-out, relationship-out, path-out, Opens}
 use Rattle.speller.proofs.Adding.{last, none, then, one_more, one_member, one_pair, all_of, list_put, dict_put, structure_put}
 use Rattle.speller.proofs.Flat.{all_new}
 use Rattle.speller.proofs.+speller.Goals as goal

@@ -1,6 +1,4 @@
-use Rattle.std.proofs.Common.{◌≡◌, ◌+◌, ◌*◌}
-use Rattle.cells.specs.Prelude.{node_shape, unbound_shape}
-use Rattle.speller.specs.Adding.{SpellsEach}
+use Rattle.speller.proofs.Words.{◌≡◌, ◌+◌, ◌*◌, node_shape, unbound_shape, SpellsEach}
 use Rattle.speller.proofs.Adding.{Left, Members, Pairs}
 use Rattle.speller.proofs.+speller.Given as goal
 

@@ -1,5 +1,4 @@
-use Rattle.std.proofs.Common.{rules}
-use Rattle.packstream.specs.Prelude.{int}
+use Rattle.speller.proofs.Words.{rules, int}
 use Rattle.speller.proofs.Adding.{last, list_put}
 use Rattle.speller.proofs.graphs.put_number_list.Goals as goal
 

@@ -1,5 +1,4 @@
-use Rattle.std.proofs.Common.{rules, ◌∙◌, arith}
-use Rattle.cells.specs.Prelude.{text_of}
+use Rattle.speller.proofs.Words.{rules, ◌∙◌, arith, text_of}
 use Rattle.speller.proofs.Adding.{none, then, one_more, all_of, list_put}
 use Rattle.speller.proofs.graphs.put_texts.Goals as goal
 

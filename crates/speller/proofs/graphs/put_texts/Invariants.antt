@@ -1,7 +1,4 @@
-use Rattle.std.proofs.Common.{◌≡◌}
-use Rattle.cells.specs.Prelude.{text_of}
-use Rattle.speller.specs.declared.scope.Scope.{Scope}
-use Rattle.speller.specs.Adding.{SpellsEach}
+use Rattle.speller.proofs.Words.{◌≡◌, text_of, Scope, SpellsEach}
 use Rattle.speller.proofs.Adding.{Left}
 use Rattle.speller.proofs.graphs.put_texts.Given as goal
 

@@ -1,5 +1,4 @@
-use Rattle.std.proofs.Common.{◌≡◌, ◌∙◌, ℤ, pos, get_or, to_z, of_z, w64, rules, arith}
-use Rattle.std.proofs.lemmas.List.{get_or_default}
+use Rattle.speller.proofs.Words.{◌≡◌, ◌∙◌, ℤ, pos, get_or, to_z, of_z, w64, rules, arith, get_or_default}
 use Rattle.speller.proofs.Adding.{none, then, one_more, all_of}
 use Rattle.speller.proofs.moments.put_ints.Goals as goal
 

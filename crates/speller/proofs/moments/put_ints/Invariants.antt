@@ -1,7 +1,4 @@
-use Rattle.std.proofs.Common.{◌≡◌}
-use Rattle.packstream.specs.Prelude.{int}
-use Rattle.speller.specs.declared.scope.Scope.{Scope}
-use Rattle.speller.specs.Adding.{SpellsEach}
+use Rattle.speller.proofs.Words.{◌≡◌, int, Scope, SpellsEach}
 use Rattle.speller.proofs.Adding.{Left}
 use Rattle.speller.proofs.moments.put_ints.Given as goal
 

@@ -1,6 +1,4 @@
-use Rattle.std.proofs.Common.{refl, rules, arith}
-use Rattle.packstream.specs.Prelude.{int, float, no_trees, tree_then}
-use Rattle.cells.proofs.Views.{shape-Point2D, shape-Point3D}
+use Rattle.speller.proofs.Words.{refl, rules, arith, int, float, no_trees, tree_then, shape-Point2D, shape-Point3D}
 use Rattle.speller.proofs.Adding.{last, none, then, as_is, structure_added}
 use Rattle.speller.proofs.moments.put_moment.Goals as goal
 

@@ -1,6 +1,4 @@
-use Rattle.std.proofs.Common.{rules, map, sym, arith}
-use Rattle.packstream.specs.Prelude.{int, trees_of}
-use Rattle.structures.proofs.Fitted.{form_numbers}
+use Rattle.speller.proofs.Words.{rules, map, sym, arith, int, trees_of, form_numbers}
 use Rattle.speller.proofs.Adding.{last, count_each, structure_added}
 use Rattle.speller.proofs.moments.put_numbers.Goals as goal
 
