@@ -1,14 +1,5 @@
 -- What was read from the front of bytes: a good tree, which that front spells.
-use Rattle.std.proofs.Common.{ℕ, ◌≤◌, List, Result, Ok, Err, subst, arith, IfOk}
-use Rattle.packstream.specs.Prelude.{Tree, IsGood, depth, AreBytes}
-use Rattle.packstream.proofs.Bounds.{good_spelled}
-use Rattle.packstream.proofs.Ranges.{front_bytes}
-use Rattle.packstream.proofs.Sound.{sound}
-use Rattle.cells.specs.Prelude.{fault_of_structure, structures, IsWritable}
-use Rattle.cells.proofs.Fine.{scan_fine}
-use Rattle.structures.specs.Prelude.{form}
-use Rattle.scanner.specs.declared.scope.Scope.{Scope}
-use Rattle.scanner.specs.Fronts.{SpellsFront, IsRead, IsTaken}
+use Rattle.scanner.proofs.Words.{ℕ, ◌≤◌, List, Result, Ok, Err, subst, arith, IfOk, Tree, IsGood, depth, AreBytes, good_spelled, front_bytes, sound, fault_of_structure, structures, IsWritable, scan_fine, form, Scope, SpellsFront, IsRead, IsTaken}
 
 -- the front of b spells the good tree t, which nests at most so deep, and rest follows it
 record Taken (room : ℕ) (b rest : List ℕ) (t : Tree) : Type 0 where

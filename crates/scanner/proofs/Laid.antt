@@ -1,19 +1,5 @@
 -- Fields that are read one after the other, and what is read behind a head.
-use Rattle.std.proofs.Common.{◌≡◌, ℕ, ℤ, ◌+◌, ◌-◌, ◌<◌, ◌+ℤ◌, ◌-ℤ◌, false, cond, List, [], ◌∷◌, ◌++◌, map, Ok, refl, sym, ap, ◌∙◌, append-nil, append_assoc}
-use Rattle.std.proofs.lemmas.List.{map_push}
-use Rattle.packstream.specs.Prelude.{Tree, structure, Trees, no_trees, tree_then, trees_of, count, items_at, struct_at, layer, inner}
-use Rattle.packstream.proofs.Steps.{items_more, items_on, items_done}
-use Rattle.wire.specs.declared.Version.{Version}
-use Rattle.wire.specs.Prelude.{has_utc_times}
-use Rattle.cells.specs.declared.cell.Cell.{DateTime}
-use Rattle.cells.specs.Prelude.{shape}
-use Rattle.cells.proofs.Views.{shape-DateTime}
-use Rattle.structures.specs.Prelude.{form, form_all, date_time_fields as three}
-use Rattle.structures.proofs.Fitted.{form_list}
-use Rattle.structures.proofs.Formed.{back_and_there}
-use Rattle.scanner.specs.declared.scope.Scope.{Scope}
-use Rattle.scanner.specs.Fronts.{IsRead}
-use Rattle.scanner.specs.Fields.{Laid, HasFields}
+use Rattle.scanner.proofs.Words.{◌≡◌, ℕ, ℤ, ◌+◌, ◌-◌, ◌<◌, ◌+ℤ◌, ◌-ℤ◌, false, cond, List, [], ◌∷◌, ◌++◌, map, Ok, refl, sym, ap, ◌∙◌, append-nil, append_assoc, map_push, Tree, structure, Trees, no_trees, tree_then, trees_of, count, items_at, struct_at, layer, inner, items_more, items_on, items_done, Version, has_utc_times, DateTime, shape, shape-DateTime, form, form_all, three, form_list, back_and_there, Scope, IsRead, Laid, HasFields}
 
 -- these trees in a list
 abbrev listed : Trees → List Tree

@@ -1,18 +1,5 @@
 -- Members and entries, and one more behind them.
-use Rattle.std.proofs.Common.{◌≡◌, ℕ, suc, ℤ, Ok, rules, List, [], ◌∷◌, ◌++◌, ◌+◌, ◌-◌, ◌<◌, map, string_bytes, true, refl, sym, ap, ◌∙◌, append_assoc, arith}
-use Rattle.std.proofs.lemmas.List.{append-nil, map_push}
-use Rattle.std.proofs.lemmas.Simd.{map-map}
-use Rattle.packstream.specs.Prelude.{Tree, names, int, trees_of, entries_of, keys, key_at, layer, inner, items_at, entries_at}
-use Rattle.packstream.proofs.Complete.{Pairs}
-use Rattle.packstream.proofs.Steps.{items_on}
-use Rattle.cells.specs.declared.cell.Cell.{Int as IntCase, the_lemmas}
-use Rattle.cells.specs.Prelude.{all_fine, fault_of_structure, structures, structures_in, structures_under, shape, entry, entries}
-use Rattle.cells.proofs.Both.{both_true}
-use Rattle.cells.proofs.Fine.{fine_append}
-use Rattle.cells.proofs.Views.{Pair}
-use Rattle.structures.specs.Prelude.{form, form_entry}
-use Rattle.scanner.specs.declared.scope.Scope.{Scope}
-use Rattle.scanner.specs.Fronts.{CellJoins, PairJoins}
+use Rattle.scanner.proofs.Words.{◌≡◌, ℕ, suc, ℤ, Ok, rules, List, [], ◌∷◌, ◌++◌, ◌+◌, ◌-◌, ◌<◌, map, true, refl, sym, ap, ◌∙◌, append-nil, append_assoc, arith, map_push, map-map, Tree, names, int, trees_of, entries_of, keys, key_at, layer, inner, items_at, entries_at, Pairs, items_on, IntCase, the_lemmas, all_fine, fault_of_structure, structures, structures_in, structures_under, shape, entry, entries, both_true, fine_append, Pair, form, form_entry, Scope, CellJoins, PairJoins}
 
 pub shape_of_int : (z : ℤ) → shape (IntCase z) ≡ int z
 shape_of_int z = search (rules, the_lemmas)

@@ -1,10 +1,5 @@
 //! Structures, and of them nodes, relationships and paths, behind their tag.
-ghost use Rattle.std.specs.Prelude.{IfOk, map};
-ghost use Rattle.packstream.specs.Prelude.{list, trees_of};
-ghost use Rattle.cells.specs.Prelude.{shape, node_shape, unbound_shape, relationship_shape, path_shape, node_tag, relationship_tag, unbound_tag, path_tag};
-ghost use Rattle.structures.specs.Form.{form};
-ghost use Rattle.scanner.specs.Fronts.{IsRead};
-ghost use Rattle.scanner.specs.Fields.{HasFields};
+ghost use Rattle.scanner.specs.Prelude.{IfOk, map, list, trees_of, shape, node_shape, unbound_shape, relationship_shape, path_shape, node_tag, relationship_tag, unbound_tag, path_tag, form, IsRead, HasFields};
 
 use crate::dictionaries::dict_in;
 use crate::fault::{Scanned, Unscanned};

@@ -1,7 +1,5 @@
 //! Dates, times, durations and points, behind their tag.
-ghost use Rattle.std.specs.Prelude.{ℕ, IfOk};
-ghost use Rattle.cells.specs.Shape.{shape};
-ghost use Rattle.scanner.specs.Fields.{HasFields};
+ghost use Rattle.scanner.specs.Prelude.{ℕ, IfOk, shape, HasFields};
 
 use crate::fault::{Scanned, Unscanned};
 use crate::fields::string_in;

@@ -1,8 +1,5 @@
 //! Cells at the front of bytes.
-ghost use Rattle.std.specs.Prelude.{ℕ, IfOk};
-ghost use Rattle.packstream.specs.Prelude.{list_at, struct_at, inner};
-ghost use Rattle.cells.specs.Prelude.{shape, shapes};
-ghost use Rattle.scanner.specs.Fronts.{Takes, IsTaken, CellJoins, list_shape};
+ghost use Rattle.scanner.specs.Prelude.{ℕ, IfOk, list_at, struct_at, inner, shape, shapes, Takes, IsTaken, CellJoins, list_shape};
 
 use crate::dictionaries::dict_of;
 use crate::fault::{Left, Scanned, Unscanned};

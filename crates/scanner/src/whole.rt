@@ -1,9 +1,5 @@
 //! Cells, lists, dictionaries, integers and texts at the front of a message's bytes, or of what is left of them.
-ghost use Rattle.std.specs.Prelude.{◌≤◌, IfOk};
-ghost use Rattle.packstream.specs.Prelude.{IsGood, depth, int, text};
-ghost use Rattle.cells.specs.Prelude.{shape, IsWritable};
-ghost use Rattle.structures.specs.Form.{form};
-ghost use Rattle.scanner.specs.Fronts.{SpellsFront, list_shape, dict_shape};
+ghost use Rattle.scanner.specs.Prelude.{◌≤◌, IfOk, IsGood, depth, int, text, shape, IsWritable, form, SpellsFront, list_shape, dict_shape};
 
 use crate::dictionaries::{Pairs, dict_in};
 use crate::fault::Scanned;

@@ -1,11 +1,4 @@
-use Rattle.std.proofs.Common.{◌≡◌, ◌-◌, ◌++◌, ◌∷◌, [], ap, ◌∙◌, List, ℕ, refl, rules, to_z, of_z, w64, map, arith}
-use Rattle.std.proofs.lemmas.List.{map_push}
-use Rattle.packstream.specs.Prelude.{Tree, Knows, names, int, text, dict_at, list_at, layer, inner, entries_at}
-use Rattle.packstream.proofs.Steps.{inner_more, items_done, entries_done}
-use Rattle.cells.specs.Prelude.{shape, shapes, entry, entries, node_shape, unbound_shape}
-use Rattle.cells.proofs.Views.{node-roll, unbound-roll, relationship-roll, path-roll}
-use Rattle.structures.specs.Prelude.{form, form_entry}
-use Rattle.structures.proofs.Fitted.{form_list}
+use Rattle.scanner.proofs.Words.{◌≡◌, ◌-◌, ◌++◌, ◌∷◌, [], ap, ◌∙◌, List, ℕ, refl, rules, to_z, of_z, w64, map, arith, map_push, Tree, Knows, names, int, text, dict_at, list_at, layer, inner, entries_at, inner_more, items_done, entries_done, shape, shapes, entry, entries, node_shape, unbound_shape, node-roll, unbound-roll, relationship-roll, path-roll, form, form_entry, form_list}
 use Rattle.scanner.proofs.Laid.{has_fields, list_on}
 use Rattle.scanner.proofs.Members.{shape_of_int, members_on, entries_on, names_on}
 use Rattle.scanner.proofs.+scanner.Goals as goal

@@ -1,6 +1,4 @@
-use Rattle.std.proofs.Common.{◌*◌, ◌+◌, ◌-◌, map}
-use Rattle.packstream.specs.Prelude.{Knows, names}
-use Rattle.cells.specs.Prelude.{shapes, entries, node_shape, unbound_shape}
+use Rattle.scanner.proofs.Words.{◌*◌, ◌+◌, ◌-◌, map, Knows, names, shapes, entries, node_shape, unbound_shape}
 use Rattle.scanner.proofs.Laid.{ReadSoFar}
 use Rattle.scanner.proofs.Members.{MembersSoFar, EntriesSoFar}
 use Rattle.scanner.proofs.+scanner.Given as goal

@@ -1,4 +1,4 @@
-use Rattle.std.proofs.Common.{refl, rules}
+use Rattle.scanner.proofs.Words.{refl, rules}
 use Rattle.scanner.proofs.fields.elements_in.Goals as goal
 
 pub returns-in_ok-end-in-8 : goal.returns-in_ok-end-in-8

@@ -1,5 +1,4 @@
-use Rattle.std.proofs.Common.{map, ◌-◌}
-use Rattle.packstream.specs.Prelude.{int}
+use Rattle.scanner.proofs.Words.{map, ◌-◌, int}
 use Rattle.scanner.proofs.Laid.{ReadSoFar}
 use Rattle.scanner.proofs.fields.indices_in.Given as goal
 

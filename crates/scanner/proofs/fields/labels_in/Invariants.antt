@@ -1,5 +1,4 @@
-use Rattle.std.proofs.Common.{map, ◌-◌}
-use Rattle.cells.specs.Prelude.{text_of}
+use Rattle.scanner.proofs.Words.{map, ◌-◌, text_of}
 use Rattle.scanner.proofs.Laid.{ReadSoFar}
 use Rattle.scanner.proofs.fields.labels_in.Given as goal
 

@@ -1,7 +1,4 @@
-use Rattle.std.proofs.Common.{◌≡◌, false, ◌-ℤ◌, rules, refl, to_z, of_z, w64}
-use Rattle.packstream.specs.Prelude.{structure}
-use Rattle.wire.specs.Prelude.{has_utc_times}
-use Rattle.structures.specs.Prelude.{date_time_fields as three}
+use Rattle.scanner.proofs.Words.{◌≡◌, false, ◌-ℤ◌, rules, refl, to_z, of_z, w64, structure, has_utc_times, three}
 use Rattle.scanner.proofs.Laid.{has_fields, local_formed}
 use Rattle.scanner.proofs.moments.date_time_of.Goals as goal
 

@@ -1,5 +1,4 @@
-use Rattle.packstream.proofs.Ranges.{bytes_from_each}
-use Rattle.cells.specs.Prelude.{shape}
+use Rattle.scanner.proofs.Words.{bytes_from_each, shape}
 use Rattle.scanner.proofs.Fronts.{forms}
 use Rattle.scanner.proofs.whole.scan_cell.Goals as goal
 

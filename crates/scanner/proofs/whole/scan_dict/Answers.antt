@@ -1,6 +1,4 @@
-use Rattle.packstream.proofs.Ranges.{bytes_from_each}
-use Rattle.packstream.specs.Prelude.{dict, entries_of}
-use Rattle.cells.specs.Prelude.{entries}
+use Rattle.scanner.proofs.Words.{bytes_from_each, dict, entries_of, entries}
 use Rattle.scanner.proofs.Fronts.{forms}
 use Rattle.scanner.proofs.whole.scan_dict.Goals as goal
 

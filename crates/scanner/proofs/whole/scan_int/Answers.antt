@@ -1,6 +1,4 @@
-use Rattle.std.proofs.Common.{arith}
-use Rattle.packstream.proofs.Ranges.{bytes_from_each}
-use Rattle.packstream.specs.Prelude.{int}
+use Rattle.scanner.proofs.Words.{arith, bytes_from_each, int}
 use Rattle.scanner.proofs.Fronts.{fronts}
 use Rattle.scanner.proofs.whole.scan_int.Goals as goal
 

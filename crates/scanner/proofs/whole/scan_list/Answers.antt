@@ -1,6 +1,4 @@
-use Rattle.packstream.proofs.Ranges.{bytes_from_each}
-use Rattle.packstream.specs.Prelude.{list, trees_of}
-use Rattle.cells.specs.Prelude.{shapes}
+use Rattle.scanner.proofs.Words.{bytes_from_each, list, trees_of, shapes}
 use Rattle.scanner.proofs.Fronts.{forms}
 use Rattle.scanner.proofs.whole.scan_list.Goals as goal
 

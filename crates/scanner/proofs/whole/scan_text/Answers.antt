@@ -1,6 +1,4 @@
-use Rattle.std.proofs.Common.{arith}
-use Rattle.packstream.proofs.Ranges.{bytes_from_each}
-use Rattle.packstream.specs.Prelude.{text}
+use Rattle.scanner.proofs.Words.{arith, bytes_from_each, text}
 use Rattle.scanner.proofs.Fronts.{fronts}
 use Rattle.scanner.proofs.whole.scan_text.Goals as goal
 

@@ -1,0 +1,24 @@
+-- What the proofs of this crate cite of other crates, and of what its own source and its definitions name.
+pub use Rattle.std.proofs.Common.{Err, IfOk, List, Ok, Result, [], ap, append-nil, append_assoc, arith, cond, false, map, of_z, refl, rules, subst, suc, sym, to_z, true, w64, ℕ, ℤ, ◌*◌, ◌++◌, ◌+ℤ◌, ◌+◌, ◌-ℤ◌, ◌-◌, ◌<◌, ◌∙◌, ◌∷◌, ◌≡◌, ◌≤◌}
+pub use Rattle.std.proofs.lemmas.List.{map_push}
+pub use Rattle.std.proofs.lemmas.Simd.{map-map}
+pub use Rattle.packstream.proofs.Bounds.{good_spelled}
+pub use Rattle.packstream.proofs.Complete.{Pairs}
+pub use Rattle.packstream.proofs.Ranges.{bytes_from_each, front_bytes}
+pub use Rattle.packstream.proofs.Sound.{sound}
+pub use Rattle.packstream.proofs.Steps.{entries_done, inner_more, items_done, items_more, items_on}
+pub use Rattle.packstream.specs.Prelude.{AreBytes, IsGood, Knows, Tree, Trees, count, depth, dict, entries_of, inner, int, key_at, keys, layer, list, names, no_trees, structure, text, tree_then, trees_of}
+unfoldable pub use Rattle.packstream.specs.Prelude.{dict_at, entries_at, items_at, list_at, struct_at}
+pub use Rattle.wire.specs.Prelude.{has_utc_times}
+pub use Rattle.wire.specs.declared.Version.{Version}
+pub use Rattle.cells.proofs.Both.{both_true}
+pub use Rattle.cells.proofs.Fine.{fine_append, scan_fine}
+pub use Rattle.cells.proofs.Views.{Pair, node-roll, path-roll, relationship-roll, shape-DateTime, unbound-roll}
+pub use Rattle.cells.specs.Prelude.{IsWritable, all_fine, entries, entry, fault_of_structure, node_shape, shape, shapes, structures, structures_in, structures_under, text_of, unbound_shape}
+pub use Rattle.cells.specs.declared.cell.Cell.{DateTime, Int as IntCase, the_lemmas}
+pub use Rattle.structures.proofs.Fitted.{form_list}
+pub use Rattle.structures.proofs.Formed.{back_and_there}
+pub use Rattle.structures.specs.Prelude.{date_time_fields as three, form, form_all, form_entry}
+pub use Rattle.scanner.specs.Fields.{HasFields, Laid}
+pub use Rattle.scanner.specs.Fronts.{CellJoins, IsRead, IsTaken, PairJoins, SpellsFront}
+pub use Rattle.scanner.specs.declared.scope.Scope.{Scope}
