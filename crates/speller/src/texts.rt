@@ -61,6 +61,7 @@ pub(crate) fn put_number(out: &mut Output, n: i64) -> Spelled<()>
 }
 
 /// Spells a float, by its bits.
+#[inline]
 pub(crate) fn put_bits(out: &mut Output, bits: u64) -> Spelled<()>
     ensures { Puts (Adds (0xC1 ∷ big_bytes 8 bits) (bits < 2 ^ 64)) out.old out.new result }
 {

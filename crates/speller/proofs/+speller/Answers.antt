@@ -1,5 +1,5 @@
-use Rattle.speller.proofs.Words.{◌≡◌, ◌∙◌, w64, to_z, of_z, refl, length, rules, arith, lit<, head, out-Path, shape, node_shape, unbound_shape, node-out, unbound-out, relationship-out, path-out, Opens}
-use Rattle.speller.proofs.Adding.{last, none, then, one_more, one_member, one_pair, all_of, list_put, dict_put, structure_put}
+use Rattle.speller.proofs.Words.{◌∙◌, refl, length, rules, arith, lit<, head, out-Path, shape, node_shape, unbound_shape, node-out, unbound-out, relationship-out, path-out, Opens}
+use Rattle.speller.proofs.Adding.{last, none, then, as_is, one_more, one_member, one_pair, all_of, list_put, dict_put, structure_put}
 use Rattle.speller.proofs.Flat.{all_new}
 use Rattle.speller.proofs.+speller.Goals as goal
 
@@ -32,30 +32,19 @@ graphs::put_path-loop-unbound-preserved t c =
 
 pub graphs::put_node-returns : goal.graphs::put_node-returns
 graphs::put_node-returns t c =
-    let n = c.args.node.now in
-    let i = c.in_ok-inner.inner in
-    let id : to_z w64 (of_z w64 n.id) ≡ n.id = search rules in
-    last c.put_element.ensures (search rules) (λ p. structure_put _ c.in_ok-inner.ensures.opens (node-out n) refl (lit< tt) (omega arith) (omega arith)
-    (then (rw id at c.in_ok-put_number.ensures.put) (then (rw c.deref.ensures.value at c.in_ok-put_texts.ensures.put) (then (rw c.deref-2.ensures.value at c.in_ok-put_entries.ensures.spelled.put) (p i)))))
+    last c.put_element.ensures (search rules) (λ p. structure_put _ c.in_ok-inner.ensures.opens (node-out c.args.node.now) refl (lit< tt) (omega arith) (omega arith)
+    (then (as_is c.in_ok-put_number.ensures.put (search rules)) (then (rw c.deref.ensures.value at c.in_ok-put_texts.ensures.put) (then (rw c.deref-2.ensures.value at c.in_ok-put_entries.ensures.spelled.put) (p c.in_ok-inner.inner)))))
 
 pub graphs::put_unbound-returns : goal.graphs::put_unbound-returns
 graphs::put_unbound-returns t c =
-    let n = c.args.unbound.now in
-    let i = c.in_ok-inner.inner in
-    let id : to_z w64 (of_z w64 n.id) ≡ n.id = search rules in
-    last c.put_element.ensures (search rules) (λ p. structure_put _ c.in_ok-inner.ensures.opens (unbound-out n) refl (lit< tt) (omega arith) (omega arith)
-    (then (rw id at c.in_ok-put_number.ensures.put) (then c.in_ok-put_string.ensures.put (then (rw c.deref.ensures.value at c.in_ok-put_entries.ensures.spelled.put) (p i)))))
+    last c.put_element.ensures (search rules) (λ p. structure_put _ c.in_ok-inner.ensures.opens (unbound-out c.args.unbound.now) refl (lit< tt) (omega arith) (omega arith)
+    (then (as_is c.in_ok-put_number.ensures.put (search rules)) (then c.in_ok-put_string.ensures.put (then (rw c.deref.ensures.value at c.in_ok-put_entries.ensures.spelled.put) (p c.in_ok-inner.inner)))))
 
 pub graphs::put_relationship-returns : goal.graphs::put_relationship-returns
 graphs::put_relationship-returns t c =
-    let n = c.args.relationship.now in
-    let i = c.in_ok-inner.inner in
-    let id : to_z w64 (of_z w64 n.id) ≡ n.id = search rules in
-    let start : to_z w64 (of_z w64 n.start) ≡ n.start = search rules in
-    let end : to_z w64 (of_z w64 n.end) ≡ n.end = search rules in
-    last c.put_elements.ensures (search rules) (λ p. structure_put _ c.in_ok-inner.ensures.opens (relationship-out n) refl (lit< tt) (omega arith) (omega arith)
-    (then (rw id at c.in_ok-put_number.ensures.put) (then (rw start at c.in_ok-put_number-2.ensures.put) (then (rw end at c.in_ok-put_number-3.ensures.put)
-    (then c.in_ok-put_string.ensures.put (then (rw c.deref.ensures.value at c.in_ok-put_entries.ensures.spelled.put) (p i)))))))
+    last c.put_elements.ensures (search rules) (λ p. structure_put _ c.in_ok-inner.ensures.opens (relationship-out c.args.relationship.now) refl (lit< tt) (omega arith) (omega arith)
+    (then (as_is c.in_ok-put_number.ensures.put (search rules)) (then (as_is c.in_ok-put_number-2.ensures.put (search rules)) (then (as_is c.in_ok-put_number-3.ensures.put (search rules))
+    (then c.in_ok-put_string.ensures.put (then (rw c.deref.ensures.value at c.in_ok-put_entries.ensures.spelled.put) (p c.in_ok-inner.inner)))))))
 
 pub graphs::put_path-returns : goal.graphs::put_path-returns
 graphs::put_path-returns t c =
