@@ -12,8 +12,13 @@ pub(crate) fn marker_in(bytes: &[u8]) -> Scanned<'_, Marker>
     ensures { (room : ℕ) → IfOk result (λ x. layer (inner room) bytes.now
         ≡ form_at (inner room) (length bytes.now) (Some x.0) x.1.now) }
 {
-    let (&first, rest) = bytes.split_first().ok_or(Unscanned)?;
-    Ok((marker_of(first).ok_or(Unscanned)?, rest))
+    let Some((&first, rest)) = bytes.split_first() else {
+        return Err(Unscanned);
+    };
+    match marker_of(first) {
+        Some(marker) => Ok((marker, rest)),
+        None => Err(Unscanned),
+    }
 }
 
 /// An integer.
