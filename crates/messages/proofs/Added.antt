@@ -1,13 +1,7 @@
 -- A message that is written without a value: bytes that were added one after the other are its spelling.
-use Rattle.std.proofs.Common.{◌≡◌, ◌≤◌, ◌<◌, ◌+◌, ℕ, ℤ, pos, int_le, false, true, Bool, List, [], ◌∷◌, ◌++◌, length, Result, Ok, Err, codes, refl, ap, sym, subst, ◌∙◌, append_assoc, arith, FitsSigned, w64, IsUtf8, append-nil, length-append}
-use Rattle.messages.proofs.Words.{PackReason, Tree, int, text, list, dict, structure, Trees, no_trees, tree_then, Entries, no_entries, entry_then, head, text_bytes, canon, IsGood, depth, first_fault, faults_in, entries_of, bad_when, Version, nil_left, scan, structure_fault, structures, structures_in, structures_under, fault_of_structure, IsWritable, HasGoodForm, form, typed, typed_all, typed_under, Mode, Read, Write, Count, All, Of, MsgFault}
-use Rattle.messages.specs.Prelude.{Row, ◌>>=◌, count_tree, contents_of_message, Contents, cell_put, Means, with_dict, rows_put, mode_pairs, count_number, packed_by, spelling_within, spelling_of_tree, form_put, Adds, AddsEntries, AddsCells}
+use Rattle.messages.proofs.Words.{◌≡◌, ◌≤◌, ◌<◌, ◌+◌, ℕ, ℤ, pos, int_le, false, true, Bool, List, [], ◌∷◌, ◌++◌, length, Result, Ok, Err, codes, refl, ap, sym, subst, ◌∙◌, append_assoc, arith, FitsSigned, w64, IsUtf8, append-nil, length-append, PackReason, Tree, int, text, list, dict, structure, Trees, no_trees, tree_then, Entries, no_entries, entry_then, head, text_bytes, canon, IsGood, depth, first_fault, faults_in, entries_of, bad_when, Version, nil_left, scan, structure_fault, structures, structures_in, structures_under, fault_of_structure, IsWritable, form, typed, typed_all, typed_under, Mode, Read, Write, Count, All, Of, MsgFault, ◌>>=◌, count_tree, Contents, cell_put, with_dict, rows_put, mode_pairs, count_number, packed_by, spelling_within, spelling_of_tree, form_put, Adds, AddsEntries, AddsCells}
 use Rattle.messages.proofs.Fields.{put_value, put_formed}
 use Rattle.messages.proofs.Sent.{sized_fits}
-
-right_none : {A : Type 0} (xs ys : List A) → xs ++ ys ≡ [] → ys ≡ []
-right_none [] ys h = h
-right_none (x ∷ xs) ys h = absurd cc
 
 mutual
   pub itself : (t : Tree) → structures t ≡ [] → typed t ≡ t
@@ -18,20 +12,15 @@ mutual
 
   all_themselves : (ts : Trees) → structures_in ts ≡ [] → typed_all ts ≡ ts
   all_themselves no_trees h = refl
-  all_themselves (tree_then t ts) h =
-      rw (itself t (nil_left (structures t) (structures_in ts) h), all_themselves ts (right_none (structures t) (structures_in ts) h)) refl
+  all_themselves (tree_then t ts) h = let none = nil_left (structures t) (structures_in ts) h in rw (itself t none, all_themselves ts (rw none at h)) refl
 
   under_themselves : (es : Entries) → structures_under es ≡ [] → typed_under es ≡ es
   under_themselves no_entries h = refl
-  under_themselves (entry_then k t es) h =
-      rw (itself t (nil_left (structures t) (structures_under es) h), under_themselves es (right_none (structures t) (structures_under es) h)) refl
-
-good_form : (v : Version) (t : Tree) → IsGood t → structures t ≡ [] → HasGoodForm v t t
-good_form v t g h = record { writable = (0, ap (scan (fault_of_structure v) 0) h); formed = ((0, ap (scan (structure_fault v) 0) h), sym (itself t h)); good = g }
+  under_themselves (entry_then k t es) h = let none = nil_left (structures t) (structures_under es) h in rw (itself t none, under_themselves es (rw none at h)) refl
 
 -- a field of cells without structures is written as itself
 pub put_itself : (v : Version) (t : Tree) → IsGood t → structures t ≡ [] → cell_put v t ≡ Ok t
-put_itself v t g h = put_value v t t (good_form v t g h)
+put_itself v t g h = put_value v t t (record { writable = (0, ap (scan (fault_of_structure v) 0) h); formed = ((0, ap (scan (structure_fault v) 0) h), sym (itself t h)); good = g })
 
 -- Pieces.
 pub three : (old h x y : List ℕ) → old ++ h ++ x ++ y ≡ old ++ (h ++ (x ++ y))
@@ -108,10 +97,6 @@ pub mode_good : (m : Mode) → IsGood (dict (entries_of (mode_pairs m)))
 unfolding lib.Utf8.encode
 mode_good Read = record { deep = omega arith; sound = ((refl, tt), (tt, tt)); plain = ((codes "mode", (refl, refl)), (codes "r", (refl, refl)), tt) }
 mode_good Write = record { deep = omega arith; sound = (tt, tt); plain = tt }
-
-pub mode_deep : (m : Mode) → depth (dict (entries_of (mode_pairs m))) ≤ 31
-mode_deep Read = omega arith
-mode_deep Write = omega arith
 
 -- A structure without fields.
 pub plain_added : (tag : ℕ) (old new : List ℕ) → tag < 256 → new ≡ old ++ canon (structure tag no_trees) → Adds (Ok (structure tag no_trees)) old new

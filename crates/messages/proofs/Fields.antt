@@ -1,7 +1,5 @@
 -- Fields one at a time: by their number, what they say by the row of their structure, and how a field of cells is written.
-use Rattle.std.proofs.Common.{IsErrAnd, ◌≡◌, List, [], ◌∷◌, length, false, ◌==◌, refl, sym, ◌∙◌, Err, Global, String, rules, ℕ, true, ap, Option, Result, Ok}
-use Rattle.messages.proofs.Words.{typed, dict, text, structure, entries_of, Trees, no_trees, tree_then, Tree, list, Entries, count, IsGood, tree, trees, trees_of, first_fault, faults_in, Value, TextCase, the_lemmas, len_trees, text_of, shape, scan, structure_fault, structures, IsWritable, Mode, Version, hello_has_login, MsgFault, Form, form, Reads, Writes, CellReason, PackReason, bad_when, fine_scan, CellFault, again, Cell}
-use Rattle.messages.specs.Prelude.{no_field, one_field, three_fields, field_text, entries_of_dict, dict_of_cells, list_of_cells, only_dict, contents_of_login, contents_of_run, as_dict, as_list, Name, Others, Named, ignored, extra, text_field, cells, cell_list, credentials, RUN, of_transaction, ◌>>=◌, contents, contents_of_named, contents_of_row, contents_of_extra, cell_of_field, cell_by, Answers, of_cell, value_by, form_by, cell_put, form_put, transaction_put, request_contents, Run}
+use Rattle.messages.proofs.Words.{subst, IsErrAnd, ◌≡◌, List, [], ◌∷◌, length, false, ◌==◌, refl, sym, ◌∙◌, Err, Global, String, rules, ℕ, true, ap, Option, Result, Ok, typed, dict, text, structure, entries_of, Trees, no_trees, tree_then, Tree, list, Entries, IsGood, tree, trees, trees_of, first_fault, faults_in, Value, TextCase, the_lemmas, text_of, scan, structure_fault, structures, IsWritable, Mode, Version, hello_has_login, MsgFault, Form, form, Reads, Writes, CellReason, PackReason, bad_when, fine_scan, CellFault, again, no_field, one_field, three_fields, field_text, entries_of_dict, dict_of_cells, list_of_cells, only_dict, contents_of_login, contents_of_run, as_dict, as_list, Name, Others, Named, ignored, extra, text_field, cells, cell_list, credentials, RUN, of_transaction, ◌>>=◌, contents, contents_of_named, contents_of_row, contents_of_extra, cell_of_field, cell_by, Answers, of_cell, value_by, form_by, cell_put, form_put, transaction_put, request_contents, Run}
 use Rattle.messages.specs.declared.fault.MsgFault.TheVariants as fault
 use Rattle.structures.specs.declared.fault.CellFault.TheVariants as cell_fault
 
@@ -9,19 +7,13 @@ pub some_field : (vs : List Value) → (length vs == 0) ≡ false → no_field (
 some_field [] h = cc
 some_field (v ∷ vs) h = refl
 
-not_one_tree : (ts : Trees) → (count ts ≡ 1 → ⊥) → one_field ts ≡ Err fault.Fields
-not_one_tree (tree_then t no_trees) h = absurd (h refl)
-not_one_tree ts h = refl
-
 pub not_one : (vs : List Value) → (length vs ≡ 1 → ⊥) → one_field (trees_of (trees vs)) ≡ Err fault.Fields
-not_one vs h = not_one_tree _ (λ e. h (sym (len_trees vs) ∙ e))
-
-not_three_trees : (ts : Trees) → (count ts ≡ 3 → ⊥) → three_fields ts ≡ Err fault.Fields
-not_three_trees (tree_then t (tree_then u (tree_then w no_trees))) h = absurd (h refl)
-not_three_trees ts h = refl
+not_one (v ∷ []) h = absurd (h refl)
+not_one vs h = refl
 
 pub not_three : (vs : List Value) → (length vs ≡ 3 → ⊥) → three_fields (trees_of (trees vs)) ≡ Err fault.Fields
-not_three vs h = not_three_trees _ (λ e. h (sym (len_trees vs) ∙ e))
+not_three (u ∷ v ∷ w ∷ []) h = absurd (h refl)
+not_three vs h = refl
 
 pub tree_of_text : (s : String Global) → tree (TextCase s) ≡ text_of s
 tree_of_text s = search (rules, the_lemmas)
@@ -86,13 +78,12 @@ read_fault_is v t (cell_fault.Refused r k) h n = ap (λ x. cell_by x t) h
 read_fault_is v t (cell_fault.Pack r o) h n = absurd h
 read_fault_is v t cell_fault.Memory h n = absurd (n refl)
 
-pub put_value : (v : Version) (s t : Tree) → Writes v s (Ok t) → cell_put v s ≡ Ok t
-put_value v s t h = ap (λ r. form_by r (form v s)) h.writable.1 ∙ ap (λ u. value_by (first_fault (faults_in 0 false u) 0) u) (form_again v s t h.formed)
-    ∙ good_value t (first_fault (faults_in 0 false t) 0) refl h.good
-
 -- a cell that can be written, and whose form is good, is written in it
 pub put_formed : (v : Version) (s : Tree) → IsWritable v s → IsGood (form v s) → cell_put v s ≡ Ok (form v s)
 put_formed v s w g = ap (λ r. form_by r (form v s)) w.1 ∙ good_value (form v s) (first_fault (faults_in 0 false (form v s)) 0) refl g
+
+pub put_value : (v : Version) (s t : Tree) → Writes v s (Ok t) → cell_put v s ≡ Ok t
+put_value v s t h = let e = form_again v s t h.formed in put_formed v s h.writable (subst IsGood (sym e) h.good) ∙ ap Ok e
 
 pub put_fault : (v : Version) (s : Tree) (e : CellFault) → Writes v s (Err e) → (of_cell e ≡ fault.Memory → ⊥) → cell_put v s ≡ Err (of_cell e)
 put_fault v s (cell_fault.Refused r k) h n = ap (λ x. form_by x (form v s)) h

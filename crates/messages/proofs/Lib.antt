@@ -13,3 +13,4 @@ pub mod Named
 pub mod Kept
 pub mod Scanned
 pub mod Put
+pub mod Read

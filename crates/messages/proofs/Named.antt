@@ -1,12 +1,12 @@
 -- Named entries that are texts, and those of a token, added one after the other.
-use Rattle.std.proofs.Common.{◌≡◌, ◌≤◌, ◌<◌, ℕ, suc, true, false, List, [], ◌∷◌, ◌++◌, length, map, None, Some, Result, Ok, codes, refl, ap, sym, subst, ◌∙◌, append_assoc, arith, IsUtf8, String, Global, string_bytes, Bor, append-nil}
-use Rattle.messages.proofs.Words.{first_fault, good_when, IsUtf8-string_bytes, Tree, text, dict, structure, no_trees, Entries, no_entries, entry_then, entry_count, head, text_bytes, canon, canon_entries, IsGood, depth, entries_of, Version, hello_has_login, has_logon, Auth, Read, Write, HasTexts, MsgFault}
-use Rattle.messages.specs.Prelude.{AuthView, auth_view, Hello, Logon, Logoff, Failure, request_contents, response_contents, form_put, is_token, transaction_put, token_dict, named_text, of_texts, login_pairs, hello_pairs, error_pairs, Adds, AddsEntries}
-use Rattle.messages.proofs.Added.{field_good, mode_good, mode_deep}
+use Rattle.messages.proofs.Words.{◌≡◌, ◌≤◌, ◌<◌, ℕ, suc, true, false, List, [], ◌∷◌, ◌++◌, length, map, None, Some, Result, Ok, codes, refl, ap, sym, subst, ◌∙◌, append_assoc, arith, IsUtf8, String, Global, string_bytes, Bor, append-nil, first_fault, good_when, IsUtf8-string_bytes, Tree, text, dict, structure, no_trees, Entries, no_entries, entry_then, entry_count, head, text_bytes, canon, canon_entries, IsGood, depth, entries_of, Version, hello_has_login, has_logon, Auth, Read, Write, HasTexts, MsgFault, AuthView, auth_view, Hello, Logon, Logoff, Failure, request_contents, response_contents, form_put, is_token, transaction_put, token_dict, named_text, of_texts, login_pairs, hello_pairs, error_pairs, Adds, AddsEntries}
+use Rattle.messages.proofs.Added.{field_good, mode_good}
 
 -- the head of a dictionary, then its entries
 pub dict_on : (es : Entries) (old a new : List ℕ) → a ≡ old ++ head 0xA0 0xD8 (entry_count es) → new ≡ a ++ canon_entries es → new ≡ old ++ canon (dict es)
 dict_on es old a new p q = q ∙ ap (λ x. x ++ canon_entries es) p ∙ append_assoc old (head 0xA0 0xD8 (entry_count es)) (canon_entries es)
+
+pub ruleset texts_fit = (IsUtf8-string_bytes)
 
 -- ---- a token
 
@@ -43,11 +43,11 @@ mode_and_token_added s old a new f u p q = record {
 -- the mode alone
 pub of_writing : (old new : List ℕ) → new ≡ old ++ 0xA0 ∷ [] → AddsEntries (transaction_put Write None) old new
 unfolding head
-of_writing old new a = record { entries = no_entries; is = refl; good = mode_good Write; deep = mode_deep Write; added = a }
+of_writing old new a = record { entries = no_entries; is = refl; good = mode_good Write; deep = omega arith; added = a }
 
 pub of_reading : (old new : List ℕ) → new ≡ old ++ (0xA1 ∷ 0x84 ∷ codes "mode" ++ 0x81 ∷ 0x72 ∷ []) → AddsEntries (transaction_put Read None) old new
 unfolding head
-of_reading old new a = record { entries = entry_then (codes "mode") (text (codes "r")) no_entries; is = refl; good = mode_good Read; deep = mode_deep Read; added = a }
+of_reading old new a = record { entries = entry_then (codes "mode") (text (codes "r")) no_entries; is = refl; good = mode_good Read; deep = omega arith; added = a }
 
 -- ---- texts
 

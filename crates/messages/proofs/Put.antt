@@ -1,7 +1,5 @@
 -- A text between the place of its header and the end of its run.
-use Rattle.std.proofs.Common.{Ok, ◌≡◌, ◌≤◌, ◌-◌, ℕ, List, [], ◌∷◌, ◌++◌, length, drop, sym, ap, ◌∙◌, append_assoc, length-drop, arith, w16}
-use Rattle.messages.proofs.Words.{Version, Request, drop-append-le, to_be_bytes, written_run, text_of-short}
-use Rattle.messages.specs.Prelude.{request_view, request_contents, request_spelling, form_put, run_of_result, Adds, PutsRequest}
+use Rattle.messages.proofs.Words.{Ok, ◌≡◌, ◌≤◌, ◌-◌, ℕ, List, [], ◌∷◌, ◌++◌, length, drop, sym, ap, ◌∙◌, append_assoc, length-drop, arith, w16, Version, Request, drop-append-le, to_be_bytes, written_run, text_of-short, request_view, request_contents, request_spelling, form_put, run_of_result, Adds, PutsRequest}
 use Rattle.messages.proofs.Added.{appended}
 use Rattle.messages.proofs.Rounds.{asks_again}
 

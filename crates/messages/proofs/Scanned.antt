@@ -1,8 +1,6 @@
 -- A message that is read without a value: what was read of its parts one after the other is read of it.
-use Rattle.std.proofs.Common.{◌≡◌, ◌≤◌, ◌<◌, ℕ, ℤ, true, List, [], ◌∷◌, ◌++◌, Option, None, Ok, codes, refl, ap, sym, subst, ◌∙◌, arith, IsUtf8, Vec, Global, append-nil}
-use Rattle.messages.proofs.Words.{SpellsText, SpellsTree, Tree, int, text, list, dict, structure, no_trees, tree_then, Entries, no_entries, entry_then, head, canon, IsGood, depth, entries_of, trees_of, marker, AreBytes, Spells, SpellsEntries, Here, canon_spells, Version, every_version, has_logon, Cell, DictCell, ListCell, entries, shapes, IsWritable, Pair, shape-Dict, shape-List, Form, form, form_all, form_under, form_of, SpellsFront, Mode, Read, Write, Count}
-use Rattle.messages.specs.Prelude.{AuthView, RequestView, ResponseView, request_contents, response_contents, Row, Name, Named, Others, ignored, refused, extra, requests, responses, HELLO, LOGON, RUN, BEGIN, PULL, DISCARD, SUCCESS, RECORD, IGNORED, FAILURE, hello, credentials, of_transaction, how_many, of_error, ◌>>=◌, Contents, contents, contents_of_number, contents_of_login, contents_of_dict, contents_of_extra, contents_of_row, contents_of_message, cell_of_field, is_token, count_tree, mode_tree, token_tree, login_trees, Logon, Run, Begin, Pull, Discard, Success, Record, Ignored, Means, Req, Resp, mode_pairs, mode_front, token_dict, SpellsEntry, SpellsExtra, SpellsNamed, SpellsDict, SpellsList}
-use Rattle.messages.proofs.Added.{plain_good, field_good, run_good, rows_good, mode_good, mode_deep}
+use Rattle.messages.proofs.Words.{◌≡◌, ◌≤◌, ◌<◌, ℕ, ℤ, true, List, [], ◌∷◌, ◌++◌, Option, None, Ok, codes, refl, ap, sym, subst, ◌∙◌, arith, Vec, Global, append-nil, SpellsText, SpellsTree, Tree, int, text, list, dict, structure, no_trees, tree_then, Entries, no_entries, entry_then, head, canon, IsGood, depth, entries_of, trees_of, marker, AreBytes, Spells, SpellsEntries, Here, canon_spells, Version, every_version, has_logon, Cell, DictCell, ListCell, entries, shape, shapes, IsWritable, Pair, shape-Dict, shape-List, Form, form, form_all, form_under, form_of, SpellsFront, Mode, Read, Write, Count, AuthView, RequestView, ResponseView, request_contents, response_contents, Row, Name, Named, Others, ignored, refused, extra, requests, responses, HELLO, LOGON, RUN, BEGIN, PULL, DISCARD, SUCCESS, RECORD, IGNORED, FAILURE, hello, credentials, of_transaction, how_many, of_error, ◌>>=◌, Contents, contents, contents_of_number, contents_of_login, contents_of_dict, contents_of_extra, contents_of_row, contents_of_message, cell_of_field, is_token, count_tree, mode_tree, token_tree, login_trees, Logon, Run, Begin, Pull, Discard, Success, Record, Ignored, Means, Req, Resp, mode_pairs, mode_front, token_dict, SpellsEntry, SpellsExtra, SpellsNamed, SpellsDict, SpellsList}
+use Rattle.messages.proofs.Added.{plain_good, field_good, run_good, rows_good, mode_good}
 use Rattle.messages.proofs.Fields.{told_cell}
 use Rattle.messages.proofs.Kept.{extra_kept}
 use Rattle.messages.proofs.Named.{token_entries, write_good, read_good}
@@ -70,16 +68,13 @@ failure_means v r es b = named_means v responses FAILURE 0x7F of_error (response
 
 -- ---- cells
 
--- cells that can be written have a form
-dict_form : (v : Version) (ps : Vec Pair Global) → IsWritable v (dict (entries_of (entries ps.items))) → Form v (dict (entries_of (entries ps.items))) (form v (dict (entries_of (entries ps.items))))
-dict_form v ps = subst (λ s. IsWritable v s → Form v s (form v s)) (shape-Dict ps) (form_of v (DictCell ps))
-
-list_form : (v : Version) (cs : Vec Cell Global) → IsWritable v (list (trees_of (shapes cs.items))) → Form v (list (trees_of (shapes cs.items))) (form v (list (trees_of (shapes cs.items))))
-list_form v cs = subst (λ s. IsWritable v s → Form v s (form v s)) (shape-List cs) (form_of v (ListCell cs))
+-- cells that can be written are told of their form
+form_told : (v : Version) (c : Cell) (s : Tree) → shape c ≡ s → IsWritable v s → cell_of_field v (form v s) ≡ Ok s
+form_told v c s e w = told_cell v s (form v s) (subst (λ t. IsWritable v t → Form v t (form v t)) e (form_of v c) w)
 
 pub dict_scanned : (v : Version) (ps : Vec Pair Global) (rest b : List ℕ) → SpellsFront (form v (dict (entries_of (entries ps.items)))) rest b → IsGood (form v (dict (entries_of (entries ps.items))))
     → depth (form v (dict (entries_of (entries ps.items)))) ≤ 31 → IsWritable v (dict (entries_of (entries ps.items))) → SpellsDict v (dict (entries_of (entries ps.items))) rest b
-dict_scanned v ps rest b s g d w = record { entries = form_under v (entries_of (entries ps.items)); good = g; deep = d; spelled = s; told = told_cell v (dict (entries_of (entries ps.items))) (form v (dict (entries_of (entries ps.items)))) (dict_form v ps w) }
+dict_scanned v ps rest b s g d w = record { entries = form_under v (entries_of (entries ps.items)); good = g; deep = d; spelled = s; told = form_told v (DictCell ps) _ (shape-Dict ps) w }
 
 -- a dictionary of no entries
 pub empty_scanned : (v : Version) (rest b : List ℕ) → b ≡ 0xA0 ∷ rest → SpellsDict v (dict no_entries) rest b
@@ -88,7 +83,7 @@ empty_scanned v rest b e = record { entries = no_entries; good = mode_good Write
 
 pub list_scanned : (v : Version) (cs : Vec Cell Global) (rest b : List ℕ) → SpellsFront (form v (list (trees_of (shapes cs.items)))) rest b → IsGood (form v (list (trees_of (shapes cs.items))))
     → depth (form v (list (trees_of (shapes cs.items)))) ≤ 31 → IsWritable v (list (trees_of (shapes cs.items))) → SpellsList v (list (trees_of (shapes cs.items))) rest b
-list_scanned v cs rest b s g d w = record { members = form_all v (trees_of (shapes cs.items)); good = g; deep = d; spelled = s; told = told_cell v (list (trees_of (shapes cs.items))) (form v (list (trees_of (shapes cs.items)))) (list_form v cs w) }
+list_scanned v cs rest b s g d w = record { members = form_all v (trees_of (shapes cs.items)); good = g; deep = d; spelled = s; told = form_told v (ListCell cs) _ (shape-List cs) w }
 
 pub extra_scanned : (v : Version) (es : Entries) (rest b : List ℕ) → rest ≡ [] → SpellsFront (form v (dict es)) rest b → IsGood (form v (dict es)) → depth (form v (dict es)) ≤ 31 → SpellsNamed es b
 extra_scanned v es rest b none s g d =
@@ -147,17 +142,10 @@ rows_scanned v c z w d rest bytes is s g none h = record {
 }
 
 -- the entries of a transaction without a token
-mode_spelled : (m : Mode) (b : List ℕ) → b ≡ canon (dict (entries_of (mode_pairs m))) → Spells (dict (entries_of (mode_pairs m))) b
-unfolding head
-mode_spelled Read b e = subst (Spells (dict (entries_of (mode_pairs Read)))) (sym e) (canon_spells (dict (entries_of (mode_pairs Read))) (mode_good Read) (omega arith))
-mode_spelled Write b e = subst (Spells (dict (entries_of (mode_pairs Write)))) (sym e) (canon_spells (dict (entries_of (mode_pairs Write))) (mode_good Write) (omega arith))
-
-mode_told : (v : Version) (m : Mode) → contents_of_extra v ignored of_transaction (entries_of (mode_pairs m)) ≡ Ok (mode_tree m ∷ token_tree None ∷ [])
-mode_told v Read = refl
-mode_told v Write = refl
-
 pub mode_scanned : (v : Version) (m : Mode) (b : List ℕ) → b ≡ canon (dict (entries_of (mode_pairs m))) → SpellsExtra v ignored of_transaction (mode_tree m ∷ token_tree None ∷ []) b
-mode_scanned v m b e = record { entries = entries_of (mode_pairs m); good = mode_good m; deep = mode_deep m; spelled = mode_spelled m b e; told = mode_told v m }
+unfolding head
+mode_scanned v Read b e = record { entries = entries_of (mode_pairs Read); good = mode_good Read; deep = omega arith; spelled = rw e (canon_spells _ (mode_good Read) (omega arith)); told = refl }
+mode_scanned v Write b e = record { entries = entries_of (mode_pairs Write); good = mode_good Write; deep = omega arith; spelled = rw e (canon_spells _ (mode_good Write) (omega arith)); told = refl }
 
 -- the entry of a token, the last
 token_entry : (s b d rest : List ℕ) → b ≡ 0x8B ∷ codes "tx_metadata" ++ 0xA1 ∷ 0x85 ∷ codes "token" ++ d → SpellsFront (text s) rest d → rest ≡ [] → SpellsEntries (token_entries s) b

@@ -1,6 +1,7 @@
 -- What the proofs of this crate cite of other crates, and of what its own source and its definitions name.
 pub use Rattle.std.proofs.Common.{sym, refl, ap, ◌≡◌, drop, Ok, ◌∙◌, codes, rules, FitsSigned, to_z, of_z, w64, ℕ, List, ◌++◌, map, Bor, string_bytes, Some, Err, true, take, ◌-◌}
 pub use Rattle.std.proofs.Common.{arith, subst, [], ◌∷◌}
+pub use Rattle.std.proofs.Common.{Bool, Global, IsErrAnd, IsUtf8, None, Option, Result, String, Vec, append-nil, append_assoc, false, int_le, length, length-append, length-drop, pos, suc, w16, ℤ, ◌+◌, ◌<◌, ◌==◌, ◌≤◌}
 pub use Rattle.std.proofs.Math.Seq.{take-nil}
 pub use Rattle.std.proofs.lemmas.Bool.{and_parts, false_from_ne_true}
 pub use Rattle.std.proofs.lemmas.Bool.Decides.{Decides-eqb, Decides-int_eq}
@@ -55,6 +56,7 @@ pub use Rattle.scanner.specs.Fronts.{SpellsFront}
 pub use Rattle.messages.specs.Prelude.{rows_put, value_told, is_token, requests, request_view, request_contents, request_held, responses, response_view, response_contents}
 pub use Rattle.messages.specs.Prelude.{response_held, contents_by, form_put, lookup, entries_seen, how_many, all_named, ◌>>=◌, contents_in, named_text, auth_view, token_view}
 pub use Rattle.messages.specs.Prelude.{refused, ignored, of_transaction, RECORD, contents}
+pub use Rattle.messages.specs.Prelude.{Adds, AddsCells, AddsEntries, Answers, AnswersSpelled, AuthView, BEGIN, Begin, Contents, DISCARD, Discard, FAILURE, Failure, HELLO, Hello, IGNORED, Ignored, IsNone, LOGON, Logoff, Logon, Means, Name, Named, Others, PULL, Pull, PutsRequest, RUN, ReadsMessage, ReadsSpelled, Record, RefusesBytes, RefusesSpelled, Req, RequestView, Resp, ResponseView, Row, Run, SUCCESS, SpellsDict, SpellsEntry, SpellsExtra, SpellsList, SpellsNamed, Success, as_dict, as_list, cell_by, cell_list, cell_of_field, cell_put, cells, contents_of_dict, contents_of_extra, contents_of_login, contents_of_message, contents_of_named, contents_of_number, contents_of_row, contents_of_run, count_number, count_tree, credentials, dict_of_cells, entries_of_dict, error_pairs, extra, field_text, form_by, hello, hello_pairs, list_of_cells, login_pairs, login_trees, mode_front, mode_pairs, mode_tree, no_field, of_cell, of_error, of_texts, one_field, only_dict, packed_by, run_of_result, spelling_of_tree, spelling_within, text_field, three_fields, token_dict, token_tree, transaction_put, value_by, with_dict}
 unfoldable pub use Rattle.messages.specs.Prelude.{request_of, response_of, request_spelling, response_spelling}
 pub use Rattle.messages.specs.Sound.{HasTexts}
 pub use Rattle.messages.specs.declared.fault.MsgFault.{MsgFault}

@@ -1,8 +1,9 @@
 -- Which bytes stand for a message, and what is wrong with those that stand for none.
-use Rattle.std.specs.Prelude.{if◌then◌else◌, ◌≡◌, ◌⊎◌, ℕ, List, [], ◌∷◌, codes, Option, None, Some, Result, Ok, Err}
+use Rattle.std.specs.Prelude.{if◌then◌else◌, ◌≡◌, ◌↔◌, ◌⊎◌, ℕ, List, [], ◌∷◌, ◌++◌, codes, Option, None, Some, Result, Ok, Err}
 use Rattle.std.specs.Str.{bytes_eq}
 use Rattle.packstream.specs.declared.fault.Reason.{Reason}
 use Rattle.packstream.specs.Tree.{Tree, null, int, text, list, dict, Trees, no_trees, tree_then, Entries, no_entries, entry_then}
+use Rattle.packstream.specs.Plain.{AreBytes}
 use Rattle.packstream.specs.Good.{IsGood}
 use Rattle.packstream.specs.Spelling.{Spells}
 use Rattle.packstream.specs.Faults.{Bad}
@@ -14,9 +15,11 @@ use Rattle.messages.specs.declared.request.Mode.{Mode}
 use Rattle.messages.specs.declared.request.Mode.TheVariants.{Read, Write}
 use Rattle.messages.specs.declared.request.Count.{Count}
 use Rattle.messages.specs.declared.request.Count.TheVariants.{All, Of}
+use Rattle.messages.specs.declared.request.Request.{Request}
+use Rattle.messages.specs.declared.response.Response.{Response}
 use Rattle.messages.specs.Table.{Row, requests, responses, HELLO, LOGON, LOGOFF, GOODBYE, RESET, RUN, BEGIN, COMMIT, ROLLBACK, DISCARD, PULL, SUCCESS, RECORD, IGNORED, FAILURE}
-use Rattle.messages.specs.View.{AuthView, RequestView, Hello, Logon, Logoff, Goodbye, Reset, Run, Begin, Commit, Rollback, Discard, Pull, ResponseView, Success, Record, Ignored, Failure}
-use Rattle.messages.specs.Reading.{◌>>=◌, Contents, contents, contents_of_message, request_contents, response_contents}
+use Rattle.messages.specs.View.{AuthView, RequestView, Hello, Logon, Logoff, Goodbye, Reset, Run, Begin, Commit, Rollback, Discard, Pull, ResponseView, Success, Record, Ignored, Failure, request_view, response_view}
+use Rattle.messages.specs.Reading.{◌>>=◌, Contents, contents, contents_of_message, request_contents, response_contents, Answers}
 
 -- the bytes spell a good value of which this is said
 pub record SpellsWhere (b : List ℕ) (Says : Tree → Type 0) : Type 0 where
@@ -60,6 +63,64 @@ Gave view (Err e) y = ⊥
 abbrev pub UnlessMemory : {A : Type 0} → Result A MsgFault → Type 0 → Type 0
 UnlessMemory (Ok x) p = p
 UnlessMemory (Err e) p = (e ≡ fault.Memory → ⊥) → p
+
+-- Apart from memory, it is the message that the bytes stand for, where they stand for one.
+abbrev pub ReadsMessage : {X M : Type 0} → (X → M) → (M → List ℕ → Type 0) → Result X MsgFault → List ℕ → Type 0
+ReadsMessage {X} {M} view Stands result b = (m : M) → UnlessMemory result (Gave view result m ↔ Stands m b)
+
+-- Apart from memory, it is the first fault of the bytes, where they stand for no message.
+abbrev pub RefusesBytes : {X : Type 0} → (MsgFault → List ℕ → Type 0) → Result X MsgFault → List ℕ → Type 0
+RefusesBytes StandsNot result b = (e : MsgFault) → UnlessMemory result ((result ≡ Err e) ↔ StandsNot e b)
+
+-- The message that every spelling of a value stands for, where it stands for one.
+abbrev pub ReadsSpelled : {X M : Type 0} → (X → M) → (M → List ℕ → Type 0) → Result X MsgFault → Tree → Type 0
+ReadsSpelled {X} {M} view Stands result t = (b : List ℕ) (m : M) → Spells t b → UnlessMemory result (Gave view result m ↔ Stands m b)
+
+-- The first fault of every spelling of a value, where it stands for no message.
+abbrev pub RefusesSpelled : {X : Type 0} → (MsgFault → List ℕ → Type 0) → Result X MsgFault → Tree → Type 0
+RefusesSpelled StandsNot result t = (b : List ℕ) (e : MsgFault) → Spells t b → UnlessMemory result ((result ≡ Err e) ↔ StandsNot e b)
+
+-- Both as a function of the bytes of every spelling of a value.
+abbrev pub AnswersSpelled : {X M : Type 0} → (X → M) → (List ℕ → Result M MsgFault) → Result X MsgFault → Tree → Type 0
+AnswersSpelled view told result t = (b : List ℕ) → Spells t b → Answers view result (told b)
+
+-- what the request says that was read is this, unless memory ran out
+abbrev pub TellsRequest : Result Request MsgFault → Result Contents MsgFault → Type 0
+TellsRequest result told = Answers (λ r. request_contents (request_view r)) result told
+
+-- what the response says that was read is this, unless memory ran out
+abbrev pub TellsResponse : Result Response MsgFault → Result Contents MsgFault → Type 0
+TellsResponse result told = Answers (λ r. response_contents (response_view r)) result told
+
+-- Laws of what bytes stand for, of requests and of responses.
+
+-- bytes stand for one message at most
+abbrev pub OneAtMost : {M : Type 0} → (Version → M → List ℕ → Type 0) → Type 0
+OneAtMost {M} Stands = (v : Version) (b : List ℕ) (m n : M) → Stands v m b → Stands v n b → m ≡ n
+
+-- the message that bytes stand for is what the function tells of them
+abbrev pub MessageIsTold : {M : Type 0} → (Version → M → List ℕ → Type 0) → (Version → List ℕ → Result M MsgFault) → Type 0
+MessageIsTold {M} Stands told = (v : Version) (b : List ℕ) (m : M) → Stands v m b → told v b ≡ Ok m
+
+-- and what it tells is what they stand for
+abbrev pub ToldIsMessage : {M : Type 0} → (Version → M → List ℕ → Type 0) → (Version → List ℕ → Result M MsgFault) → Type 0
+ToldIsMessage {M} Stands told = (v : Version) (b : List ℕ) (m : M) → AreBytes b → told v b ≡ Ok m → Stands v m b
+
+-- the fault of bytes is what the function tells of them
+abbrev pub FaultIsTold : {M : Type 0} → (Version → MsgFault → List ℕ → Type 0) → (Version → List ℕ → Result M MsgFault) → Type 0
+FaultIsTold StandsNot told = (v : Version) (b : List ℕ) (e : MsgFault) → AreBytes b → StandsNot v e b → told v b ≡ Err e
+
+-- and what it tells is their fault
+abbrev pub ToldIsFault : {M : Type 0} → (Version → MsgFault → List ℕ → Type 0) → (Version → List ℕ → Result M MsgFault) → Type 0
+ToldIsFault StandsNot told = (v : Version) (b : List ℕ) (e : MsgFault) → AreBytes b → told v b ≡ Err e → StandsNot v e b
+
+-- the bytes of no message are a proper beginning of another's
+abbrev pub NoProperBeginning : {M : Type 0} → (Version → M → List ℕ → Type 0) → Type 0
+NoProperBeginning {M} Stands = (v w : Version) (m n : M) (b more : List ℕ) → Stands v m b → Stands w n (b ++ more) → more ≡ []
+
+-- the bytes of the one are none of the other, nor begin them
+abbrev pub BeginsNone : {M N : Type 0} → (Version → M → List ℕ → Type 0) → (Version → N → List ℕ → Type 0) → Type 0
+BeginsNone {M} {N} Stands Others = (v w : Version) (m : M) (n : N) (b more : List ℕ) → Stands v m b → Others w n (b ++ more) → ⊥
 
 -- These rules as functions, for the crates above.
 

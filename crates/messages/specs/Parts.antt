@@ -2,10 +2,12 @@
 use Rattle.std.specs.Prelude.{if◌then◌else◌, ◌≡◌, ℕ, map, String, string_bytes, pos, negsuc, int_le, List, [], ◌∷◌, ◌++◌, codes, Option, None, Some, Result, Ok, Err}
 use Rattle.std.specs.Borrow.{Bor}
 use Rattle.std.specs.declared.alloc.Global.{Global}
-use Rattle.cells.specs.Shape.{text_of}
+use Rattle.cells.specs.Shape.{text_of, entries, shapes}
+use Rattle.cells.specs.declared.cell.Cell.{Cell}
 use Rattle.packstream.specs.declared.fault.Reason.{Reason}
 use Rattle.packstream.specs.Tree.{Tree, null, int, text, list, dict, structure, Trees, no_trees, tree_then, Entries}
-use Rattle.packstream.specs.View.{entries_of}
+use Rattle.packstream.specs.declared.value.Value.{Value}
+use Rattle.packstream.specs.View.{entries_of, trees_of, trees}
 use Rattle.wire.specs.declared.Version.{Version}
 use Rattle.wire.specs.declared.Version.TheVariants.{V51}
 use Rattle.messages.specs.declared.fault.MsgFault.{MsgFault}
@@ -16,14 +18,30 @@ use Rattle.messages.specs.declared.request.Mode.{Mode}
 use Rattle.messages.specs.declared.request.Mode.TheVariants.{Read, Write}
 use Rattle.messages.specs.declared.request.Count.{Count}
 use Rattle.wire.specs.Versions.{every_version}
-use Rattle.messages.specs.Table.{Name, Named, credentials, of_transaction, how_many, RUN}
-use Rattle.messages.specs.Reading.{◌>>=◌, Contents, contents, contents_of_text, contents_of_mode, contents_of_count, contents_of_query, contents_of_token, contents_of_metadata, contents_of_named, cell_of_field, mode_tree, token_tree, count_tree}
-use Rattle.messages.specs.View.{AuthView}
+use Rattle.messages.specs.Table.{Name, Named, refused, credentials, of_transaction, how_many, RUN}
+use Rattle.messages.specs.Reading.{◌>>=◌, Contents, contents, lookup, contents_of_extra, contents_of_text, contents_of_mode, contents_of_count, contents_of_query, contents_of_token, contents_of_metadata, contents_of_named, cell_of_field, mode_tree, token_tree, count_tree}
+use Rattle.messages.specs.View.{AuthView, token_view}
 use Rattle.messages.specs.Writing.{named_put}
 
 -- entries whose values are seen as these trees
 abbrev pub entries_seen : {T : Type 0} → (T → Tree) → List (String Global × T) → Entries
 entries_seen seen es = entries_of (map (λ e. (string_bytes e.0, seen e.1)) es)
+
+-- what stands under a name in such entries
+abbrev pub found : {T : Type 0} → (T → Tree) → List ℕ → List (String Global × T) → Option Tree
+found seen name es = lookup name (entries_seen seen es)
+
+-- the fields of a structure, as a tree has them
+abbrev pub fields_seen : List Value → Trees
+fields_seen vs = trees_of (trees vs)
+
+-- a dictionary of cells, as a tree
+abbrev pub cells_tree : List (String Global × Cell) → Tree
+cells_tree es = dict (entries_of (entries es))
+
+-- a list of cells, as a tree
+abbrev pub row_tree : List Cell → Tree
+row_tree cs = list (trees_of (shapes cs))
 
 -- what is neither a text nor an integer nor a dictionary, and is a fault under each name
 pub record IsOther (t : Option Tree) : Type 0 where
@@ -79,6 +97,18 @@ members_of_list t = Err fault.Fields
 -- who a client is, the same at each version
 abbrev pub contents_of_login : Entries → Result (List Tree) MsgFault
 contents_of_login es = contents_of_named V51 (credentials every_version) es
+
+-- the mode of a transaction and its token, the same at each version
+abbrev pub contents_of_transaction : Entries → Result (List Tree) MsgFault
+contents_of_transaction es = contents_of_named V51 of_transaction es
+
+-- what they say
+abbrev pub transaction_trees : Mode × Option (String Global) → List Tree
+transaction_trees x = mode_tree x.0 ∷ token_tree (token_view x.1) ∷ []
+
+-- a count of rows of the last query, the same at each version; other entries are a fault
+abbrev pub contents_of_rows : Entries → Result (List Tree) MsgFault
+contents_of_rows es = contents_of_extra V51 refused how_many es
 
 -- a message of a dictionary with these named entries, the others being ignored
 abbrev pub contents_of_dict : Version → Name → List Named → Entries → Result Contents MsgFault

@@ -1,11 +1,11 @@
 -- What a value says as a message, as the table lays it out, and not how it is read.
-use Rattle.std.specs.Prelude.{◌≡◌, ◌≢◌, ◌≤◌, ℕ, pos, negsuc, List, [], ◌∷◌, ◌++◌, length, true, false, Option, None, Some, All, Any, Contains, codes}
+use Rattle.std.specs.Prelude.{◌≡◌, ◌↔◌, ◌≢◌, ◌≤◌, ℕ, pos, negsuc, List, [], ◌∷◌, ◌++◌, length, true, false, Option, None, Some, All, Any, Contains, codes, Ok}
 use Rattle.packstream.specs.Tree.{Tree, null, int, text, list, dict, structure, Trees, no_trees, tree_then, Entries, no_entries, entry_then}
 use Rattle.packstream.specs.Faults.{keys_of}
 use Rattle.wire.specs.declared.Version.{Version}
 use Rattle.structures.specs.Form.{Form}
 use Rattle.messages.specs.Table.{Holds, a_text, a_mode, a_count, last_query, a_token, Named, Others, ignored, refused, Field, text_field, cells, cell_list, extra, Name, Row, layout}
-use Rattle.messages.specs.Reading.{Contents, contents}
+use Rattle.messages.specs.Reading.{Contents, contents, contents_of_message}
 use Rattle.messages.specs.Messages.{SpellsWhere}
 use Rattle.messages.specs.Limits.{max_token}
 
@@ -75,3 +75,11 @@ SaysMessage v table t s = (n : Name) × Contains table (layout n) × SaysRow v (
 -- the bytes spell a value of which a row of the table says it
 abbrev pub IsSpelled : Version → List Row → Contents → List ℕ → Type 0
 IsSpelled v table s b = SpellsWhere b (λ t. SaysMessage v table t s)
+
+-- What is told of a value by the table is what a row of it says.
+abbrev pub ToldByRows : List Row → Type 0
+ToldByRows table = (v : Version) (t : Tree) (s : Contents) → (contents_of_message v table t ≡ Ok s) ↔ SaysMessage v table t s
+
+-- Bytes stand for the message that a row says of the value that they spell.
+abbrev pub StandsByRows : {M : Type 0} → (Version → M → List ℕ → Type 0) → List Row → (M → Contents) → Type 0
+StandsByRows {M} Stands table says = (v : Version) (m : M) (b : List ℕ) → Stands v m b ↔ IsSpelled v table (says m) b

@@ -1,12 +1,14 @@
 -- What bytes say that are read without a value. Private functions and proofs alone need it.
-use Rattle.std.specs.Prelude.{◌≡◌, ◌≤◌, ◌++◌, ℕ, List, Ok}
+use Rattle.std.specs.Prelude.{◌≡◌, ◌≤◌, [], ◌∷◌, ◌++◌, ℕ, List, Option, Ok}
 use Rattle.packstream.specs.Tree.{Tree, Trees, Entries, dict, list}
 use Rattle.packstream.specs.Good.{IsGood, depth}
 use Rattle.packstream.specs.Spelling.{Spells, SpellsText, SpellsTree}
 use Rattle.wire.specs.declared.Version.{Version}
 use Rattle.scanner.specs.Fronts.{SpellsFront}
-use Rattle.messages.specs.Table.{Named, Others}
-use Rattle.messages.specs.Reading.{cell_of_field, contents_of_extra}
+use Rattle.messages.specs.declared.request.Mode.{Mode}
+use Rattle.messages.specs.declared.request.Count.{Count}
+use Rattle.messages.specs.Table.{Named, Others, ignored, refused, of_transaction, how_many}
+use Rattle.messages.specs.Reading.{cell_of_field, contents_of_extra, count_tree, mode_tree, token_tree}
 
 -- the front of the bytes spells an entry, and rest follows it
 abbrev pub SpellsEntry : List ℕ → Tree → List ℕ → List ℕ → Type 0
@@ -21,6 +23,14 @@ pub record SpellsExtra (v : Version) (others : Others) (ns : List Named) (xs : L
   pub deep : depth (dict entries) ≤ 31
   pub spelled : Spells (dict entries) b
   pub told : contents_of_extra v others ns entries ≡ Ok xs
+
+-- they say this count of rows of the last query
+abbrev pub SpellsRows : Count → List ℕ → Type 0
+SpellsRows c b = (v : Version) → SpellsExtra v refused how_many (count_tree c ∷ []) b
+
+-- they say this mode of a transaction and this token
+abbrev pub SpellsTransaction : Mode → Option (List ℕ) → List ℕ → Type 0
+SpellsTransaction m token b = (v : Version) → SpellsExtra v ignored of_transaction (mode_tree m ∷ token_tree token ∷ []) b
 
 -- the bytes spell a good dictionary whose named entries say what these say
 pub record SpellsNamed (es : Entries) (b : List ℕ) : Type 0 where

@@ -55,6 +55,14 @@ IsResponse v (Record cs) = IsCell v (list (trees_of cs))
 IsResponse v Ignored = Unit {0}
 IsResponse v (Failure code message) = IsUtf8 code × IsUtf8 message
 
+-- the spelling of a request stands for it, if it has one
+abbrev pub RequestStands : Version → RequestView → Type 0
+RequestStands v m = (b : List ℕ) → request_spelling v m ≡ Ok b → Req v m b
+
+-- the spelling of a response stands for it, if it has one
+abbrev pub ResponseStands : Version → ResponseView → Type 0
+ResponseStands v m = (b : List ℕ) → response_spelling v m ≡ Ok b → Resp v m b
+
 -- What has a spelling reads back: the spelling stands for the message, and is read as it.
 abbrev pub RequestsReadBack : Type 0
 RequestsReadBack = (v : Version) (m : RequestView) (b : List ℕ) → IsRequest v m

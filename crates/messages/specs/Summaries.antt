@@ -121,3 +121,11 @@ FitsRoom v s = (b : List ℕ) × (response_spelling v (response_of_summary s) �
 abbrev pub ReadsBack : Version → Summary → Type 0
 ReadsBack v s = (b : List ℕ) × (response_spelling v (response_of_summary s) ≡ Ok b)
     × Resp v (response_of_summary s) b
+
+-- Each that is short fits its room.
+abbrev pub AllFit : Type 0
+AllFit = (v : Version) (s : Summary) → IsShort s → FitsRoom v s
+
+-- Of each that is short and has texts, what is written stands for it.
+abbrev pub AllReadBack : Type 0
+AllReadBack = (v : Version) (s : Summary) → IsShort s → HasTexts s → ReadsBack v s

@@ -10,7 +10,9 @@ use Rattle.wire.specs.declared.Version.{Version}
 use Rattle.messages.specs.declared.fault.MsgFault.{MsgFault}
 use Rattle.messages.specs.declared.fault.MsgFault.TheVariants as fault
 use Rattle.messages.specs.Table.{Holds, a_text, a_mode, a_count, last_query, a_token, Named, Field, text_field, cells, cell_list, extra, Row, layout}
-use Rattle.messages.specs.View.{RequestView, ResponseView}
+use Rattle.messages.specs.declared.request.Request.{Request}
+use Rattle.messages.specs.declared.response.Response.{Response}
+use Rattle.messages.specs.View.{RequestView, ResponseView, request_view, response_view}
 use Rattle.messages.specs.Reading.{◌>>=◌, is_token, Contents, contents, request_contents, response_contents}
 use Rattle.messages.specs.Cells.{cell_put}
 use Rattle.packstream.specs.Limits.{max_size}
@@ -123,6 +125,22 @@ request_spelling v m = spelling_of_contents v (request_contents m)
 -- the spelling of a response at a version, or why it can't be written
 unfoldable pub response_spelling : Version → ResponseView → Result (List ℕ) MsgFault
 response_spelling v m = spelling_of_contents v (response_contents m)
+
+-- the spelling of a request as it is in memory
+abbrev pub spelling_of_request : Version → Request → Result (List ℕ) MsgFault
+spelling_of_request v r = request_spelling v (request_view r)
+
+-- the spelling of a response as it is in memory
+abbrev pub spelling_of_response : Version → Response → Result (List ℕ) MsgFault
+spelling_of_response v r = response_spelling v (response_view r)
+
+-- the structure of a request as it is in memory, or why it can't be written
+abbrev pub form_of_request : Version → Request → Result Tree MsgFault
+form_of_request v r = form_put v (request_contents (request_view r))
+
+-- the structure of a response as it is in memory, or why it can't be written
+abbrev pub form_of_response : Version → Response → Result Tree MsgFault
+form_of_response v r = form_put v (response_contents (response_view r))
 
 -- The spelling was appended, or nothing, and why; unless memory ran out.
 abbrev pub Appends : {A : Type 0} → Result A MsgFault → List ℕ → List ℕ → Result (List ℕ) MsgFault

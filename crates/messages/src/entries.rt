@@ -1,9 +1,5 @@
 //! The named entries of a dictionary, of values or of cells.
-ghost use Rattle.std.specs.Prelude.{◌≡◌, codes, Some, ◌∷◌, []};
-ghost use Rattle.packstream.specs.Prelude.{Tree, tree};
-ghost use Rattle.cells.specs.Shape.{shape, text_of};
-ghost use Rattle.messages.specs.Prelude.{Answers, lookup, contents_of_text, contents_of_mode, contents_of_count, contents_of_token, contents_of_named, is_token, token_tree, mode_tree, count_tree, login_trees, all_named, contents_of_extra, request_contents, response_contents, contents_of_login, contents_of_dict, entries_seen, IsKind, refused, how_many, hello, of_transaction, of_error, HELLO, FAILURE, auth_view as login, token_view, request_view, response_view};
-ghost use Rattle.wire.specs.declared.Version.TheVariants.{V51};
+ghost use Rattle.messages.specs.Prelude.{◌≡◌, [], ◌∷◌, Some, codes, Tree, tree, shape, text_of, Answers, TellsRequest, TellsResponse, found, entries_seen, IsKind, all_named, how_many, is_token, contents_of_text, contents_of_mode, contents_of_count, contents_of_token, contents_of_transaction, contents_of_rows, contents_of_login, contents_of_dict, mode_tree, token_tree, count_tree, transaction_trees, login_trees, hello, of_error, HELLO, FAILURE, auth_view, token_view};
 
 use crate::MAX_TOKEN;
 use crate::fault::{Answer, MsgFault};
@@ -64,7 +60,7 @@ impl Item for Cell {
 
 /// What stands under this name first.
 fn entry<'a, T: Item>(pairs: &'a [(String, T)], name: &str) -> Kind<'a, T>
-    ensures { IsKind T.seen result (lookup name.now (entries_seen T.seen pairs.now)) }
+    ensures { IsKind T.seen result (found T.seen name.now pairs.now) }
 {
     for pair in pairs {
         if name == pair.0.as_str() {
@@ -76,8 +72,7 @@ fn entry<'a, T: Item>(pairs: &'a [(String, T)], name: &str) -> Kind<'a, T>
 
 /// A text that has to be there.
 fn text_in<T: Item>(pairs: &[(String, T)], name: &str) -> Result<String, MsgFault>
-    ensures { Answers (λ s. text_of s ∷ []) result
-        (contents_of_text (lookup name.now (entries_seen T.seen pairs.now))) }
+    ensures { Answers (λ s. text_of s ∷ []) result (contents_of_text (found T.seen name.now pairs.now)) }
 {
     match entry(pairs, name) {
         Kind::Text(text) => Ok(text.clone()?),
@@ -87,8 +82,7 @@ fn text_in<T: Item>(pairs: &[(String, T)], name: &str) -> Result<String, MsgFaul
 
 /// The mode, to write if it is absent.
 fn mode_in<T: Item>(pairs: &[(String, T)]) -> Result<Mode, MsgFault>
-    ensures { Answers (λ m. mode_tree m ∷ []) result
-        (contents_of_mode (lookup (codes "mode") (entries_seen T.seen pairs.now))) }
+    ensures { Answers (λ m. mode_tree m ∷ []) result (contents_of_mode (found T.seen (codes "mode") pairs.now)) }
 {
     match entry(pairs, "mode") {
         Kind::Absent => Ok(Mode::Write),
@@ -107,8 +101,7 @@ pub(crate) fn is_token(text: &str) -> bool
 
 /// The token among a client's words of its transaction; its other words are ignored.
 fn token_among<T: Item>(words: &[(String, T)]) -> Result<Option<String>, MsgFault>
-    ensures { Answers (λ t. token_tree (token_view t) ∷ []) result
-        (contents_of_token (lookup (codes "token") (entries_seen T.seen words.now))) }
+    ensures { Answers (λ t. token_tree (token_view t) ∷ []) result (contents_of_token (found T.seen (codes "token") words.now)) }
 {
     match entry(words, "token") {
         Kind::Absent => Ok(None),
@@ -119,8 +112,7 @@ fn token_among<T: Item>(words: &[(String, T)]) -> Result<Option<String>, MsgFaul
 
 /// The mode of a transaction, and its token if it has one.
 pub(crate) fn transaction_of<T: Item>(pairs: &[(String, T)]) -> Answer<Transaction>
-    ensures { Answers (λ x. mode_tree x.0 ∷ token_tree (token_view x.1) ∷ []) result
-        (contents_of_named V51 of_transaction (entries_seen T.seen pairs.now)) }
+    ensures { Answers transaction_trees result (contents_of_transaction (entries_seen T.seen pairs.now)) }
 {
     let mode = mode_in(pairs)?;
     match entry(pairs, "tx_metadata") {
@@ -131,8 +123,7 @@ pub(crate) fn transaction_of<T: Item>(pairs: &[(String, T)]) -> Answer<Transacti
 }
 
 fn number_in<T: Item>(pairs: &[(String, T)]) -> Result<Count, MsgFault>
-    ensures { Answers (λ c. count_tree c ∷ []) result
-        (contents_of_count (lookup (codes "n") (entries_seen T.seen pairs.now))) }
+    ensures { Answers (λ c. count_tree c ∷ []) result (contents_of_count (found T.seen (codes "n") pairs.now)) }
 {
     match entry(pairs, "n") {
         Kind::Int(-1) => Ok(Count::All),
@@ -155,8 +146,7 @@ fn say_how_many_alone<T: Item>(pairs: &[(String, T)]) -> bool
 
 /// How many rows, of the last query, if one is named; no other entry is allowed.
 pub(crate) fn count_in<T: Item>(pairs: &[(String, T)]) -> Result<Count, MsgFault>
-    ensures { Answers (λ c. count_tree c ∷ []) result
-        (contents_of_extra V51 refused how_many (entries_seen T.seen pairs.now)) }
+    ensures { Answers (λ c. count_tree c ∷ []) result (contents_of_rows (entries_seen T.seen pairs.now)) }
 {
     if !say_how_many_alone(pairs) {
         return Err(MsgFault::Extra);
@@ -170,40 +160,31 @@ pub(crate) fn count_in<T: Item>(pairs: &[(String, T)]) -> Result<Count, MsgFault
 
 /// Who a client is.
 pub(crate) fn auth_of<T: Item>(pairs: &[(String, T)]) -> Result<Auth, MsgFault>
-    ensures { Answers (λ a. login_trees (login a)) result
-        (contents_of_login (entries_seen T.seen pairs.now)) }
+    ensures { Answers (λ a. login_trees (auth_view a)) result (contents_of_login (entries_seen T.seen pairs.now)) }
 {
-    let scheme = text_in(pairs, "scheme")?;
-    let principal = text_in(pairs, "principal")?;
-    let credentials = text_in(pairs, "credentials")?;
     Ok(Auth {
-        scheme,
-        principal,
-        credentials,
+        scheme: text_in(pairs, "scheme")?,
+        principal: text_in(pairs, "principal")?,
+        credentials: text_in(pairs, "credentials")?,
     })
 }
 
 /// A HELLO: the client's name, and who it is if the version tells that with it.
 #[tactic(auto, using(crate::proofs::Fields::login_here))]
 pub(crate) fn hello_of<T: Item>(version: Version, pairs: &[(String, T)]) -> Answer<Request>
-    ensures { Answers (λ r. request_contents (request_view r)) result
-        (contents_of_dict version HELLO hello (entries_seen T.seen pairs.now)) }
+    ensures { TellsRequest result (contents_of_dict version HELLO hello (entries_seen T.seen pairs.now)) }
 {
     let agent = text_in(pairs, "user_agent")?;
     if !version.hello_has_login() {
         return Ok(Request::Hello { agent, auth: None });
     }
-    let auth = auth_of(pairs)?;
-    Ok(Request::Hello {
-        agent,
-        auth: Some(auth),
-    })
+    let auth = Some(auth_of(pairs)?);
+    Ok(Request::Hello { agent, auth })
 }
 
 /// A FAILURE: its code and its message.
 pub(crate) fn failure_of<T: Item>(pairs: &[(String, T)]) -> Result<Response, MsgFault>
-    ensures { Answers (λ r. response_contents (response_view r)) result
-        (contents_of_dict V51 FAILURE of_error (entries_seen T.seen pairs.now)) }
+    ensures { TellsResponse result (contents_of_dict Version.V51 FAILURE of_error (entries_seen T.seen pairs.now)) }
 {
     let code = text_in(pairs, "code")?;
     let message = text_in(pairs, "message")?;

@@ -1,5 +1,5 @@
 //! Why bytes are no message, or a message can't be written.
-ghost use Rattle.std.specs.Prelude.{◌≡◌};
+ghost use Rattle.messages.specs.Prelude.{◌≡◌, of_pack, of_cell};
 ghost use Rattle.messages.specs.declared.fault.MsgFault.TheVariants.{Memory};
 
 use packstream::PackFault;
@@ -43,7 +43,7 @@ pub enum MsgFault {
 }
 
 /// What is read or written, or the fault.
-pub(crate) type Answer<T> = Result<T, MsgFault>;
+pub type Answer<T> = Result<T, MsgFault>;
 
 impl From<AllocError> for MsgFault {
     ghost from_gives = { λ _ e. e ≡ Memory };
@@ -62,8 +62,6 @@ impl<T: Drop> From<AllocFailed<T>> for MsgFault {
 }
 
 impl From<PackFault> for MsgFault {
-    ghost use Rattle.messages.specs.Faults.{of_pack};
-
     ghost from_gives = { λ p e. e ≡ of_pack p };
 
     fn from(fault: PackFault) -> MsgFault {
@@ -75,8 +73,6 @@ impl From<PackFault> for MsgFault {
 }
 
 impl From<CellFault> for MsgFault {
-    ghost use Rattle.messages.specs.Faults.{of_cell};
-
     ghost from_gives = { λ f e. e ≡ of_cell f };
 
     fn from(fault: CellFault) -> MsgFault {

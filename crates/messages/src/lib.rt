@@ -8,7 +8,6 @@ mod codec;
 mod entries;
 mod fault;
 pub mod laws;
-mod of_packed;
 mod put_entries;
 mod read_parts;
 mod read_requests;
@@ -23,9 +22,10 @@ mod write_parts;
 mod write_requests;
 mod write_responses;
 
-pub use codec::{read_request, read_response, write_request, write_response};
-pub use fault::MsgFault;
-pub use of_packed::{request_of, response_of};
+pub use codec::{
+    read_request, read_response, request_of, response_of, write_request, write_response,
+};
+pub use fault::{Answer, MsgFault};
 use packstream::MAX_SIZE;
 pub use request::{Auth, Count, Mode, Request};
 pub use response::Response;

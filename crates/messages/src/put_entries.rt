@@ -1,7 +1,5 @@
 //! The named entries of a dictionary, written straight into an output.
-ghost use Rattle.std.specs.Prelude.{◌≡◌, ◌≤◌, ◌++◌, ◌∷◌, [], Some, true, OnOk, codes, length, map, string_bytes};
-ghost use Rattle.packstream.specs.Prelude.{canon, canon_entries, entries_of};
-ghost use Rattle.messages.specs.Prelude.{AddsEntries, is_token as token_fits, transaction_put, token_dict, named_text, of_texts, login_pairs, hello_pairs, error_pairs, auth_view, token_view};
+ghost use Rattle.messages.specs.Prelude.{◌≡◌, ◌≤◌, ◌++◌, ◌∷◌, [], Some, true, OnOk, codes, length, map, string_bytes, canon, canon_entries, entries_of, AddsEntries, is_token as token_fits, transaction_put, token_dict, named_text, of_texts, login_pairs, hello_pairs, error_pairs, auth_view, token_view};
 
 use crate::entries::is_token;
 use crate::request::{Auth, Mode};
@@ -25,7 +23,7 @@ fn put_token(out: &mut Output, token: &String) -> Result<(), Unspelled>
 }
 
 /// The entries of a transaction: its mode, where that of writing isn't written, and its token if it has one.
-#[tactic(auto, using(crate::proofs::Named::of_writing, crate::proofs::Named::of_reading, crate::proofs::Named::token_added, crate::proofs::Named::mode_and_token_added))]
+#[tactic(auto, using(crate::proofs::Named::texts_fit, crate::proofs::Named::of_writing, crate::proofs::Named::of_reading, crate::proofs::Named::token_added, crate::proofs::Named::mode_and_token_added))]
 pub(crate) fn put_transaction(out: &mut Output, mode: Mode, token: &Option<String>) -> Spelled
     ensures before { out.new.before ≡ out.old.before }
     ensures adds { OnOk result
@@ -36,13 +34,11 @@ pub(crate) fn put_transaction(out: &mut Output, mode: Mode, token: &Option<Strin
         (Mode::Read, None) => Ok(out.extend_from_slice(b"\xA1\x84mode\x81r")?),
         (Mode::Write, Some(token)) => {
             out.push(0xA1)?;
-            put_token(out, token)?;
-            Ok(())
+            Ok(put_token(out, token)?)
         }
         (Mode::Read, Some(token)) => {
             out.extend_from_slice(b"\xA2\x84mode\x81r")?;
-            put_token(out, token)?;
-            Ok(())
+            Ok(put_token(out, token)?)
         }
     }
 }
@@ -63,13 +59,9 @@ pub(crate) fn hello_texts<'a>(agent: &'a String, auth: &'a Auth) -> [(&'a str, &
     ensures { map named_text result
         ≡ hello_pairs (string_bytes agent.now) (Some (auth_view auth.now)) }
 {
+    let agent = ("user_agent", agent.as_str());
     let [scheme, principal, credentials] = auth_texts(auth);
-    [
-        ("user_agent", agent.as_str()),
-        scheme,
-        principal,
-        credentials,
-    ]
+    [agent, scheme, principal, credentials]
 }
 
 /// The texts of FAILURE.

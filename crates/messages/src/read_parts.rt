@@ -1,8 +1,5 @@
 //! Parts of a message that are read of requests and of responses.
-ghost use Rattle.std.specs.Prelude.{◌≡◌, [], ◌++◌, IfOk, OnOk};
-ghost use Rattle.messages.specs.Prelude.{SpellsDict, Answers, cell_of_field, entries_of_dict, only_dict, no_field, one_field, three_fields, dict_of_cells, list_of_cells};
-ghost use Rattle.packstream.specs.Prelude.{list, dict, tree, trees, trees_of, entries as value_entries, entries_of};
-ghost use Rattle.cells.specs.Shape.{entries, shape, shapes};
+ghost use Rattle.messages.specs.Prelude.{◌≡◌, [], ◌++◌, IfOk, OnOk, tree, shape, Answers, SpellsDict, fields_seen, entries_seen, cells_tree, row_tree, cell_of_field, entries_of_dict, only_dict, no_field, one_field, three_fields, dict_of_cells, list_of_cells};
 
 use crate::fault::{Answer, MsgFault};
 use packstream::Value;
@@ -20,7 +17,7 @@ pub(crate) type Scanned<T> = Result<T, Unscanned>;
 /// No field.
 #[tactic(auto, using(crate::proofs::Fields::some_field))]
 pub(crate) fn none(fields: &[Value]) -> Result<(), MsgFault>
-    ensures { Answers (λ _. tt) result (no_field (trees_of (trees fields.now))) }
+    ensures { Answers (λ _. tt) result (no_field (fields_seen fields.now)) }
 {
     if fields.is_empty() {
         Ok(())
@@ -32,7 +29,7 @@ pub(crate) fn none(fields: &[Value]) -> Result<(), MsgFault>
 /// One field.
 #[tactic(auto, using(crate::proofs::Fields::not_one))]
 pub(crate) fn one(fields: &[Value]) -> Result<&Value, MsgFault>
-    ensures { Answers (λ x. tree x.now) result (one_field (trees_of (trees fields.now))) }
+    ensures { Answers (λ x. tree x.now) result (one_field (fields_seen fields.now)) }
 {
     if fields.len() != 1 {
         return Err(MsgFault::Fields);
@@ -43,8 +40,7 @@ pub(crate) fn one(fields: &[Value]) -> Result<&Value, MsgFault>
 /// Three fields.
 #[tactic(auto, using(crate::proofs::Fields::not_three))]
 pub(crate) fn three(fields: &[Value]) -> Result<(&Value, &Value, &Value), MsgFault>
-    ensures { Answers (λ x. (tree x.0.now, tree x.1.now, tree x.2.now)) result
-        (three_fields (trees_of (trees fields.now))) }
+    ensures { Answers (λ x. (tree x.0.now, tree x.1.now, tree x.2.now)) result (three_fields (fields_seen fields.now)) }
 {
     if fields.len() != 3 {
         return Err(MsgFault::Fields);
@@ -55,8 +51,7 @@ pub(crate) fn three(fields: &[Value]) -> Result<(&Value, &Value, &Value), MsgFau
 /// A dictionary.
 #[tactic(auto, using(packstream::proofs::Putting::tree_of_dict))]
 pub(crate) fn entries_in(field: &Value) -> Result<&[(String, Value)], MsgFault>
-    ensures { Answers (λ x. entries_of (value_entries x.now)) result
-        (entries_of_dict (tree field.now)) }
+    ensures { Answers (λ x. entries_seen tree x.now) result (entries_of_dict (tree field.now)) }
 {
     match field {
         Value::Dict(pairs) => Ok(pairs),
@@ -66,8 +61,7 @@ pub(crate) fn entries_in(field: &Value) -> Result<&[(String, Value)], MsgFault>
 
 /// One field, a dictionary.
 pub(crate) fn extra_in(fields: &[Value]) -> Result<&[(String, Value)], MsgFault>
-    ensures { Answers (λ x. entries_of (value_entries x.now)) result
-        (only_dict (trees_of (trees fields.now))) }
+    ensures { Answers (λ x. entries_seen tree x.now) result (only_dict (fields_seen fields.now)) }
 {
     entries_in(one(fields)?)
 }
@@ -82,8 +76,7 @@ fn cell_in(alloc: Global, version: Version, field: &Value) -> Result<Cell, MsgFa
 /// A dictionary of cells.
 #[tactic(auto, using(speller::proofs::Flat::shape_of_dict))]
 pub(crate) fn cells_in(alloc: Global, version: Version, field: &Value) -> Answer<Cells>
-    ensures { Answers (λ v. dict (entries_of (entries v.items))) result
-        (dict_of_cells version (tree field.now)) }
+    ensures { Answers (λ v. cells_tree v.items) result (dict_of_cells version (tree field.now)) }
 {
     let _ = entries_in(field)?;
     match cell_in(alloc, version, field)? {
@@ -94,8 +87,7 @@ pub(crate) fn cells_in(alloc: Global, version: Version, field: &Value) -> Answer
 
 /// A list of cells.
 pub(crate) fn row_in(alloc: Global, version: Version, field: &Value) -> Result<Vec<Cell>, MsgFault>
-    ensures { Answers (λ v. list (trees_of (shapes v.items))) result
-        (list_of_cells version (tree field.now)) }
+    ensures { Answers (λ v. row_tree v.items) result (list_of_cells version (tree field.now)) }
 {
     match field {
         Value::List(_) => match cell_in(alloc, version, field)? {
@@ -122,8 +114,7 @@ pub(crate) fn end(rest: &[u8]) -> Result<(), Unscanned>
 /// A dictionary of cells straight from the bytes, and what follows it. Many have no entries.
 #[tactic(auto, using(crate::proofs::Scanned::dict_scanned, crate::proofs::Scanned::empty_scanned))]
 pub(crate) fn scan_cells(alloc: Global, version: Version, bytes: &[u8]) -> Scanned<(Cells, &[u8])>
-    ensures { IfOk result (λ x. SpellsDict version
-        (dict (entries_of (entries x.0.items))) x.1.now bytes.now) }
+    ensures { IfOk result (λ x. SpellsDict version (cells_tree x.0.items) x.1.now bytes.now) }
 {
     if let Ok(rest) = behind(bytes, b"\xA0") {
         return Ok((Vec::new(alloc), rest));

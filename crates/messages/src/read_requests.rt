@@ -1,8 +1,6 @@
 //! Requests, read in two ways: of a value, which also tells what is wrong, and straight from the bytes. What the second doesn't
 //! read goes the first.
-ghost use Rattle.std.specs.Prelude.{◌∷◌, [], IfOk};
-ghost use Rattle.packstream.specs.View.{tree, trees, trees_of, entries as value_entries, entries_of};
-ghost use Rattle.messages.specs.Prelude.{ignored, extra, text_field, cells, of_transaction, HELLO, LOGON, LOGOFF, GOODBYE, RESET, RUN, BEGIN, COMMIT, ROLLBACK, DISCARD, PULL, requests, run_tag, request_view, Answers, contents_of_row, contents_at_tag, contents_of_message, request_contents, contents_of_plain, contents_of_run, field_text, Req};
+ghost use Rattle.messages.specs.Prelude.{[], ◌∷◌, IfOk, tree, fields_seen, entries_seen, Answers, field_text, contents_of_run, ignored, extra, text_field, cells, of_transaction, RUN, requests, run_tag, request_view, request_contents, TellsRequest, contents_of_row, contents_at_tag, contents_of_message, contents_of_plain, Req};
 
 use crate::entries::{auth_of, count_in, hello_of, transaction_of};
 use crate::fault::{Answer, MsgFault};
@@ -17,15 +15,13 @@ use wire::Version;
 
 /// A request without fields.
 fn plain(request: Request, fields: &[Value]) -> Result<Request, MsgFault>
-    ensures { Answers (λ r. request_contents (request_view r)) result
-        (contents_of_plain (request_contents (request_view request))
-        (trees_of (trees fields.now))) }
+    ensures { TellsRequest result (contents_of_plain (request_contents (request_view request)) (fields_seen fields.now)) }
 {
     none(fields)?;
     Ok(request)
 }
 
-fn text_in_field(field: &Value) -> Result<&str, MsgFault>
+fn text_in_field(field: &Value) -> Answer<&str>
     ensures { Answers (λ s. s.now) result (field_text (tree field.now)) }
 {
     match field {
@@ -40,10 +36,8 @@ fn run_with(
     text: &str,
     field: &Value,
     pairs: &[(String, Value)],
-) -> Result<Request, MsgFault>
-    ensures { Answers (λ r. request_contents (request_view r)) result
-        (contents_of_run version text.now (tree field.now)
-        (entries_of (value_entries pairs.now))) }
+) -> Answer<Request>
+    ensures { TellsRequest result (contents_of_run version text.now (tree field.now) (entries_seen tree pairs.now)) }
 {
     let (mode, token) = transaction_of(pairs)?;
     let params = cells_in(alloc, version, field)?;
@@ -59,9 +53,8 @@ fn run_with(
 /// A RUN of its three fields: the text, the parameters and the other entries.
 #[tactic(auto, using(crate::proofs::Fields::run_row))]
 fn run_of(alloc: Global, version: Version, fields: &[Value]) -> Result<Request, MsgFault>
-    ensures { Answers (λ r. request_contents (request_view r)) result
-        (contents_of_row version RUN (text_field ∷ cells ∷ extra ignored of_transaction ∷ [])
-        (trees_of (trees fields.now))) }
+    ensures { TellsRequest result
+        (contents_of_row version RUN (text_field ∷ cells ∷ extra ignored of_transaction ∷ []) (fields_seen fields.now)) }
 {
     let (text, field, others) = three(fields)?;
     let text = text_in_field(text)?;
@@ -73,8 +66,7 @@ fn run_of(alloc: Global, version: Version, fields: &[Value]) -> Result<Request, 
 /// The request of a structure with this tag and these fields.
 #[tactic(auto, using(crate::proofs::Fields::none_row, crate::proofs::Fields::extra_row))]
 fn request_tagged(alloc: Global, version: Version, tag: u8, fields: &[Value]) -> Answer<Request>
-    ensures { Answers (λ r. request_contents (request_view r)) result
-        (contents_at_tag version requests tag (trees_of (trees fields.now))) }
+    ensures { TellsRequest result (contents_at_tag version requests tag (fields_seen fields.now)) }
 {
     match (tag, version.has_logon()) {
         (tags::HELLO, _) => hello_of(version, extra_in(fields)?),
@@ -97,8 +89,7 @@ fn request_tagged(alloc: Global, version: Version, tag: u8, fields: &[Value]) ->
 
 /// The request of a value, by the table of requests.
 pub(crate) fn request_of_value(alloc: Global, version: Version, value: &Value) -> Answer<Request>
-    ensures { Answers (λ r. request_contents (request_view r)) result
-        (contents_of_message version requests (tree value.now)) }
+    ensures { TellsRequest result (contents_of_message version requests (tree value.now)) }
 {
     match value {
         Value::Struct(tag, fields) => request_tagged(alloc, version, *tag, fields),
@@ -107,6 +98,7 @@ pub(crate) fn request_of_value(alloc: Global, version: Version, value: &Value) -
 }
 
 /// A RUN behind its head.
+#[tactic(auto, using(packstream::proofs::Ranges::bytes_from_each, crate::proofs::Scanned::run_means))]
 fn scan_run(alloc: Global, version: Version, bytes: &[u8]) -> Result<Request, Unscanned>
     ensures { IfOk result (λ r. Req version (request_view r) (0xB3 ∷ run_tag ∷ bytes.now)) }
 {

@@ -1,9 +1,7 @@
 //! Responses, read in two ways: of a value, which also tells what is wrong, and straight from the bytes. What the second doesn't
 //! read goes the first.
-ghost use Rattle.std.specs.Prelude.{◌∷◌, [], IfOk};
+ghost use Rattle.messages.specs.Prelude.{[], ◌∷◌, IfOk, tree, responses, response_view, TellsResponse, contents_of_message, Resp};
 ghost use Rattle.wire.specs.declared.Version.{Version as AnyVersion};
-ghost use Rattle.packstream.specs.View.{tree};
-ghost use Rattle.messages.specs.Prelude.{responses, response_view, Answers, contents_of_message, response_contents, Resp};
 
 use crate::entries::failure_of;
 use crate::fault::{Answer, MsgFault};
@@ -19,8 +17,7 @@ use wire::Version;
 /// The response of a value, by the table of responses.
 #[tactic(auto, using(crate::proofs::Fields::none_row, crate::proofs::Fields::extra_row, crate::proofs::Fields::cells_row, crate::proofs::Fields::list_row))]
 pub(crate) fn response_of_value(alloc: Global, version: Version, value: &Value) -> Answer<Response>
-    ensures { Answers (λ r. response_contents (response_view r)) result
-        (contents_of_message version responses (tree value.now)) }
+    ensures { TellsResponse result (contents_of_message version responses (tree value.now)) }
 {
     let Value::Struct(tag, fields) = value else {
         return Err(MsgFault::NotAMessage);
@@ -38,7 +35,7 @@ pub(crate) fn response_of_value(alloc: Global, version: Version, value: &Value) 
 }
 
 /// A response of one field, behind its head.
-#[tactic(auto, using(crate::proofs::Scanned::record_means, crate::proofs::Scanned::list_scanned, crate::proofs::Scanned::success_means))]
+#[tactic(auto, using(crate::proofs::Scanned::record_means, crate::proofs::Scanned::list_scanned, crate::proofs::Scanned::success_means, crate::proofs::Scanned::failure_means))]
 fn scan_one(alloc: Global, version: Version, tag: u8, bytes: &[u8]) -> Result<Response, Unscanned>
     ensures { IfOk result (λ r. Resp version (response_view r) (0xB1 ∷ tag ∷ bytes.now)) }
 {
@@ -53,10 +50,7 @@ fn scan_one(alloc: Global, version: Version, tag: u8, bytes: &[u8]) -> Result<Re
             end(rest)?;
             Ok(Response::Success(metadata))
         }
-        tags::FAILURE => {
-            let pairs = cells_of_extra(alloc, version, bytes)?;
-            Ok(failure_of(&pairs)?)
-        }
+        tags::FAILURE => Ok(failure_of(&cells_of_extra(alloc, version, bytes)?)?),
         _ => Err(Unscanned),
     }
 }

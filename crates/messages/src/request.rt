@@ -1,7 +1,5 @@
 //! What a client asks.
-ghost use Rattle.std.specs.Prelude.{◌≡◌, IfOk};
-ghost use Rattle.cells.specs.Shape.{entries};
-ghost use Rattle.messages.specs.View.{request_view, auth_view};
+ghost use Rattle.messages.specs.Prelude.{◌≡◌, IfOk, entries, request_view, auth_view};
 
 use std::alloc::AllocError;
 use std::fmt;

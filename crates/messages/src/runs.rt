@@ -1,12 +1,8 @@
 //! The written runs of messages, behind the mark of an output.
-ghost use Rattle.std.specs.Prelude.{◌≡◌, ◌<◌, ◌≤◌, ◌∷◌, [], true, false, length, drop, OnOk, OnErr, IfErr, Err};
-ghost use Rattle.packstream.specs.Writing.{whole};
-ghost use Rattle.wire.specs.Prelude.{written_run};
-ghost use Rattle.wire.specs.Limits.{max_message};
-ghost use Rattle.messages.specs.Prelude.{PutsRequest, request_view, Adds, request_contents, form_put, request_spelling};
+ghost use Rattle.messages.specs.Prelude.{◌≡◌, ◌<◌, ◌≤◌, ◌∷◌, [], true, false, length, drop, OnOk, OnErr, IfErr, Err, whole, written_run, max_message, PutsRequest, request_view, Adds, form_of_request, spelling_of_request};
 
 use crate::codec::write_request;
-use crate::fault::MsgFault;
+use crate::fault::{Answer, MsgFault};
 use crate::request::Request;
 use crate::write_requests::put_request;
 use bytes::BytesMut;
@@ -77,24 +73,18 @@ fn spell_run(version: Version, request: &Request, out: &mut Output) -> bool
 fn add_request(version: Version, request: &Request, out: &mut Output) -> Result<(), Unspelled>
     requires { out.old.more ≡ [] }
     ensures before { out.new.before ≡ out.old.before }
-    ensures adds { OnOk result
-        (Adds (form_put version (request_contents (request_view request.now))) (0 ∷ 0 ∷ []) out.new.more) }
+    ensures adds { OnOk result (Adds (form_of_request version request.now) (0 ∷ 0 ∷ []) out.new.more) }
 {
     out.extend_from_slice(&[0, 0])?;
     put_request(out, version, request)
 }
 
 /// Puts the run of what `write_request` writes of a request behind the mark of an output, which is set; or nothing, and its fault.
-pub fn write_request_run(
-    version: Version,
-    request: &Request,
-    out: &mut Output,
-) -> Result<(), MsgFault>
+pub fn write_request_run(version: Version, request: &Request, out: &mut Output) -> Answer<()>
     ensures before { out.new.before ≡ whole out.old }
     ensures ok { OnOk result (PutsRequest version (request_view request.now) out.new.more) }
     ensures err { OnErr result (out.new.more ≡ []) }
-    ensures fault { IfErr result
-        (λ e. (e ≡ MsgFault.Memory → ⊥) → request_spelling version (request_view request.now) ≡ Err e) }
+    ensures fault { IfErr result (λ e. (e ≡ MsgFault.Memory → ⊥) → spelling_of_request version request.now ≡ Err e) }
 {
     if spell_run(version, request, out) {
         return Ok(());
@@ -104,12 +94,11 @@ pub fn write_request_run(
 
 /// The same by way of a text of its own, behind which nothing was spelled.
 #[inline(never)]
-fn write_long_run(version: Version, request: &Request, out: &mut Output) -> Result<(), MsgFault>
+fn write_long_run(version: Version, request: &Request, out: &mut Output) -> Answer<()>
     ensures before { out.new.before ≡ whole out.old }
     ensures ok { OnOk result (PutsRequest version (request_view request.now) out.new.more) }
     ensures err { OnErr result (out.new.more ≡ []) }
-    ensures fault { IfErr result
-        (λ e. (e ≡ MsgFault.Memory → ⊥) → request_spelling version (request_view request.now) ≡ Err e) }
+    ensures fault { IfErr result (λ e. (e ≡ MsgFault.Memory → ⊥) → spelling_of_request version request.now ≡ Err e) }
 {
     out.set_mark();
     let mut text = BytesMut::new(out.allocator());

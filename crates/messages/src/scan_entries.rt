@@ -1,10 +1,6 @@
 //! The named entries of a dictionary, the last field of a message, straight from its bytes. As a client of ours writes them they are
 //! read where they stand; other dictionaries are read as cells.
-ghost use Rattle.std.specs.Prelude.{◌≡◌, ◌∷◌, ◌++◌, [], Ok, IfOk};
-ghost use Rattle.packstream.specs.Prelude.{canon, dict, text, entries_of};
-ghost use Rattle.cells.specs.Shape.{entries};
-ghost use Rattle.messages.specs.Prelude.{mode_pairs, mode_front, contents_of_number, count_tree, mode_tree, token_tree, SpellsExtra, SpellsNamed, ignored, refused, of_transaction, how_many, token_view};
-ghost use Rattle.wire.specs.declared.Version.{Version as AnyVersion};
+ghost use Rattle.messages.specs.Prelude.{◌≡◌, ◌∷◌, ◌++◌, [], Some, Ok, IfOk, canon, dict, entries_of, shape, mode_pairs, mode_front, contents_of_number, count_tree, entries_seen, SpellsRows, SpellsTransaction, SpellsNamed, token_view};
 
 use crate::entries::{Transaction, count_in, is_token, transaction_of};
 use crate::read_parts::{Cells, FIELD_DEPTH, Scanned, behind, end};
@@ -27,14 +23,12 @@ fn count_of(number: i64) -> Result<Count, Unscanned>
 }
 
 fn rows_alone(bytes: &[u8]) -> Result<Count, Unscanned>
-    ensures { (v : AnyVersion) → IfOk result
-        (λ c. SpellsExtra v refused how_many (count_tree c ∷ []) bytes.now) }
+    ensures { IfOk result (λ c. SpellsRows c bytes.now) }
 {
     let rest = behind(bytes, b"\xA1\x81n")?;
     let (number, rest) = scan_int(rest)?;
     end(rest)?;
-    let count = count_of(number)?;
-    Ok(count)
+    Ok(count_of(number)?)
 }
 
 /// The entries of a transaction without a token.
@@ -62,8 +56,7 @@ fn mode_first(bytes: &[u8]) -> Scanned<(Mode, &[u8])>
 
 /// The mode and the token.
 fn mode_and_token(bytes: &[u8]) -> Scanned<(Mode, &str)>
-    ensures { (v : AnyVersion) → IfOk result (λ x. SpellsExtra v ignored of_transaction
-        (mode_tree x.0 ∷ text x.1.now ∷ []) bytes.now) }
+    ensures { IfOk result (λ x. SpellsTransaction x.0 (Some x.1.now) bytes.now) }
 {
     let (mode, rest) = mode_first(bytes)?;
     let rest = behind(rest, b"\x8Btx_metadata\xA1\x85token")?;
@@ -78,7 +71,7 @@ fn mode_and_token(bytes: &[u8]) -> Scanned<(Mode, &str)>
 /// The entries of a dictionary, read as cells.
 #[tactic(auto, using(crate::proofs::Scanned::extra_scanned))]
 pub(crate) fn cells_of_extra(alloc: Global, version: Version, bytes: &[u8]) -> Scanned<Cells>
-    ensures { IfOk result (λ x. SpellsNamed (entries_of (entries x.items)) bytes.now) }
+    ensures { IfOk result (λ x. SpellsNamed (entries_seen shape x.items) bytes.now) }
 {
     let (pairs, rest) = scan_dict(alloc, version, bytes, FIELD_DEPTH)?;
     end(rest)?;
@@ -86,9 +79,9 @@ pub(crate) fn cells_of_extra(alloc: Global, version: Version, bytes: &[u8]) -> S
 }
 
 /// How many rows are asked for, of the last query, which may be named.
+#[tactic(auto, using(crate::proofs::Scanned::named_extra))]
 pub(crate) fn rows_in(alloc: Global, version: Version, bytes: &[u8]) -> Result<Count, Unscanned>
-    ensures { (v : AnyVersion) → IfOk result
-        (λ c. SpellsExtra v refused how_many (count_tree c ∷ []) bytes.now) }
+    ensures { IfOk result (λ c. SpellsRows c bytes.now) }
 {
     if let Ok(count) = rows_alone(bytes) {
         return Ok(count);
@@ -98,16 +91,15 @@ pub(crate) fn rows_in(alloc: Global, version: Version, bytes: &[u8]) -> Result<C
 }
 
 /// The mode of a transaction, and its token if it has one.
+#[tactic(auto, using(crate::proofs::Scanned::named_extra, crate::proofs::Scanned::mode_scanned))]
 pub(crate) fn transaction_in(alloc: Global, version: Version, bytes: &[u8]) -> Scanned<Transaction>
-    ensures { (v : AnyVersion) → IfOk result (λ x. SpellsExtra v ignored of_transaction
-        (mode_tree x.0 ∷ token_tree (token_view x.1) ∷ []) bytes.now) }
+    ensures { IfOk result (λ x. SpellsTransaction x.0 (token_view x.1) bytes.now) }
 {
     if let Ok(mode) = mode_alone(bytes) {
         return Ok((mode, None));
     }
     if let Ok((mode, token)) = mode_and_token(bytes) {
-        let token = String::from_str(alloc, token)?;
-        return Ok((mode, Some(token)));
+        return Ok((mode, Some(String::from_str(alloc, token)?)));
     }
     let pairs = cells_of_extra(alloc, version, bytes)?;
     Ok(transaction_of(&pairs)?)

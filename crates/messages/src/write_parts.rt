@@ -1,8 +1,5 @@
 //! Parts of a message that are written of requests and of responses.
-ghost use Rattle.std.specs.Prelude.{◌≡◌, true, false, ◌∷◌, [], ◌++◌, Ok, IfOk, OnOk, ◌≤◌, ◌+◌, length, map};
-ghost use Rattle.packstream.specs.Prelude.{dict, structure, no_trees, tree_then, tree, entries as value_entries, entries_of, max_size};
-ghost use Rattle.cells.specs.Shape.{entries};
-ghost use Rattle.messages.specs.Prelude.{Answers, cell_put, named_text, of_texts, Adds, AddsCells};
+ghost use Rattle.messages.specs.Prelude.{◌≡◌, true, false, ◌∷◌, [], ◌++◌, Ok, IfOk, OnOk, ◌≤◌, ◌+◌, length, map, structure, no_trees, tree_then, tree, value_entries, max_size, Answers, cells_tree, cell_put, named_text, of_texts, Adds, AddsCells};
 
 use crate::fault::{Answer, MsgFault};
 use crate::read_parts::{Cells, FIELD_DEPTH};
@@ -25,8 +22,7 @@ pub(crate) fn push(pairs: &mut Pairs, name: &str, value: Value) -> Result<(), Al
         ≡ value_entries pairs.old.items ++ (name.now, tree value) ∷ []) }
 {
     let key = String::from_str(*pairs.allocator(), name)?;
-    pairs.push((key, value))?;
-    Ok(())
+    Ok(pairs.push((key, value))?)
 }
 
 /// A structure of one field.
@@ -51,7 +47,7 @@ pub(crate) fn texts_value(alloc: Global, tag: u8, named: &[(&str, &str)]) -> Res
 
 /// The value of a dictionary of cells.
 pub(crate) fn cells_value(alloc: Global, version: Version, cells: &Cells) -> Answer<Value>
-    ensures { Answers tree result (cell_put version (dict (entries_of (entries cells.now.items)))) }
+    ensures { Answers tree result (cell_put version (cells_tree cells.now.items)) }
 {
     let packed = write_entries(alloc, version, cells)?;
     Ok(packed.into_value())
@@ -94,8 +90,7 @@ pub(crate) fn settle(out: &mut BytesMut, adding: Output, put: Spelled) -> bool
 #[tactic(auto, using(crate::proofs::Added::formed_cells))]
 pub(crate) fn put_cells(out: &mut Output, version: Version, cells: &Cells) -> Spelled
     ensures before { out.new.before ≡ out.old.before }
-    ensures adds { OnOk result
-        (AddsCells version (dict (entries_of (entries cells.now.items))) out.old.more out.new.more) }
+    ensures adds { OnOk result (AddsCells version (cells_tree cells.now.items) out.old.more out.new.more) }
 {
     put_dict(out, version, cells.as_slice(), FIELD_DEPTH)
 }

@@ -1,8 +1,6 @@
 //! Requests, written in two ways: as a value, which also tells what is wrong, and straight into an output. What the second doesn't
 //! write goes the first, or is told as want of memory where nothing else can be wrong.
-ghost use Rattle.std.specs.Prelude.{◌≡◌, true, false, IfOk, OnOk, ◌≤◌, ◌+◌, length};
-ghost use Rattle.packstream.specs.Prelude.{int, tree, entries as value_entries, entries_of, max_size};
-ghost use Rattle.messages.specs.Prelude.{request_view, token_view, Answers, request_contents, count_tree, form_put, with_dict, transaction_put, rows_put, mode_pairs, count_number, Adds};
+ghost use Rattle.messages.specs.Prelude.{◌≡◌, true, false, IfOk, OnOk, ◌≤◌, ◌+◌, length, int, tree, value_entries, entries_seen, max_size, token_view, Answers, count_tree, form_of_request, with_dict, transaction_put, rows_put, mode_pairs, count_number, Adds};
 
 use crate::entries::is_token;
 use crate::fault::{Answer, MsgFault};
@@ -33,8 +31,7 @@ fn mode_entries(alloc: Global, mode: Mode) -> Result<Pairs, AllocError>
 /// The entries of a transaction: its mode, and its token if it has one.
 #[tactic(auto, using(packstream::proofs::Putting::tree_of_dict, crate::proofs::Fields::tree_of_text, crate::proofs::Rounds::put_alone, crate::proofs::Rounds::put_with, crate::proofs::Rounds::not_put))]
 fn transaction_entries(alloc: Global, mode: Mode, token: &Option<String>) -> Answer<Pairs>
-    ensures { Answers (λ pairs. entries_of (value_entries pairs.items)) result
-        (transaction_put mode (token_view token.now)) }
+    ensures { Answers (λ pairs. entries_seen tree pairs.items) result (transaction_put mode (token_view token.now)) }
 {
     let mut pairs = mode_entries(alloc, mode)?;
     let Some(token) = token else {
@@ -62,7 +59,7 @@ pub(crate) fn number_of(count: Count) -> Result<i64, MsgFault>
 /// The value of a request that can be too deep or too long, or its first fault. Of the others no value is made: what spells one
 /// that has no fault lacks nothing but memory.
 pub(crate) fn request_value(alloc: Global, version: Version, request: &Request) -> Answer<Value>
-    ensures { Answers tree result (form_put version (request_contents (request_view request.now))) }
+    ensures { Answers tree result (form_of_request version request.now) }
 {
     match request {
         Request::Hello { agent, auth } => match (version.hello_has_login(), auth) {
@@ -100,8 +97,7 @@ pub(crate) fn request_value(alloc: Global, version: Version, request: &Request) 
 /// A structure of a count.
 fn put_count(out: &mut Output, tag: u8, count: Count) -> Result<(), Unspelled>
     ensures before { out.new.before ≡ out.old.before }
-    ensures adds { OnOk result
-        (Adds (with_dict tag (rows_put count)) out.old.more out.new.more) }
+    ensures adds { OnOk result (Adds (with_dict tag (rows_put count)) out.old.more out.new.more) }
 {
     let Ok(number) = number_of(count) else {
         return Err(Unspelled);
@@ -109,17 +105,14 @@ fn put_count(out: &mut Output, tag: u8, count: Count) -> Result<(), Unspelled>
     put_structure(out, 1, tag)?;
     out.push(0xA1)?;
     put_text(out, "n")?;
-    put_int(out, number)?;
-    Ok(())
+    Ok(put_int(out, number)?)
 }
 
 /// Adds the one spelling that is written of a request at the version.
 #[tactic(auto, using(crate::proofs::Added::in_dict, crate::proofs::Named::hello_added, crate::proofs::Named::hello_and_login_added, crate::proofs::Named::logon_added, crate::proofs::Named::logoff_added))]
 pub(crate) fn put_request(out: &mut Output, version: Version, request: &Request) -> Spelled
     ensures before { out.new.before ≡ out.old.before }
-    ensures adds { OnOk result
-        (Adds (form_put version (request_contents (request_view request.now)))
-        out.old.more out.new.more) }
+    ensures adds { OnOk result (Adds (form_of_request version request.now) out.old.more out.new.more) }
 {
     match request {
         Request::Hello { agent, auth } => match (version.hello_has_login(), auth) {
@@ -159,9 +152,7 @@ pub(crate) fn put_request(out: &mut Output, version: Version, request: &Request)
 /// Appends the one spelling that is written of a request at the version, of at most 65,536 bytes, and says so; or appends nothing.
 #[tactic(auto, using(crate::proofs::Added::settled, crate::proofs::Added::short_by))]
 pub fn spell_request(version: Version, request: &Request, out: &mut BytesMut) -> bool
-    ensures adds { result ≡ true
-        → Adds (form_put version (request_contents (request_view request.now)))
-        out.old.items out.new.items }
+    ensures adds { result ≡ true → Adds (form_of_request version request.now) out.old.items out.new.items }
     ensures short { result ≡ true → length out.new.items ≤ length out.old.items + max_size }
     ensures other { result ≡ false → out.new.items ≡ out.old.items }
 {

@@ -1,9 +1,6 @@
 //! Responses, written in two ways: as a value, which also tells what is wrong, and straight into an output. What the second doesn't
 //! write goes the first, or is told as want of memory where nothing else can be wrong.
-ghost use Rattle.std.specs.Prelude.{◌≡◌, true, false, Ok, OnOk, ◌≤◌, ◌+◌, length};
-ghost use Rattle.packstream.specs.Prelude.{list, tree, trees_of, max_size};
-ghost use Rattle.cells.specs.Shape.{shapes};
-ghost use Rattle.messages.specs.Prelude.{response_view, Answers, response_contents, form_put, cell_put, Adds};
+ghost use Rattle.messages.specs.Prelude.{◌≡◌, true, false, OnOk, ◌≤◌, ◌+◌, length, tree, row_tree, max_size, Answers, form_of_response, cell_put, Adds};
 
 use crate::fault::{Answer, MsgFault};
 use crate::put_entries::{error_texts, put_texts};
@@ -22,7 +19,7 @@ use wire::Version;
 
 /// The value of a list of cells.
 fn row_value(alloc: Global, version: Version, row: &Vec<Cell>) -> Result<Value, MsgFault>
-    ensures { Answers tree result (cell_put version (list (trees_of (shapes row.now.items)))) }
+    ensures { Answers tree result (cell_put version (row_tree row.now.items)) }
 {
     let packed = write_members(alloc, version, row)?;
     Ok(packed.into_value())
@@ -30,8 +27,7 @@ fn row_value(alloc: Global, version: Version, row: &Vec<Cell>) -> Result<Value, 
 
 /// The value of a response, or its first fault. Of IGNORED no value is made: what spells it lacks nothing but memory.
 pub(crate) fn response_value(alloc: Global, version: Version, response: &Response) -> Answer<Value>
-    ensures { Answers tree result
-        (form_put version (response_contents (response_view response.now))) }
+    ensures { Answers tree result (form_of_response version response.now) }
 {
     match response {
         Response::Success(metadata) => {
@@ -52,9 +48,7 @@ pub(crate) fn response_value(alloc: Global, version: Version, response: &Respons
 #[tactic(auto, using(crate::proofs::Named::failure_added))]
 fn put_response(out: &mut Output, version: Version, response: &Response) -> Result<(), Unspelled>
     ensures before { out.new.before ≡ out.old.before }
-    ensures adds { OnOk result
-        (Adds (form_put version (response_contents (response_view response.now)))
-        out.old.more out.new.more) }
+    ensures adds { OnOk result (Adds (form_of_response version response.now) out.old.more out.new.more) }
 {
     match response {
         Response::Success(metadata) => {
@@ -63,8 +57,7 @@ fn put_response(out: &mut Output, version: Version, response: &Response) -> Resu
         }
         Response::Record(row) => {
             put_structure(out, 1, tags::RECORD)?;
-            put_list(out, version, row.as_slice(), FIELD_DEPTH)?;
-            Ok(())
+            Ok(put_list(out, version, row.as_slice(), FIELD_DEPTH)?)
         }
         Response::Ignored => put_plain(out, tags::IGNORED),
         Response::Failure { code, message } => {
@@ -76,9 +69,7 @@ fn put_response(out: &mut Output, version: Version, response: &Response) -> Resu
 /// Appends the one spelling that is written of a response at the version, of at most 65,536 bytes, and says so; or appends nothing.
 #[tactic(auto, using(crate::proofs::Added::settled, crate::proofs::Added::short_by))]
 pub fn spell_response(version: Version, response: &Response, out: &mut BytesMut) -> bool
-    ensures adds { result ≡ true
-        → Adds (form_put version (response_contents (response_view response.now)))
-        out.old.items out.new.items }
+    ensures adds { result ≡ true → Adds (form_of_response version response.now) out.old.items out.new.items }
     ensures short { result ≡ true → length out.new.items ≤ length out.old.items + max_size }
     ensures other { result ≡ false → out.new.items ≡ out.old.items }
 {

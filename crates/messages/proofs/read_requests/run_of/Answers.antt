@@ -1,6 +1,4 @@
-use Rattle.std.proofs.Common.{◌≡◌, ◌∙◌, ℕ, List, [], ◌∷◌, Result, Ok, ap, sym, subst}
-use Rattle.messages.proofs.Words.{Version, MsgFault, Tree, Trees, Entries, trees, trees_of}
-use Rattle.messages.specs.Prelude.{◌>>=◌, Answers, Contents, contents_of_row, contents_of_run, entries_of_dict, three_fields, field_text, RUN, text_field, cells, extra, ignored, of_transaction}
+use Rattle.messages.proofs.Words.{request_view, request_contents, ◌≡◌, ◌∙◌, ℕ, List, [], ◌∷◌, Result, Ok, ap, sym, subst, Version, MsgFault, Tree, Trees, Entries, trees, trees_of, ◌>>=◌, Answers, Contents, contents_of_row, contents_of_run, entries_of_dict, three_fields, field_text, RUN, text_field, cells, extra, ignored, of_transaction}
 use Rattle.messages.proofs.Fields.{run_row}
 use Rattle.messages.proofs.read_requests.run_of.Goals as goal
 
@@ -10,4 +8,4 @@ run_is view r v ts t u w s ps es a b d e h = subst (λ (x : Result Contents MsgF
     ∙ ap (λ q. q >>= λ x. entries_of_dict u >>= λ y. entries_of_dict w >>= λ z. contents_of_run v x u z) b ∙ ap (λ q. q >>= λ y. entries_of_dict w >>= λ z. contents_of_run v s u z) d ∙ ap (λ q. q >>= λ z. contents_of_run v s u z) e)) h
 
 pub returns : goal.returns
-returns c = run_is _ _ c.args.version (trees_of (trees c.args.fields.now)) _ _ _ _ _ _ c.in_ok-text.ensures c.in_ok-text-2.ensures c.in_ok-entries_in.ensures c.in_ok-pairs.ensures c.run_with.ensures
+returns c = run_is (λ r. request_contents (request_view r)) c.run_with.result c.args.version (trees_of (trees c.args.fields.now)) _ _ _ _ _ _ c.in_ok-text.ensures c.in_ok-text-2.ensures c.in_ok-entries_in.ensures c.in_ok-pairs.ensures c.run_with.ensures

@@ -1,6 +1,4 @@
-use Rattle.std.proofs.Common.{◌≡◌, ℕ, List, ◌++◌, Ok, append-nil, map, ap, sym, ◌∙◌, Bor}
-use Rattle.messages.proofs.Words.{at_drop_all, Tree, structure, tree_then, no_trees, value_entries, tree_of_dict}
-use Rattle.messages.specs.Prelude.{named_text, of_texts}
+use Rattle.messages.proofs.Words.{◌≡◌, ℕ, List, ◌++◌, Ok, append-nil, map, ap, sym, ◌∙◌, Bor, at_drop_all, Tree, structure, tree_then, no_trees, value_entries, tree_of_dict, named_text, of_texts}
 use Rattle.messages.proofs.write_parts.texts_value.Goals as goal
 
 pub returns : goal.returns

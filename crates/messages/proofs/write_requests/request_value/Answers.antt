@@ -1,6 +1,4 @@
-use Rattle.std.proofs.Common.{◌≡◌, ◌∙◌, rules, string_bytes}
-use Rattle.messages.proofs.Words.{structure, tree, tree_then, no_trees, Dict, Struct, Text, the_lemmas, tree_of_dict, text_of, entries}
-use Rattle.messages.specs.Prelude.{token_view}
+use Rattle.messages.proofs.Words.{◌≡◌, ◌∙◌, rules, string_bytes, structure, tree, tree_then, no_trees, Dict, Struct, Text, the_lemmas, tree_of_dict, text_of, entries, token_view}
 use Rattle.messages.proofs.Fields.{tree_of_text, run_put}
 use Rattle.messages.proofs.write_requests.request_value.Goals as goal
 
