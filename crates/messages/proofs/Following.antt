@@ -1,7 +1,5 @@
 -- What an end takes of more bytes: what it took before, and more, or nothing more.
-use Rattle.std.proofs.Common.{append-nil, ◌≡◌, ◌⊎◌, inl, inr, Option, Some, None, Result, Ok, Err, List, [], ◌∷◌, ◌++◌, refl, ap, ℕ, sym, subst, ◌∙◌, append_assoc, reverse}
-use Rattle.messages.proofs.Words.{Version, Item, Opening, Noop, Message, TooBig, Opened, at_server, items_received, at_client, items_heard, state, outputs, MsgFault, outputs-append, reverse-append, reverse-reverse}
-use Rattle.messages.specs.Prelude.{End, then_read, taken_in, taken_by, taken, Arrival, Shook, version_shaken, server_end, arrivals_of, IsLast, ArrivalsGoOn, NothingFollows, Heard, Chosen, version_chosen, client_end, heard_of, hears, HearsGoOn, arrivals, IsLastHeard, NothingMoreHeard, RequestView, ResponseView}
+use Rattle.messages.proofs.Words.{arith, append-nil, ◌≡◌, ◌⊎◌, inl, inr, Option, Some, None, Result, Ok, Err, List, [], ◌∷◌, ◌++◌, refl, ap, ℕ, ◌∙◌, append_assoc, reverse, Version, Item, Opening, Noop, Message, Opened, at_server, items_received, at_client, items_heard, state, outputs, MsgFault, outputs-append, reverse-append, reverse-reverse, End, then_read, taken_in, taken_by, taken, Arrival, server_end, IsLast, ArrivalsGoOn, NothingFollows, Heard, client_end, heard_of, HearsGoOn, arrivals, IsLastHeard, NothingMoreHeard, RequestView, ResponseView}
 
 -- Something after which nothing is read is among them.
 abbrev pub Ended : {A : Type 0} → (A → Type 0) → List A → Type 0
@@ -17,24 +15,19 @@ abbrev Grows : {A : Type 0} → (A → Type 0) → List A → List A → Type 0
 Grows {A} IsLast xs zs = (rest : List A) × (zs ≡ xs ++ rest) × (Ended IsLast xs → rest ≡ [])
 
 goes_on : {A : Type 0} (IsLast : A → Type 0) (a : A) (xs zs : List A) → (IsLast a → ⊥) → Grows IsLast xs zs → Grows IsLast (a ∷ xs) (a ∷ zs)
-goes_on {A} IsLast a xs zs n h = (h.0, ap (λ l. a ∷ l) h.1, go)
-  where
-    go : IsLast a ⊎ Ended IsLast xs → h.0 ≡ []
-    go (inl l) = absurd (n l)
-    go (inr x) = h.2 x
+goes_on IsLast a xs zs n h = grind (arith, h)
 
 -- no no-op, no message and nothing with a version is the last
 module _ (M A : Type 0) (e : End M A) (IsLast : A → Type 0) (idle : IsLast e.idle → ⊥) (message : (m : M) → IsLast (e.message m) → ⊥) (opened : (a : A) (v : Version) → e.version a ≡ Some v → IsLast a → ⊥) where
   in_more : (v : Version) (xs ys : List Item) → Grows IsLast (taken_in e v xs) (taken_in e v (xs ++ ys))
   in_more v [] ys = (taken_in e v ys, refl, λ h. absurd h)
-  in_more v (Opening bytes ∷ xs) ys = ([], refl, λ h. refl)
   in_more v (Noop ∷ xs) ys = goes_on IsLast e.idle (taken_in e v xs) (taken_in e v (xs ++ ys)) idle (in_more v xs ys)
   in_more v (Message b ∷ xs) ys = go (e.read v b) (in_more v xs ys)
     where
       go : (r : Result M MsgFault) → Grows IsLast (taken_in e v xs) (taken_in e v (xs ++ ys)) → Grows IsLast (then_read e r (taken_in e v xs)) (then_read e r (taken_in e v (xs ++ ys)))
       go (Ok m) h = goes_on IsLast (e.message m) (taken_in e v xs) (taken_in e v (xs ++ ys)) (message m) h
       go (Err f) h = ([], refl, λ x. refl)
-  in_more v (TooBig ∷ xs) ys = ([], refl, λ h. refl)
+  in_more v xs ys = ([], refl, λ h. refl)
 
   by_more : (a : A) (o : Option Version) → e.version a ≡ o → (xs ys : List Item) → Grows IsLast (a ∷ taken_by e o xs) (a ∷ taken_by e o (xs ++ ys))
   by_more a (Some v) s xs ys = goes_on IsLast a (taken_in e v xs) (taken_in e v (xs ++ ys)) (opened a v s) (in_more v xs ys)
@@ -44,45 +37,27 @@ module _ (M A : Type 0) (e : End M A) (IsLast : A → Type 0) (idle : IsLast e.i
   pub items_more : (xs ys : List Item) → Grows IsLast (taken e xs) (taken e (xs ++ ys))
   items_more [] ys = (taken e ys, refl, λ h. absurd h)
   items_more (Opening bytes ∷ xs) ys = by_more (e.opening bytes) (e.version (e.opening bytes)) refl xs ys
-  items_more (Noop ∷ xs) ys = ([], refl, λ h. refl)
-  items_more (Message b ∷ xs) ys = ([], refl, λ h. refl)
-  items_more (TooBig ∷ xs) ys = ([], refl, λ h. refl)
+  items_more xs ys = ([], refl, λ h. refl)
 
 -- after a version that is taken requests are read
-shaken_on : (a : Arrival) (v : Version) → version_shaken a ≡ Some v → IsLast a → ⊥
-shaken_on (Shook (Some w)) v e h = h
-shaken_on a v e h = cc
-
 arrive_more : (bytes more : List ℕ) → Grows IsLast (arrivals bytes) (arrivals (bytes ++ more))
-arrive_more bytes more = subst (λ xs. Grows IsLast (arrivals bytes) (arrivals_of xs)) (sym (outputs-append Opened Item at_server at_server.start bytes more))
-    (items_more RequestView Arrival server_end IsLast (λ x. x) (λ m x. x) shaken_on (items_received bytes) (outputs at_server (state at_server at_server.start bytes) more))
+arrive_more bytes more = rw (outputs-append Opened Item at_server at_server.start bytes more)
+    (items_more RequestView Arrival server_end IsLast (λ x. x) (λ m x. x) (λ a v e h. grind arith) (items_received bytes) (outputs at_server (state at_server at_server.start bytes) more))
 
 pub arrivals_go_on : ArrivalsGoOn
 arrivals_go_on bytes more = let h = arrive_more bytes more in (h.0, h.1)
 
 pub nothing_follows : NothingFollows
-nothing_follows bytes more before after last h e =
-    let g = arrive_more bytes more in
-    g.1 ∙ ap (λ r. arrivals bytes ++ r) (g.2 (subst (Ended IsLast) (sym e) (ended_at IsLast before after last h))) ∙ append-nil (arrivals bytes)
+nothing_follows bytes more before after last h e = grind (arith, arrive_more bytes more, ended_at IsLast before after last h, append-nil (arrivals bytes))
 
 -- after a version that is answered responses are read
-chosen_on : (a : Heard) (v : Version) → version_chosen a ≡ Some v → IsLastHeard a → ⊥
-chosen_on (Chosen (Some w)) v e h = h
-chosen_on a v e h = cc
-
 heard_more : (bytes more : List ℕ) → Grows IsLastHeard (heard_of (items_heard bytes)) (heard_of (items_heard (bytes ++ more)))
-heard_more bytes more = subst (λ xs. Grows IsLastHeard (heard_of (items_heard bytes)) (heard_of xs)) (sym (outputs-append Opened Item at_client at_client.start bytes more))
-    (items_more ResponseView Heard client_end IsLastHeard (λ x. x) (λ m x. x) chosen_on (items_heard bytes) (outputs at_client (state at_client at_client.start bytes) more))
+heard_more bytes more = rw (outputs-append Opened Item at_client at_client.start bytes more)
+    (items_more ResponseView Heard client_end IsLastHeard (λ x. x) (λ m x. x) (λ a v e h. grind arith) (items_heard bytes) (outputs at_client (state at_client at_client.start bytes) more))
 
 pub hears_go_on : HearsGoOn
 hears_go_on bytes more = let h = heard_more bytes more in (reverse h.0, ap reverse h.1 ∙ reverse-append (heard_of (items_heard bytes)) h.0)
 
--- the oldest first
-in_turn : (bytes : List ℕ) (newer older : List Heard) (last : Heard) → hears bytes ≡ newer ++ last ∷ older → heard_of (items_heard bytes) ≡ reverse older ++ last ∷ reverse newer
-in_turn bytes newer older last e = sym (reverse-reverse (heard_of (items_heard bytes))) ∙ ap reverse e ∙ reverse-append newer (last ∷ older)
-    ∙ ap (λ l. l ++ reverse newer) (reverse-append (last ∷ []) older) ∙ append_assoc (reverse older) (last ∷ []) (reverse newer)
-
 pub nothing_more_heard : NothingMoreHeard
-nothing_more_heard bytes more newer older last h e =
-    let g = heard_more bytes more in
-    ap reverse (g.1 ∙ ap (λ r. heard_of (items_heard bytes) ++ r) (g.2 (subst (Ended IsLastHeard) (sym (in_turn bytes newer older last e)) (ended_at IsLastHeard (reverse older) (reverse newer) last h))) ∙ append-nil (heard_of (items_heard bytes)))
+nothing_more_heard bytes more newer older last h e = grind (arith, heard_more bytes more, reverse-reverse (heard_of (items_heard bytes)), reverse-append newer (last ∷ older),
+    reverse-append (last ∷ []) older, append_assoc (reverse older) (last ∷ []) (reverse newer), ended_at IsLastHeard (reverse older) (reverse newer) last h, append-nil (heard_of (items_heard bytes)))

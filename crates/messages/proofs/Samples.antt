@@ -1,7 +1,5 @@
 -- Streams by their bytes.
-use Rattle.std.proofs.Common.{◌≡◌, [], ◌∷◌, ◌++◌, None, Some, refl}
-use Rattle.messages.proofs.Words.{marker, items_at, struct_at, form_at, layer, inner, whole_of, V51, Newest, offer_of, version_answer}
-use Rattle.messages.specs.Prelude.{Reset, Ignored, request_of, response_of, Shook, NoMagic, Idle, Asked, Unread, arrivals, Chosen, Strange, Quiet, Told, hears}
+use Rattle.messages.proofs.Words.{◌≡◌, [], ◌∷◌, ◌++◌, None, Some, refl, marker, items_at, struct_at, form_at, layer, inner, whole_of, V51, Newest, offer_of, version_answer, Reset, Ignored, request_of, response_of, Shook, NoMagic, Idle, Asked, Unread, arrivals, Chosen, Strange, Quiet, Told, hears}
 use Rattle.messages.specs.declared.fault.MsgFault.TheVariants as fault
 
 -- the offer of 5.1 and 4.4, a no-op, RESET, and half of a header
