@@ -64,11 +64,6 @@ pub one_writing_is : (v : Version) (c : Cell) → HasOneWriting v (shape c)
 one_writing_is v c = written_once v c (scan (fault_of_structure v) 0 (structures (shape c))) refl
 
 module _ (v : Version) (t : Tree) where
-  no_pack : (q : PackReason) (o : ℕ) → HasOneReading v t → ((s : Tree) → ⊥ ↔ Form v s t)
-      → ((r : Reason) (k : ℕ) → (◌≡◌ {A = Result Cell CellFault} (Err (told.Pack q o)) (Err (told.Refused r k))) ↔ IsBad v t k r) → ⊥
-  no_pack q o (inl h) cell bad = (cell h.cell).1 h.formed
-  no_pack q o (inr h) cell bad = let e = (bad h.why h.number).1 h.bad in cc
-
   -- the clauses are all
   pub reads_by : (r : Result Cell CellFault) → ((s : Tree) → UnlessMemory r (Gave r s ↔ Form v s t))
       → ((q : Reason) (k : ℕ) → UnlessMemory r ((r ≡ Err (told.Refused q k)) ↔ IsBad v t k q))
@@ -76,13 +71,10 @@ module _ (v : Version) (t : Tree) where
   reads_by (Ok c) cell bad memory = (cell (shape c)).0 refl
   reads_by (Err (told.Refused q k)) cell bad memory = (bad q k).0 refl
   reads_by (Err told.Memory) cell bad memory = memory refl
-  reads_by (Err (told.Pack q o)) cell bad memory = no_pack q o (one_reading_is v t) cell bad
+  reads_by (Err (told.Pack q o)) cell bad memory = elim (one_reading_is v t) [ inl h ↦ (cell h.cell).1 h.formed | inr h ↦ let e = (bad h.why h.number).1 h.bad in cc ]
 
 never_both : (v : Version) (s : Tree) (k : ℕ) (r : Reason) → IsWritable v s → IsUnwritable v s k r → ⊥
 never_both v s k r w u = let both : ◌≡◌ {A = Found} (Ok w.0) (Err (r, k)) = sym w.1 ∙ u in cc
-
-good_or_not : (t : Tree) (q : PackReason) (o : ℕ) → IsGood t → IsUnpacked t q o → ⊥
-good_or_not t q o good bad = bad_when t (q, o) (sym bad) good
 
 one_unpacked : (t : Tree) (q r : PackReason) (o p : ℕ) → IsUnpacked t q o → IsUnpacked t r p → ◌≡◌ {A = Result Tree CellFault} (Err (told.Pack q o)) (Err (told.Pack r p))
 one_unpacked t q r o p a b = let both : ◌≡◌ {A = Result ℕ (PackReason × ℕ)} (Err (q, o)) (Err (r, p)) = sym a ∙ b in let same : (q, o) ≡ (r, p) = cc in ap (λ (x : PackReason × ℕ). Err (told.Pack x.0 x.1)) same
@@ -93,7 +85,7 @@ module _ (v : Version) (s : Tree) where
   unpacked_of t f q o h = subst (λ x. IsUnpacked x q o) (same_form v s h.value t h.formed f) h.unpacked
 
   both_forms : (t : Tree) → HasGoodForm v s t → (q : PackReason) (o : ℕ) → HasBadForm v s q o → ⊥
-  both_forms t g q o h = good_or_not t q o g.good (unpacked_of t g.formed q o h)
+  both_forms t g q o h = bad_when t (q, o) (sym (unpacked_of t g.formed q o h)) g.good
 
   pub writes_value : (r : Result Tree CellFault) → Writes v s r → (t : Tree) → UnlessMemory r ((r ≡ Ok t) ↔ HasGoodForm v s t)
   writes_value (Ok u) w t = ((λ e. subst (λ r. Writes v s r) e w), (λ h. ap (λ x. Ok x) (same_form v s u t w.formed h.formed)))

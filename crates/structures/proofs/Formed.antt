@@ -156,18 +156,13 @@ tag_back V44 tag ts us true e h = absurd (let g : fault V44 0x49 ts ≡ None = f
 tag_back v tag ts us false e h = (refl, refl)
 tag_back v tag ts us b e h = let is = sym (eqb-true tag 0x49 e) in (is, ap (λ n. structure n us) is)
 
-passes_by : (ks : List Field) (tag : ℕ) (us : Trees) (a b d : Bool) → (count us == length ks) ≡ a → are_in_range ks us ≡ b → cond (tag == 0x50) (is_path us) true ≡ d
-    → fault_of_structure_by (Ok ks) tag us ≡ first_failed ((a, NotInVersion) ∷ (b, Range) ∷ (d, PathShape) ∷ [])
-passes_by ks tag us a b d ea eb ed = rw (ea, eb, ed) refl
-
 plain_writable : (v : Version) (tag : ℕ) (ts : Trees) → (tag == 0x46) ≡ false → fault v tag ts ≡ None → fault_of_structure v tag (typed_all ts) ≡ None
 plain_writable v tag ts n h =
     let k = row_of v tag ts h in
     let p = passed v tag ts k.0 k.1 h in
     let ranged = ranges_typed k.0 ts ∙ ap (λ c. are_in_range k.0 (cond c (to_utc ts) ts)) (sym n) ∙ p.ranged in
     ap (λ m. fault_of_structure_by (kinds v m) tag (typed_all ts)) (tag_back v tag ts ts (tag == 0x49) refl h).0 ∙ ap (λ r. fault_of_structure_by r tag (typed_all ts)) k.1
-    ∙ passes_by k.0 tag (typed_all ts) true true true (eq-eqb _ _ (count_typed ts ∙ p.counted)) ranged
-    (ap (λ x. cond (tag == 0x50) x true) (path_typed ts) ∙ p.shaped)
+    ∙ rw (eq-eqb _ _ (count_typed ts ∙ p.counted), ranged, ap (λ x. cond (tag == 0x50) x true) (path_typed ts) ∙ p.shaped) refl
 
 -- .. its local seconds, which were brought to UTC ..
 local_again : (v : Version) (ts : Trees) → fault v 0x46 ts ≡ None → (form v (typed (structure 0x46 ts)) ≡ structure 0x46 ts) × (all_fine (fault_of_structure v) (structures (structure 0x49 (to_utc (typed_all ts)))) ≡ true)
@@ -227,9 +222,7 @@ pub local_sum : (v : Version) (u n o : ℤ) → fault_of_structure v 0x49 (three
     → (neg_ℤ (pos 100000000000064800) ≤ℤ (u +ℤ o)) × ((u +ℤ o) ≤ℤ pos 100000000000064800)
 local_sum v u n o h =
     let r = (passes moment_fields 0x49 (three u n o) (moment_unwritten v (three u n o) h)).1 in
-    let a = between (neg_ℤ (pos 100000000000000000)) (pos 100000000000000000) u (and_left (in_range UtcSecond (int u)) _ r) in
-    let b = between (neg_ℤ (pos 64800)) (pos 64800) o (and_left (in_range Offset (int o)) _ (and_right (in_range Nanosecond (int n)) _ (and_right (in_range UtcSecond (int u)) _ r))) in
-    (omega (arith, ints, a.0, b.0), omega (arith, ints, a.1, b.1))
+    grind (arith, ints)
 
 its_form : (v : Version) (s t : Tree) → is_typed s ≡ true → IsWritable v s → t ≡ form v s → Form v s t
 its_form v s t k w e = subst (λ x. Form v s x) (sym e) (form_typed v s k (fine_scan (fault_of_structure v) 0 w.0 (structures s) w.1))

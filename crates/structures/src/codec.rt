@@ -42,8 +42,8 @@ pub fn read(alloc: Global, version: Version, packed: &Packed) -> Result<Cell, Ce
     read_value(alloc, version, packed.value())
 }
 
-/// A value that can be packed, or why there is none.
-type Written = Result<Packed, CellFault>;
+/// What writing answers: a good value, or the fault.
+pub type Written = Result<Packed, CellFault>;
 
 fn pack(alloc: Global, value: Value) -> Written
     ensures { Packs (tree value) result }

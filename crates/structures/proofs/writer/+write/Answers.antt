@@ -48,14 +48,12 @@ value_of-pair_values-requires t c = (search (rules, the_lemmas), sym (ap (λ (u 
 pub path_value-node_values-requires : goal.path_value-node_values-requires
 path_value-node_values-requires t c =
     let w = out-Path c.args.path.now in
-    let h = sym (ap (λ (u : Tree). all_fine (fault_of_structure c.args.scope.version) (structures u)) (path-out c.args.path.now)) ∙ c.requires in
-    (search (rules, the_lemmas), path_nodes_fine (fault_of_structure c.args.scope.version) (map node_shape w.nodes.items) (map unbound_shape w.relationships.items) w.indices.items h)
+    (search (rules, the_lemmas), path_nodes_fine (fault_of_structure c.args.scope.version) (map node_shape w.nodes.items) (map unbound_shape w.relationships.items) w.indices.items (rw (path-out c.args.path.now) at c.requires))
 
 pub path_value-unbound_values-requires : goal.path_value-unbound_values-requires
 path_value-unbound_values-requires t c =
     let w = out-Path c.args.path.now in
-    let h = sym (ap (λ (u : Tree). all_fine (fault_of_structure c.args.scope.version) (structures u)) (path-out c.args.path.now)) ∙ c.requires in
-    (search (rules, the_lemmas), path_unbounds_fine (fault_of_structure c.args.scope.version) (map node_shape w.nodes.items) (map unbound_shape w.relationships.items) w.indices.items h)
+    (search (rules, the_lemmas), path_unbounds_fine (fault_of_structure c.args.scope.version) (map node_shape w.nodes.items) (map unbound_shape w.relationships.items) w.indices.items (rw (path-out c.args.path.now) at c.requires))
 
 pub values_of-value_of-requires : goal.values_of-value_of-requires
 values_of-value_of-requires t c = (search (rules, the_lemmas), fine_member shape (fault_of_structure c.args.scope.version) c.args.members.now.items c.loop-member.member-index c.member-item.result (search rules) (search rules) c.requires)
