@@ -3,8 +3,8 @@ use Rattle.std.proofs.Common.{◌≡◌, ℕ, ℤ, ◌+ℤ◌, ◌-ℤ◌, Bool,
 use Rattle.std.proofs.lemmas.Int.{ints}
 use Rattle.std.proofs.lemmas.Bool.{not-true}
 use Rattle.std.proofs.lemmas.Bool.Decides.{nat_tests}
-use Rattle.structures.proofs.Prelude.{Tree, int, list, dict, structure, Trees, no_trees, tree_then, Entries, no_entries, entry_then, IsGood, count, Version, V44, row_in, table, Row, fields_of, kinds, scan, to_utc, fault, structures, structures_in, structures_under, first_failed, moment_fields, is_int, is_text, has_tag, each, is_kind, are_kinds, in_range, are_in_range, is_relationship, is_walk, is_path, all_fine, is_typed, are_typed, have_typed, is_row, has_count, shape, moment_tag, fault_of_structure, fault_of_structure_by, IsWritable, is_place, and_left, and_right, both_true, fine_itself, fine_within, fine_left, fine_right, scan_fine, fine_scan, fine_append, typed, typed_all, typed_under, form, form_all, form_under, moment, Form, three, Writes, Packs, Field, Nanosecond, Offset, UtcSecond, Labels, Nodes, Relationships, Indices, Reason, NotInVersion, FieldCount, FieldKind, Range, PathShape, Cell, typed_shape, fault_is, wrong_is, has_element_ids, CellFault}
-use Rattle.structures.proofs.Got.{of_local, stood, all_pass, between, of_three, passed, fine_at, row_of}
+use Rattle.structures.proofs.Prelude.{Tree, int, list, dict, structure, Trees, no_trees, tree_then, Entries, no_entries, entry_then, IsGood, count, Version, V44, row_in, table, Row, fields_of, kinds, scan, to_utc, fault, structures, structures_in, structures_under, first_failed, moment_fields, is_int, is_text, has_tag, each, is_kind, are_kinds, in_range, are_in_range, is_relationship, is_walk, is_path, all_fine, is_typed, are_typed, have_typed, is_row, has_count, shape, moment_tag, fault_of_structure, fault_of_structure_by, IsWritable, is_place, and_left, and_right, both_true, fine_itself, fine_within, fine_left, fine_right, scan_fine, fine_scan, fine_append, typed, typed_all, typed_under, form, form_all, form_under, moment, Form, three, Writes, Packs, Field, Nanosecond, Labels, Nodes, Relationships, Indices, Reason, NotInVersion, FieldCount, FieldKind, Range, PathShape, Cell, typed_shape, fault_is, wrong_is, has_element_ids, CellFault}
+use Rattle.structures.proofs.Got.{of_local, stood, all_pass, of_three, passed, fine_at, row_of}
 use Rattle.structures.specs.declared.fault.CellFault.TheVariants as told
 
 pub there_and_back : (u o : ℤ) → (u +ℤ o) -ℤ o ≡ u
