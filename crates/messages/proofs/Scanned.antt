@@ -1,5 +1,5 @@
 -- A message that is read without a value: what was read of its parts one after the other is read of it.
-use Rattle.messages.proofs.Words.{◌≡◌, ◌≤◌, ◌<◌, ℕ, ℤ, true, List, [], ◌∷◌, ◌++◌, Option, None, Ok, codes, refl, ap, sym, subst, ◌∙◌, arith, Vec, Global, append-nil, SpellsText, SpellsTree, Tree, int, text, list, dict, structure, no_trees, tree_then, Entries, no_entries, entry_then, head, canon, IsGood, depth, entries_of, trees_of, marker, AreBytes, Spells, SpellsEntries, Here, canon_spells, Version, every_version, has_logon, Cell, DictCell, ListCell, entries, shape, shapes, IsWritable, Pair, shape-Dict, shape-List, Form, form, form_all, form_under, form_of, SpellsFront, Mode, Read, Write, Count, AuthView, RequestView, ResponseView, request_contents, response_contents, Row, Name, Named, Others, ignored, refused, extra, requests, responses, HELLO, LOGON, RUN, BEGIN, PULL, DISCARD, SUCCESS, RECORD, IGNORED, FAILURE, hello, credentials, of_transaction, how_many, of_error, ◌>>=◌, Contents, contents, contents_of_number, contents_of_login, contents_of_dict, contents_of_extra, contents_of_row, contents_of_message, cell_of_field, is_token, count_tree, mode_tree, token_tree, login_trees, Logon, Run, Begin, Pull, Discard, Success, Record, Ignored, Means, Req, Resp, mode_pairs, mode_front, token_dict, SpellsEntry, SpellsExtra, SpellsNamed, SpellsDict, SpellsList}
+use Rattle.messages.proofs.Words.{◌≡◌, ◌≤◌, ◌<◌, ℕ, ℤ, true, List, [], ◌∷◌, ◌++◌, Option, None, Ok, codes, refl, ap, sym, subst, ◌∙◌, arith, Vec, Global, append-nil, SpellsText, SpellsTree, Tree, int, text, list, dict, structure, no_trees, tree_then, Entries, no_entries, entry_then, head, canon, IsGood, depth, entries_of, trees_of, marker, AreBytes, Spells, SpellsEntries, Here, canon_spells, Version, every_version, has_logon, Cell, DictCell, ListCell, entries, shape, shapes, IsWritable, Pair, shape-Dict, shape-List, Form, form, form_all, form_under, form_of, SpellsFront, Mode, Read, Write, Count, AuthView, RequestView, ResponseView, request_contents, response_contents, Row, Name, Named, Others, ignored, refused, extra, requests, responses, HELLO, LOGON, RUN, BEGIN, PULL, DISCARD, SUCCESS, RECORD, FAILURE, hello, credentials, of_transaction, how_many, of_error, ◌>>=◌, Contents, contents, contents_of_number, contents_of_login, contents_of_dict, contents_of_extra, contents_of_row, contents_of_message, cell_of_field, is_token, count_tree, mode_tree, token_tree, login_trees, Logon, Run, Begin, Pull, Discard, Success, Record, Means, Req, Resp, mode_pairs, mode_front, token_dict, SpellsEntry, SpellsExtra, SpellsNamed, SpellsDict, SpellsList}
 use Rattle.messages.proofs.Added.{plain_good, field_good, run_good, rows_good, mode_good}
 use Rattle.messages.proofs.Fields.{told_cell}
 use Rattle.messages.proofs.Kept.{extra_kept}
@@ -11,9 +11,6 @@ use Rattle.messages.proofs.Named.{token_entries, write_good, read_good}
 pub plain_means : (v : Version) (table : List Row) (s : Contents) (tag : ℕ) → tag < 256 → contents_of_message v table (structure tag no_trees) ≡ Ok s → Means v table s (0xB0 ∷ tag ∷ [])
 unfolding marker
 plain_means v table s tag small says = record { value = structure tag no_trees; good = plain_good tag small; spelled = ((omega arith, (small, tt)), ([], refl, (0xB0, refl, refl))); says = says }
-
-pub ignored_means : (v : Version) → Resp v Ignored (0xB0 ∷ 0x7E ∷ [])
-ignored_means v = plain_means v responses (contents IGNORED [] []) 0x7E (omega arith) refl
 
 -- one of one field
 field_means : (v : Version) (table : List Row) (s : Contents) (tag : ℕ) (t : Tree) (b : List ℕ) → tag < 256 → contents_of_message v table (structure tag (tree_then t no_trees)) ≡ Ok s → IsGood t → depth t ≤ 31 → Spells t b → Means v table s (0xB1 ∷ tag ∷ b)

@@ -98,7 +98,6 @@ pub(crate) fn request_of_value(alloc: Global, version: Version, value: &Value) -
 }
 
 /// A RUN behind its head.
-#[tactic(auto, using(packstream::proofs::Ranges::bytes_from_each, crate::proofs::Scanned::run_means))]
 fn scan_run(alloc: Global, version: Version, bytes: &[u8]) -> Result<Request, Unscanned>
     ensures { IfOk result (λ r. Req version (request_view r) (0xB3 ∷ run_tag ∷ bytes.now)) }
 {

@@ -56,7 +56,7 @@ fn scan_one(alloc: Global, version: Version, tag: u8, bytes: &[u8]) -> Result<Re
 }
 
 /// A response without fields.
-#[tactic(auto, using(crate::proofs::Scanned::ignored_means))]
+#[tactic(auto, using(crate::proofs::Scanned::plain_means))]
 fn scan_plain(tag: u8) -> Result<Response, Unscanned>
     ensures { (v : AnyVersion) → IfOk result (λ r. Resp v (response_view r) (0xB0 ∷ tag ∷ [])) }
 {

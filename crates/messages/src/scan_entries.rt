@@ -79,7 +79,6 @@ pub(crate) fn cells_of_extra(alloc: Global, version: Version, bytes: &[u8]) -> S
 }
 
 /// How many rows are asked for, of the last query, which may be named.
-#[tactic(auto, using(crate::proofs::Scanned::named_extra))]
 pub(crate) fn rows_in(alloc: Global, version: Version, bytes: &[u8]) -> Result<Count, Unscanned>
     ensures { IfOk result (λ c. SpellsRows c bytes.now) }
 {
