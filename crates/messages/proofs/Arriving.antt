@@ -28,8 +28,14 @@ offer_then : (start : List ℕ) (v : Version) → length start ≡ 20 → arriva
     → arrivals (take n (start ++ bytes_in_order (request_bytes v) ms)) ≡ (if nat_le (length start) n then Shook (Some v) ∷ map Asked (within (request_bytes v) (n - length start) ms) else [])
 offer_then start v long shakes ms n h =
     let same = λ (m : RequestView). sent_text (request_spelling v m) in
-    grind (arith, texts-map RequestView (request_bytes v) (item_of v) same ms, frames_fronts 20 start (map (item_of v) ms) n (omega arith) long (all_come v ms h),
-    within-map RequestView (request_bytes v) (item_of v) same (n - length start) ms, all_asked v (within (request_bytes v) (n - length start) ms) (written_within v (n - length start) ms h), shakes)
+    grind (
+      arith,
+      texts-map RequestView (request_bytes v) (item_of v) same ms,
+      frames_fronts 20 start (map (item_of v) ms) n (omega arith) long (all_come v ms h),
+      within-map RequestView (request_bytes v) (item_of v) same (n - length start) ms,
+      all_asked v (within (request_bytes v) (n - length start) ms) (written_within v (n - length start) ms h),
+      shakes,
+    )
 
 pub requests_arrive : RequestsArrive
 requests_arrive wish ms n h = offer_then (offer_of wish) (wish_version wish) (offered_length wish) (offer_shakes wish) ms n h
@@ -84,8 +90,14 @@ front_spoken v text n [] h = absurd h
 front_spoken v text n (x ∷ xs) h = grind (arith, front_spoken v text n xs)
 
 pub says_arrive : SaysArrive
-says_arrive v xs n h = grind (arith, said_text-map Heard (heard_bytes v) (item_heard v) (text_heard v) xs, said_arrives (map (item_heard v) xs) n (spoken v xs h), reverse-reverse {A = Item},
-    said_within-map Heard (heard_bytes v) (item_heard v) (text_heard v) n xs, heard_back v (within_newest_first (heard_bytes v) n xs) (front_spoken v (heard_bytes v) n xs h))
+says_arrive v xs n h = grind (
+  arith,
+  said_text-map Heard (heard_bytes v) (item_heard v) (text_heard v) xs,
+  said_arrives (map (item_heard v) xs) n (spoken v xs h),
+  reverse-reverse {A = Item},
+  said_within-map Heard (heard_bytes v) (item_heard v) (text_heard v) n xs,
+  heard_back v (within_newest_first (heard_bytes v) n xs) (front_spoken v (heard_bytes v) n xs h),
+)
 
 pub so_far_arrives : SoFarArrives
 so_far_arrives v xs n h = grind (arith, take-nil {A = ℕ} n, says_arrive v xs n)

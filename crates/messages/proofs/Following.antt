@@ -59,5 +59,13 @@ pub hears_go_on : HearsGoOn
 hears_go_on bytes more = let h = heard_more bytes more in (reverse h.0, ap reverse h.1 ∙ reverse-append (heard_of (items_heard bytes)) h.0)
 
 pub nothing_more_heard : NothingMoreHeard
-nothing_more_heard bytes more newer older last h e = grind (arith, heard_more bytes more, reverse-reverse (heard_of (items_heard bytes)), reverse-append newer (last ∷ older),
-    reverse-append (last ∷ []) older, append_assoc (reverse older) (last ∷ []) (reverse newer), ended_at IsLastHeard (reverse older) (reverse newer) last h, append-nil (heard_of (items_heard bytes)))
+nothing_more_heard bytes more newer older last h e = grind (
+  arith,
+  heard_more bytes more,
+  reverse-reverse (heard_of (items_heard bytes)),
+  reverse-append newer (last ∷ older),
+  reverse-append (last ∷ []) older,
+  append_assoc (reverse older) (last ∷ []) (reverse newer),
+  ended_at IsLastHeard (reverse older) (reverse newer) last h,
+  append-nil (heard_of (items_heard bytes)),
+)

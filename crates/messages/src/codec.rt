@@ -109,7 +109,11 @@ fn put(value: Value, out: &mut BytesMut) -> Answer<()>
 /// first of `UnknownTag`, `Extra`, `Cell`, `CellPack`, `Pack` and `Size`, unless memory ran out.
 /// What is written reads back as the request.
 #[tactic(auto, unfolding(crate::specs::Writing::request_spelling))]
-pub fn write_request(version: Version, request: &Request, out: &mut BytesMut) -> Answer<()>
+pub fn write_request(
+    version: Version,
+    request: &Request,
+    out: &mut BytesMut,
+) -> Result<(), MsgFault>
     ensures text { Appends result out.old.items out.new.items (spelling_of_request version request.now) }
     ensures read_back { OnOk result (RequestStands version (request_view request.now)) }
 {
@@ -124,7 +128,11 @@ pub fn write_request(version: Version, request: &Request, out: &mut BytesMut) ->
 /// the first of `Cell`, `CellPack`, `Pack` and `Size`, unless memory ran out.
 /// What is written reads back as the response.
 #[tactic(auto, unfolding(crate::specs::Writing::response_spelling))]
-pub fn write_response(version: Version, response: &Response, out: &mut BytesMut) -> Answer<()>
+pub fn write_response(
+    version: Version,
+    response: &Response,
+    out: &mut BytesMut,
+) -> Result<(), MsgFault>
     ensures text { Appends result out.old.items out.new.items (spelling_of_response version response.now) }
     ensures read_back { OnOk result (ResponseStands version (response_view response.now)) }
 {

@@ -80,7 +80,11 @@ fn add_request(version: Version, request: &Request, out: &mut Output) -> Result<
 }
 
 /// Puts the run of what `write_request` writes of a request behind the mark of an output, which is set; or nothing, and its fault.
-pub fn write_request_run(version: Version, request: &Request, out: &mut Output) -> Answer<()>
+pub fn write_request_run(
+    version: Version,
+    request: &Request,
+    out: &mut Output,
+) -> Result<(), MsgFault>
     ensures before { out.new.before ≡ whole out.old }
     ensures ok { OnOk result (PutsRequest version (request_view request.now) out.new.more) }
     ensures err { OnErr result (out.new.more ≡ []) }

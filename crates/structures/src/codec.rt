@@ -42,10 +42,7 @@ pub fn read(alloc: Global, version: Version, packed: &Packed) -> Result<Cell, Ce
     read_value(alloc, version, packed.value())
 }
 
-/// What writing answers: a good value, or the fault.
-pub type Written = Result<Packed, CellFault>;
-
-fn pack(alloc: Global, value: Value) -> Written
+fn pack(alloc: Global, value: Value) -> Result<Packed, CellFault>
     ensures { Packs (tree value) result }
 {
     match Packed::new_in(alloc, value) {
@@ -60,7 +57,7 @@ fn pack(alloc: Global, value: Value) -> Written
 /// Refuses the first typed cell in preorder with a fault, by its number from 0 and its first fault in this order: cell
 /// or element ids of another version (S6), number out of its range (S4), path without a node or that doesn't walk (S5).
 /// If there is none, refuses a value that is too deep or has a key twice (S8), and for want of memory (S7).
-pub fn write(alloc: Global, version: Version, cell: &Cell) -> Written
+pub fn write(alloc: Global, version: Version, cell: &Cell) -> Result<Packed, CellFault>
     // Apart from memory, it is the cell's form, if the cell has one and that is good; else the first fault of a cell, or
     // that of the form.
     ensures value { WritesForm version (shape cell.now) result }
@@ -75,7 +72,11 @@ pub fn write(alloc: Global, version: Version, cell: &Cell) -> Written
 }
 
 /// The value of a list of these cells, as `write` writes it.
-pub fn write_members(alloc: Global, version: Version, members: &Vec<Cell>) -> Written
+pub fn write_members(
+    alloc: Global,
+    version: Version,
+    members: &Vec<Cell>,
+) -> Result<Packed, CellFault>
     ensures value { WritesForm version (list (trees_of (shapes members.now.items))) result }
     ensures fault { WritesFault version (list (trees_of (shapes members.now.items))) result }
     ensures pack { WritesPackFault version (list (trees_of (shapes members.now.items))) result }
@@ -91,7 +92,11 @@ pub fn write_members(alloc: Global, version: Version, members: &Vec<Cell>) -> Wr
 }
 
 /// The value of a dictionary of these entries, as `write` writes it.
-pub fn write_entries(alloc: Global, version: Version, pairs: &Vec<(String, Cell)>) -> Written
+pub fn write_entries(
+    alloc: Global,
+    version: Version,
+    pairs: &Vec<(String, Cell)>,
+) -> Result<Packed, CellFault>
     ensures value { WritesForm version (dict (entries_of (entries pairs.now.items))) result }
     ensures fault { WritesFault version (dict (entries_of (entries pairs.now.items))) result }
     ensures pack { WritesPackFault version (dict (entries_of (entries pairs.now.items))) result }
