@@ -1,5 +1,5 @@
 -- What arrives: of a client's bytes at a server, of a server's bytes at a client, and of any bytes by the whole messages that the grammar of chunks has of them.
-use Rattle.messages.proofs.Words.{◌≡◌, ℕ, ◌-◌, Some, List, [], ◌∷◌, ◌++◌, length, take, refl, ap, ◌∙◌, arith, Option, None, append-nil, append_assoc, ◌⊎◌, if◌then◌else◌, nat_le, map, reverse, Version, V44, Wish, Only, offer_of, wish_version, version_answer, Item, Opening, item_bytes, bytes_in_order, within, AllCome, Noop, within_newest_first, Spoken, chunks, arrived, refusal, Unfinished, fresh, items_of, messages, texts-map, within-map, frames_fronts, offered_length, said_text-map, said_within-map, said_arrives, past_opening, take-nil, reverse-append, reverse-reverse, answer_length, Piece, reads_items, RequestView, request_spelling, response_spelling, Shook, Asked, arrival_of_offer, requests_in, arrivals, request_bytes, AreWritten, RequestsArrive, Heard, Chosen, Quiet, Told, heard_version, heard_in, heard_of, heard_bytes, IsSaid, IsSpoken, SaysArrive, SoFarArrives, NoVersionArrives, without_idle, requests_of, ArrivesWhole, cond_both}
+use Rattle.messages.proofs.Words.{◌≡◌, ℕ, ◌-◌, Some, List, [], ◌∷◌, ◌++◌, length, take, refl, ap, ◌∙◌, arith, Option, None, append-nil, append_assoc, ◌⊎◌, if◌then◌else◌, nat_le, map, reverse, Version, V44, Wish, Only, offer_of, wish_version, version_answer, Item, Opening, item_bytes, bytes_in_order, within, AllCome, Noop, within_newest_first, Spoken, arrived, refusal, Unfinished, fresh, items_of, messages, texts-map, within-map, frames_fronts, offered_length, said_text-map, said_within-map, said_arrives, past_opening, take-nil, reverse-append, reverse-reverse, answer_length, Piece, reads_items, RequestView, request_spelling, response_spelling, Shook, Asked, arrival_of_offer, requests_in, arrivals, request_bytes, AreWritten, RequestsArrive, Heard, Chosen, Quiet, Told, heard_version, heard_in, heard_of, heard_bytes, IsSaid, IsSpoken, SaysArrive, SoFarArrives, NoVersionArrives, without_idle, requests_of, ArrivesWhole, cond_both}
 use Rattle.messages.proofs.Sent.{request_fits, request_is, sent, sent_text, response_fits, response_is}
 
 abbrev item_of : Version → RequestView → Item

@@ -1,5 +1,5 @@
 -- The responses of a server that are neither rows nor the SUCCESS of a RUN: what they are written as, how long that is, and what it stands for.
-use Rattle.messages.proofs.Words.{◌≡◌, ◌<◌, ◌≤◌, ◌+◌, ◌^◌, ℕ, List, ◌++◌, length, false, None, Some, Ok, refl, arith, IsUtf8, decimal, length-append, IsUtf8-append, IsUtf8-from_ascii, IsAscii-decimal, length-decimal-le, IsPlain, long_head, head, int_bytes, canon, first_fault, faults_in, good_when, fits_pos, Version, Read, responses, contents_of_message, response_contents, form_put, response_spelling, Summary, Closing, response_of_summary, IsShort, room, FitsRoom, ReadsBack, is_utf8, chars, IsUtf8-from_is_utf8}
+use Rattle.messages.proofs.Words.{◌≡◌, ◌<◌, ◌≤◌, ◌^◌, ℕ, List, ◌++◌, length, false, None, Some, Ok, refl, arith, IsUtf8, decimal, length-append, IsUtf8-append, IsUtf8-from_ascii, IsAscii-decimal, length-decimal-le, IsPlain, long_head, head, int_bytes, canon, first_fault, faults_in, good_when, fits_pos, Version, Read, responses, contents_of_message, response_contents, form_put, response_spelling, Summary, Closing, response_of_summary, IsShort, room, FitsRoom, ReadsBack, is_utf8, chars, IsUtf8-from_is_utf8}
 use Rattle.messages.specs.Prelude.{form_of, HasTexts}
 use Rattle.messages.proofs.Sent.{sized_fits, means_of}
 

@@ -1,6 +1,5 @@
 -- What named entries say is the same of cells and of their form at a version: whatever is named is no structure.
-use Rattle.messages.proofs.Words.{option_map, ◌≡◌, ℕ, List, [], ◌∷◌, Option, None, Some, refl, ap, ◌&&◌, arith, Tree, structure, Entries, no_entries, entry_then, Version, form, form_under, MsgFault, Named, Others, Holds, lookup, contents_of_entry, contents_of_named, is_named, all_named, contents_of_extra}
-use Rattle.messages.specs.declared.fault.MsgFault.TheVariants as fault
+use Rattle.messages.proofs.Words.{option_map, ◌≡◌, ℕ, List, [], ◌∷◌, Option, refl, ap, ◌&&◌, arith, Tree, Entries, no_entries, entry_then, Version, form, form_under, Named, Others, Holds, lookup, contents_of_entry, contents_of_named, is_named, all_named, contents_of_extra}
 
 lookup_formed : (w : Version) (name : List ℕ) (es : Entries) → lookup name (form_under w es) ≡ option_map (form w) (lookup name es)
 lookup_formed w name no_entries = refl

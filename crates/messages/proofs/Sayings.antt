@@ -1,5 +1,5 @@
 -- What a row of the table says of a plain value is what some message holds, made of texts, of numbers in their ranges and of cells; and no value is a request and a response.
-use Rattle.messages.proofs.Words.{MatchBool, ◌≡◌, ℕ, pos, List, [], ◌∷◌, ◌++◌, Bool, true, false, ℤ, arith, Option, None, Some, IfSome, Result, Ok, Err, codes, refl, ap, subst, IsUtf8, FitsSigned, w64, Tree, text, list, dict, Trees, no_trees, tree_then, Entries, no_entries, entry_then, structure, entries_of, trees_of, AreBytes, IsPlain, ArePlain, HavePlain, Version, V51, typed_all, typed_under, Read, Write, All, Of, MsgFault, Holds, a_text, a_mode, a_count, last_query, a_token, Named, Field, text_field, cells, cell_list, extra, Name, HELLO, Row, layout, requests, responses, row_in, ◌>>=◌, Contents, contents, contents_of_message, mode_tree, token_tree, count_tree, request_contents, response_contents, Means, contents_in, request_held, response_held, pairs_of, list_of, IsEntry, further, SaysEntry, some_rows, the_token, SaysNamed, no_more, passed_over, then_named, of_text, of_cells, of_list, of_extra, SaysFields, no_fields, then_field, SaysRow, of_row, IsCell, IsRequest, IsResponse, RequestsAreMade, ResponsesAreMade}
+use Rattle.messages.proofs.Words.{MatchBool, ◌≡◌, ℕ, pos, List, [], ◌∷◌, ◌++◌, ℤ, arith, Option, None, Some, IfSome, Result, Ok, Err, codes, refl, ap, subst, IsUtf8, FitsSigned, w64, Tree, text, list, dict, Trees, no_trees, tree_then, Entries, no_entries, entry_then, structure, entries_of, trees_of, AreBytes, IsPlain, ArePlain, HavePlain, Version, V51, typed_all, typed_under, Read, Write, All, Of, MsgFault, Holds, a_text, a_mode, a_count, last_query, a_token, Named, Field, text_field, cells, cell_list, extra, Name, HELLO, Row, layout, requests, responses, row_in, ◌>>=◌, Contents, contents, contents_of_message, mode_tree, token_tree, count_tree, request_contents, response_contents, Means, contents_in, request_held, response_held, pairs_of, list_of, IsEntry, further, SaysEntry, some_rows, the_token, SaysNamed, no_more, passed_over, then_named, of_text, of_cells, of_list, of_extra, SaysFields, no_fields, then_field, SaysRow, of_row, IsCell, IsRequest, IsResponse, RequestsAreMade, ResponsesAreMade}
 use Rattle.messages.proofs.Sent.{said_means, asked_back, answered_back}
 use Rattle.messages.proofs.Layouts.{message_says, AreLaid, is_laid, requests_laid, responses_laid}
 

@@ -1,7 +1,6 @@
 -- What bytes mean, by the relations and by the functions; and what is written of a message, which is a message of the wire and is read as that message.
-use Rattle.messages.proofs.Words.{◌++◌, ◌≡◌, ◌↔◌, ℕ, List, [], ◌∷◌, Result, Ok, Err, IsErrAnd, inl, inr, sym, ap, ◌∙◌, refl, ◌<◌, ◌≤◌, length, false, arith, subst, Reason, PackFault, Tree, structure, IsGood, Spells, AreBytes, Bad, entries_of, trees_of, whole_of, PackUnless, canon, first_fault, faults_in, whole_value, whole_fault, no_proper_beginning_is, Version, MsgFault, canon_spells, Item, Opening, Message, item_bytes, Row, requests, responses, RequestView, ResponseView, of_pack, ◌>>=◌, Contents, contents_of_message, Answers, request_contents, response_contents, Means, IsNone, Gave, UnlessMemory, value_told, contents_by, contents_in, request_held, response_held, pairs_of, list_of, Req, Resp, request_of, response_of, packed_by, spelling_within, spelling_of_tree, Appends, form_put, request_spelling, response_spelling, run_of_result}
+use Rattle.messages.proofs.Words.{◌++◌, ◌≡◌, ◌↔◌, ℕ, List, [], ◌∷◌, Result, Ok, Err, IsErrAnd, inl, inr, sym, ap, ◌∙◌, refl, ◌<◌, ◌≤◌, length, false, arith, subst, Reason, PackFault, Tree, IsGood, Spells, AreBytes, Bad, entries_of, trees_of, whole_of, PackUnless, canon, first_fault, faults_in, whole_value, whole_fault, no_proper_beginning_is, Version, MsgFault, canon_spells, Item, Opening, Message, item_bytes, Row, requests, responses, RequestView, ResponseView, of_pack, ◌>>=◌, Contents, contents_of_message, Answers, request_contents, response_contents, Means, IsNone, Gave, UnlessMemory, value_told, contents_by, contents_in, request_held, response_held, pairs_of, list_of, Req, Resp, request_of, response_of, packed_by, spelling_within, spelling_of_tree, Appends, form_put, request_spelling, response_spelling, run_of_result}
 use Rattle.packstream.specs.declared.fault.PackFault.TheVariants as pack
-use Rattle.messages.specs.declared.fault.MsgFault.TheVariants as fault
 
 pub means_said : (v : Version) (table : List Row) (s : Contents) (b : List ℕ) → Means v table s b → contents_in v table b ≡ Ok s
 means_said v table s b h = grind (arith, whole_value b)
