@@ -35,7 +35,7 @@ pub(crate) fn response_of_value(alloc: Global, version: Version, value: &Value) 
 }
 
 /// A response of one field, behind its head.
-#[tactic(auto, using(crate::proofs::Scanned::record_means, crate::proofs::Scanned::list_scanned, crate::proofs::Scanned::success_means, crate::proofs::Scanned::failure_means))]
+#[tactic(auto, using(crate::proofs::Scanned::record_means, crate::proofs::Scanned::list_scanned, crate::proofs::Scanned::success_means))]
 fn scan_one(alloc: Global, version: Version, tag: u8, bytes: &[u8]) -> Result<Response, Unscanned>
     ensures { IfOk result (λ r. Resp version (response_view r) (0xB1 ∷ tag ∷ bytes.now)) }
 {
@@ -50,7 +50,10 @@ fn scan_one(alloc: Global, version: Version, tag: u8, bytes: &[u8]) -> Result<Re
             end(rest)?;
             Ok(Response::Success(metadata))
         }
-        tags::FAILURE => Ok(failure_of(&cells_of_extra(alloc, version, bytes)?)?),
+        tags::FAILURE => {
+            let pairs = cells_of_extra(alloc, version, bytes)?;
+            Ok(failure_of(&pairs)?)
+        }
         _ => Err(Unscanned),
     }
 }
