@@ -16,7 +16,6 @@ pub use Rattle.messages.specs.Summaries.{Summary, Greeting, RowsLeft, Closing, C
 pub use Rattle.messages.specs.Saying.{here, IsEntry, absent, further, SaysEntry, the_text, reads, writes, writes_unsaid, all_rows, some_rows, of_last, of_last_unsaid, the_token, token_unsaid, metadata_unsaid, SaysNamed, no_more, passed_over, then_named, HasOnly, SaysField, of_text, of_cells, of_list, of_extra, SaysFields, no_fields, then_field, SaysRow, of_row, SaysMessage, IsSpelled, ToldByRows, StandsByRows}
 pub use Rattle.messages.specs.Sound.{IsCell, IsCount, IsRequest, IsResponse, RequestsReadBack, ResponsesReadBack, RequestsAreMade, ResponsesAreMade, RequestStands, ResponseStands}
 -- And what its contracts cite of the crates below.
-pub use Rattle.std.specs.Prelude.{◌≡◌, ◌<◌, ◌≤◌, ◌+◌, [], ◌∷◌, ◌++◌, true, false, Some, Ok, Err, OnOk, OnErr, IfOk, IfErr, length, drop, map, codes, string_bytes}
 pub use Rattle.packstream.specs.Prelude.{Tree, int, text, dict, structure, no_trees, tree_then, tree, trees, trees_of, entries as value_entries, entries_of, canon, canon_entries, IsGood, Spells, max_size, whole}
 unfoldable pub use Rattle.packstream.specs.Prelude.{whole_of}
 unfoldable pub use Rattle.wire.specs.Prelude.{written_run}

@@ -1,5 +1,6 @@
 //! Messages of bytes and of values.
-ghost use Rattle.messages.specs.Prelude.{whole_of, requests, responses, request_view, response_view, Answers, Req, Resp, NoRequest, NoResponse, ReadsMessage, RefusesBytes, ReadsSpelled, RefusesSpelled, AnswersSpelled, TellsRequest, TellsResponse, value_told, contents_in, contents_of_message, request_of, response_of, OnOk, Appends, IsGood, Spells, canon, tree, spelling_of_tree, spelling_within, spelling_of_request, spelling_of_response, RequestStands, ResponseStands};
+ghost use Rattle.std.specs.Prelude.{OnOk};
+ghost use Rattle.messages.specs.Prelude.{whole_of, requests, responses, request_view, response_view, Answers, Req, Resp, NoRequest, NoResponse, ReadsMessage, RefusesBytes, ReadsSpelled, RefusesSpelled, AnswersSpelled, TellsRequest, TellsResponse, value_told, contents_in, contents_of_message, request_of, response_of, Appends, IsGood, Spells, canon, tree, spelling_of_tree, spelling_within, spelling_of_request, spelling_of_response, RequestStands, ResponseStands};
 
 use crate::fault::{Answer, MsgFault};
 use crate::read_requests::{request_of_value, scan_request};

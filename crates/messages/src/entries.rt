@@ -1,5 +1,6 @@
 //! The named entries of a dictionary, of values or of cells.
-ghost use Rattle.messages.specs.Prelude.{◌≡◌, [], ◌∷◌, Some, codes, Tree, tree, shape, text_of, Answers, TellsRequest, TellsResponse, found, entries_seen, IsKind, all_named, how_many, is_token, contents_of_text, contents_of_mode, contents_of_count, contents_of_token, contents_of_transaction, contents_of_rows, contents_of_login, contents_of_dict, mode_tree, token_tree, count_tree, transaction_trees, login_trees, hello, of_error, HELLO, FAILURE, auth_view, token_view};
+ghost use Rattle.std.specs.Prelude.{◌≡◌, [], ◌∷◌, Some, codes};
+ghost use Rattle.messages.specs.Prelude.{Tree, tree, shape, text_of, Answers, TellsRequest, TellsResponse, found, entries_seen, IsKind, all_named, how_many, is_token, contents_of_text, contents_of_mode, contents_of_count, contents_of_token, contents_of_transaction, contents_of_rows, contents_of_login, contents_of_dict, mode_tree, token_tree, count_tree, transaction_trees, login_trees, hello, of_error, HELLO, FAILURE, auth_view, token_view};
 
 use crate::MAX_TOKEN;
 use crate::fault::{Answer, MsgFault};

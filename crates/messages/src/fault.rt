@@ -1,5 +1,6 @@
 //! Why bytes are no message, or a message can't be written.
-ghost use Rattle.messages.specs.Prelude.{◌≡◌, of_pack, of_cell};
+ghost use Rattle.std.specs.Prelude.{◌≡◌};
+ghost use Rattle.messages.specs.Prelude.{of_pack, of_cell};
 ghost use Rattle.messages.specs.declared.fault.MsgFault.TheVariants.{Memory};
 
 use packstream::PackFault;

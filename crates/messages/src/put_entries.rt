@@ -1,5 +1,6 @@
 //! The named entries of a dictionary, written straight into an output.
-ghost use Rattle.messages.specs.Prelude.{◌≡◌, ◌≤◌, ◌++◌, ◌∷◌, [], Some, true, OnOk, codes, length, map, string_bytes, canon, canon_entries, entries_of, AddsEntries, is_token as token_fits, transaction_put, token_dict, named_text, of_texts, login_pairs, hello_pairs, error_pairs, auth_view, token_view};
+ghost use Rattle.std.specs.Prelude.{◌≡◌, ◌≤◌, ◌++◌, ◌∷◌, [], Some, true, OnOk, codes, length, map, string_bytes};
+ghost use Rattle.messages.specs.Prelude.{canon, canon_entries, entries_of, AddsEntries, is_token as token_fits, transaction_put, token_dict, named_text, of_texts, login_pairs, hello_pairs, error_pairs, auth_view, token_view};
 
 use crate::entries::is_token;
 use crate::request::{Auth, Mode};

@@ -1,5 +1,6 @@
 //! Parts of a message that are read of requests and of responses.
-ghost use Rattle.messages.specs.Prelude.{◌≡◌, [], ◌++◌, IfOk, OnOk, tree, shape, Answers, SpellsDict, fields_seen, entries_seen, cells_tree, row_tree, cell_of_field, entries_of_dict, only_dict, no_field, one_field, three_fields, dict_of_cells, list_of_cells};
+ghost use Rattle.std.specs.Prelude.{◌≡◌, [], ◌++◌, IfOk, OnOk};
+ghost use Rattle.messages.specs.Prelude.{tree, shape, Answers, SpellsDict, fields_seen, entries_seen, cells_tree, row_tree, cell_of_field, entries_of_dict, only_dict, no_field, one_field, three_fields, dict_of_cells, list_of_cells};
 
 use crate::fault::{Answer, MsgFault};
 use packstream::Value;

@@ -1,6 +1,7 @@
 //! Requests, read in two ways: of a value, which also tells what is wrong, and straight from the bytes. What the second doesn't
 //! read goes the first.
-ghost use Rattle.messages.specs.Prelude.{[], ◌∷◌, IfOk, tree, fields_seen, entries_seen, Answers, field_text, contents_of_run, ignored, extra, text_field, cells, of_transaction, RUN, requests, run_tag, request_view, request_contents, TellsRequest, contents_of_row, contents_at_tag, contents_of_message, contents_of_plain, Req};
+ghost use Rattle.std.specs.Prelude.{[], ◌∷◌, IfOk};
+ghost use Rattle.messages.specs.Prelude.{tree, fields_seen, entries_seen, Answers, field_text, contents_of_run, ignored, extra, text_field, cells, of_transaction, RUN, requests, run_tag, request_view, request_contents, TellsRequest, contents_of_row, contents_at_tag, contents_of_message, contents_of_plain, Req};
 
 use crate::entries::{auth_of, count_in, hello_of, transaction_of};
 use crate::fault::{Answer, MsgFault};

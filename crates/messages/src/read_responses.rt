@@ -1,6 +1,7 @@
 //! Responses, read in two ways: of a value, which also tells what is wrong, and straight from the bytes. What the second doesn't
 //! read goes the first.
-ghost use Rattle.messages.specs.Prelude.{[], ◌∷◌, IfOk, tree, responses, response_view, TellsResponse, contents_of_message, Resp};
+ghost use Rattle.std.specs.Prelude.{[], ◌∷◌, IfOk};
+ghost use Rattle.messages.specs.Prelude.{tree, responses, response_view, TellsResponse, contents_of_message, Resp};
 ghost use Rattle.wire.specs.declared.Version.{Version as AnyVersion};
 
 use crate::entries::failure_of;

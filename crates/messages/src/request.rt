@@ -1,5 +1,6 @@
 //! What a client asks.
-ghost use Rattle.messages.specs.Prelude.{◌≡◌, IfOk, entries, request_view, auth_view};
+ghost use Rattle.std.specs.Prelude.{◌≡◌, IfOk};
+ghost use Rattle.messages.specs.Prelude.{entries, request_view, auth_view};
 
 use std::alloc::AllocError;
 use std::fmt;

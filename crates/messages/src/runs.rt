@@ -1,5 +1,6 @@
 //! The written runs of messages, behind the mark of an output.
-ghost use Rattle.messages.specs.Prelude.{◌≡◌, ◌<◌, ◌≤◌, ◌∷◌, [], true, false, length, drop, OnOk, OnErr, IfErr, Err, whole, written_run, max_message, PutsRequest, request_view, Adds, form_of_request, spelling_of_request};
+ghost use Rattle.std.specs.Prelude.{◌≡◌, ◌<◌, ◌≤◌, ◌∷◌, [], true, false, length, drop, OnOk, OnErr, IfErr, Err};
+ghost use Rattle.messages.specs.Prelude.{whole, written_run, max_message, PutsRequest, request_view, Adds, form_of_request, spelling_of_request};
 
 use crate::codec::write_request;
 use crate::fault::{Answer, MsgFault};

@@ -1,6 +1,7 @@
 //! The named entries of a dictionary, the last field of a message, straight from its bytes. As a client of ours writes them they are
 //! read where they stand; other dictionaries are read as cells.
-ghost use Rattle.messages.specs.Prelude.{◌≡◌, ◌∷◌, ◌++◌, [], Some, Ok, IfOk, canon, dict, entries_of, shape, mode_pairs, mode_front, contents_of_number, count_tree, entries_seen, SpellsRows, SpellsTransaction, SpellsNamed, token_view};
+ghost use Rattle.std.specs.Prelude.{◌≡◌, ◌∷◌, ◌++◌, [], Some, Ok, IfOk};
+ghost use Rattle.messages.specs.Prelude.{canon, dict, entries_of, shape, mode_pairs, mode_front, contents_of_number, count_tree, entries_seen, SpellsRows, SpellsTransaction, SpellsNamed, token_view};
 
 use crate::entries::{Transaction, count_in, is_token, transaction_of};
 use crate::read_parts::{Cells, FIELD_DEPTH, Scanned, behind, end};

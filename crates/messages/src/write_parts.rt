@@ -1,5 +1,6 @@
 //! Parts of a message that are written of requests and of responses.
-ghost use Rattle.messages.specs.Prelude.{◌≡◌, true, false, ◌∷◌, [], ◌++◌, Ok, IfOk, OnOk, ◌≤◌, ◌+◌, length, map, structure, no_trees, tree_then, tree, value_entries, max_size, Answers, cells_tree, cell_put, named_text, of_texts, Adds, AddsCells};
+ghost use Rattle.std.specs.Prelude.{◌≡◌, true, false, ◌∷◌, [], ◌++◌, Ok, IfOk, OnOk, ◌≤◌, ◌+◌, length, map};
+ghost use Rattle.messages.specs.Prelude.{structure, no_trees, tree_then, tree, value_entries, max_size, Answers, cells_tree, cell_put, named_text, of_texts, Adds, AddsCells};
 
 use crate::fault::{Answer, MsgFault};
 use crate::read_parts::{Cells, FIELD_DEPTH};

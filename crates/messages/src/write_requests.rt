@@ -1,6 +1,7 @@
 //! Requests, written in two ways: as a value, which also tells what is wrong, and straight into an output. What the second doesn't
 //! write goes the first, or is told as want of memory where nothing else can be wrong.
-ghost use Rattle.messages.specs.Prelude.{◌≡◌, true, false, IfOk, OnOk, ◌≤◌, ◌+◌, length, int, tree, value_entries, entries_seen, max_size, token_view, Answers, count_tree, form_of_request, with_dict, transaction_put, rows_put, mode_pairs, count_number, Adds};
+ghost use Rattle.std.specs.Prelude.{◌≡◌, true, false, IfOk, OnOk, ◌≤◌, ◌+◌, length};
+ghost use Rattle.messages.specs.Prelude.{int, tree, value_entries, entries_seen, max_size, token_view, Answers, count_tree, form_of_request, with_dict, transaction_put, rows_put, mode_pairs, count_number, Adds};
 
 use crate::entries::is_token;
 use crate::fault::{Answer, MsgFault};

@@ -1,6 +1,7 @@
 //! Responses, written in two ways: as a value, which also tells what is wrong, and straight into an output. What the second doesn't
 //! write goes the first, or is told as want of memory where nothing else can be wrong.
-ghost use Rattle.messages.specs.Prelude.{◌≡◌, true, false, OnOk, ◌≤◌, ◌+◌, length, tree, row_tree, max_size, Answers, form_of_response, cell_put, Adds};
+ghost use Rattle.std.specs.Prelude.{◌≡◌, true, false, OnOk, ◌≤◌, ◌+◌, length};
+ghost use Rattle.messages.specs.Prelude.{tree, row_tree, max_size, Answers, form_of_response, cell_put, Adds};
 
 use crate::fault::{Answer, MsgFault};
 use crate::put_entries::{error_texts, put_texts};

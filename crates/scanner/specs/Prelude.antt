@@ -1,5 +1,4 @@
 -- The words that the source says: those of the crates below, and of this one.
-pub use Rattle.std.specs.Prelude.{◌≡◌, IfOk, OnOk, [], ◌∷◌, ◌++◌, string_bytes, ℕ, map, length, Some, ◌≤◌}
 pub use Rattle.packstream.specs.Prelude.{dict_at, inner, int, text, list, trees_of, layer, form_at, float, list_at, struct_at, IsGood, depth}
 pub use Rattle.cells.specs.Prelude.{entries, shape, node_shape, unbound_shape, relationship_shape, path_shape, node_tag, relationship_tag, unbound_tag, path_tag, shapes, IsWritable}
 pub use Rattle.cells.specs.Shape.{text_of, texts_of, numbers_of, element_of, elements_of}

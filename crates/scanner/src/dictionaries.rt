@@ -1,5 +1,6 @@
 //! Dictionaries at the front of bytes.
-ghost use Rattle.scanner.specs.Prelude.{◌≡◌, IfOk, OnOk, [], ◌∷◌, ◌++◌, string_bytes, dict_at, inner, int, text, entries, Takes, IsTaken, PairsTaken, PairJoins, dict_shape};
+ghost use Rattle.std.specs.Prelude.{◌≡◌, IfOk, OnOk, [], ◌∷◌, ◌++◌, string_bytes};
+ghost use Rattle.scanner.specs.Prelude.{dict_at, inner, int, text, entries, Takes, IsTaken, PairsTaken, PairJoins, dict_shape};
 
 use crate::fault::{Left, Scanned, Unscanned};
 use crate::plain::{int_in, marker_in, text_in};

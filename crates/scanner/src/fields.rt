@@ -1,5 +1,6 @@
 //! Fields of structures that hold no cells: heads, labels, indices and element ids.
-ghost use Rattle.scanner.specs.Prelude.{ℕ, IfOk, text_of, texts_of, numbers_of, element_of, elements_of, form, IsRead, AreLeft, OpensList, OpensStructure};
+ghost use Rattle.std.specs.Prelude.{ℕ, IfOk};
+ghost use Rattle.scanner.specs.Prelude.{text_of, texts_of, numbers_of, element_of, elements_of, form, IsRead, AreLeft, OpensList, OpensStructure};
 
 use crate::fault::{Scanned, Unscanned};
 use crate::plain::{int_in, marker_in, text_in};

@@ -1,5 +1,6 @@
 //! Structures, and of them nodes, relationships and paths, behind their tag.
-ghost use Rattle.scanner.specs.Prelude.{IfOk, map, list, trees_of, shape, node_shape, unbound_shape, relationship_shape, path_shape, node_tag, relationship_tag, unbound_tag, path_tag, form, IsRead, HasFields};
+ghost use Rattle.std.specs.Prelude.{IfOk, map};
+ghost use Rattle.scanner.specs.Prelude.{list, trees_of, shape, node_shape, unbound_shape, relationship_shape, path_shape, node_tag, relationship_tag, unbound_tag, path_tag, form, IsRead, HasFields};
 
 use crate::dictionaries::dict_in;
 use crate::fault::{Scanned, Unscanned};

@@ -1,5 +1,6 @@
 //! Dates, times, durations and points, behind their tag.
-ghost use Rattle.scanner.specs.Prelude.{ℕ, IfOk, shape, HasFields};
+ghost use Rattle.std.specs.Prelude.{ℕ, IfOk};
+ghost use Rattle.scanner.specs.Prelude.{shape, HasFields};
 
 use crate::fault::{Scanned, Unscanned};
 use crate::fields::string_in;

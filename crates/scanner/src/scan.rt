@@ -1,5 +1,6 @@
 //! Cells at the front of bytes.
-ghost use Rattle.scanner.specs.Prelude.{ℕ, IfOk, list_at, struct_at, inner, shape, shapes, Takes, IsTaken, CellJoins, list_shape};
+ghost use Rattle.std.specs.Prelude.{ℕ, IfOk};
+ghost use Rattle.scanner.specs.Prelude.{list_at, struct_at, inner, shape, shapes, Takes, IsTaken, CellJoins, list_shape};
 
 use crate::dictionaries::dict_of;
 use crate::fault::{Left, Scanned, Unscanned};

@@ -1,5 +1,6 @@
 //! Cells, lists, dictionaries, integers and texts at the front of a message's bytes, or of what is left of them.
-ghost use Rattle.scanner.specs.Prelude.{◌≤◌, IfOk, IsGood, depth, int, text, shape, IsWritable, form, SpellsFront, list_shape, dict_shape};
+ghost use Rattle.std.specs.Prelude.{◌≤◌, IfOk};
+ghost use Rattle.scanner.specs.Prelude.{IsGood, depth, int, text, shape, IsWritable, form, SpellsFront, list_shape, dict_shape};
 
 use crate::dictionaries::{Pairs, dict_in};
 use crate::fault::Scanned;

@@ -1,6 +1,5 @@
 -- The words that the source says: those of the crates below, and of this one.
 pub use Rattle.std.specs.Int.{w64}
-pub use Rattle.std.specs.Prelude.{◌≡◌, ◌≤◌, OnOk, length, map, IfOk, ◌<◌, ◌+◌, ◌^◌, ◌∷◌, [], ◌++◌, string_bytes, FitsSigned}
 pub use Rattle.std.specs.Str.{IsUtf8}
 pub use Rattle.byteorder.specs.Endian.{big_bytes}
 pub use Rattle.packstream.specs.Prelude.{count, int, structure, no_trees, tree_then, trees_of, head, long_head, int_bytes, text_bytes, AreBytes, canon, IsGood, depth}

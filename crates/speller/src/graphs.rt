@@ -1,5 +1,6 @@
 //! Structures: nodes, relationships and paths, and what of them is looked for first.
-ghost use Rattle.speller.specs.Prelude.{◌≡◌, ◌≤◌, OnOk, count, int, shape, text_of, element_of, elements_of, node_shape, unbound_shape, relationship_shape, path_shape, Spells, SpellsAnywhere, Puts, IsPassed, list_of};
+ghost use Rattle.std.specs.Prelude.{◌≡◌, ◌≤◌, OnOk};
+ghost use Rattle.speller.specs.Prelude.{count, int, shape, text_of, element_of, elements_of, node_shape, unbound_shape, relationship_shape, path_shape, Spells, SpellsAnywhere, Puts, IsPassed, list_of};
 
 use crate::fault::{Spelled, Unspelled};
 use crate::moments::{put_ints, put_moment};

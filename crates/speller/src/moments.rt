@@ -1,5 +1,6 @@
 //! Times, durations and points.
-ghost use Rattle.speller.specs.Prelude.{◌≤◌, length, map, int, structure, no_trees, tree_then, trees_of, shape, text_of, date_time_tag, AddsTree, Spells, SpellsAnywhere, Puts};
+ghost use Rattle.std.specs.Prelude.{◌≤◌, length, map};
+ghost use Rattle.speller.specs.Prelude.{int, structure, no_trees, tree_then, trees_of, shape, text_of, date_time_tag, AddsTree, Spells, SpellsAnywhere, Puts};
 
 use crate::fault::{Spelled, Unspelled};
 use crate::scope::Scope;

@@ -1,5 +1,6 @@
 //! How a cell is spelled.
-ghost use Rattle.speller.specs.Prelude.{IfOk, IsInner};
+ghost use Rattle.std.specs.Prelude.{IfOk};
+ghost use Rattle.speller.specs.Prelude.{IsInner};
 
 use crate::fault::{Spelled, Unspelled};
 use wire::Version;

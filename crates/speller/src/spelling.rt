@@ -1,5 +1,6 @@
 //! Cells, lists and dictionaries.
-ghost use Rattle.speller.specs.Prelude.{OnOk, shape, Spells, Puts, IsPassed, list_of, dict_of};
+ghost use Rattle.std.specs.Prelude.{OnOk};
+ghost use Rattle.speller.specs.Prelude.{shape, Spells, Puts, IsPassed, list_of, dict_of};
 
 use crate::fault::{Spelled, Unspelled};
 use crate::graphs::put_structure;

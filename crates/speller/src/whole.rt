@@ -1,5 +1,6 @@
 //! Lists and dictionaries of cells.
-ghost use Rattle.speller.specs.Prelude.{◌≡◌, ◌≤◌, ◌++◌, OnOk, canon, IsGood, depth, shape, IsWritable, form, list_of, dict_of};
+ghost use Rattle.std.specs.Prelude.{◌≡◌, ◌≤◌, ◌++◌, OnOk};
+ghost use Rattle.speller.specs.Prelude.{canon, IsGood, depth, shape, IsWritable, form, list_of, dict_of};
 
 use crate::fault::Spelled;
 use crate::scope::{Inside, Scope};
