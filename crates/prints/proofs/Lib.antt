@@ -1,4 +1,3 @@
 pub mod Escapings
-pub mod Stops
 pub mod Gets
 pub mod Spelled

@@ -5,9 +5,12 @@ use Rattle.packstream.specs.Prelude.{Tree, canon}
 use Rattle.wire.specs.declared.Version.{Version}
 use Rattle.cells.specs.Prelude.{fault, structures}
 use Rattle.cells.proofs.Fine.{fine_scan}
+use Rattle.cells.proofs.Views.{shape-List}
 use Rattle.structures.specs.Prelude.{Form, form}
 use Rattle.structures.proofs.Formed.{again}
 use Rattle.prints.specs.Telling.{spelled}
+
+pub ruleset row_cells = (shape-List)
 
 pub spelled_form : (v : Version) (cell t : Tree) → Form v cell t → spelled v cell ≡ encode_lower (canon t)
 unfolding spelled

@@ -20,7 +20,7 @@ pub fn escape(alloc: Global, text: &str) -> Result<String, AllocError>
 }
 
 /// Adds a character, escaped if it has to be.
-#[tactic(auto, using(crate::proofs::Escapings::encoded_escape))]
+#[tactic(auto, using(crate::proofs::Escapings::escape_alike))]
 fn push_shown(out: &mut String, c: char) -> Result<(), AllocError>
     ensures { OnOk result (string_bytes out.new ≡ string_bytes out.old ++ encode_utf8_all (shown c)) }
 {

@@ -2,7 +2,7 @@
 ghost use Rattle.std.specs.Prelude.{◌≡◌, IfOk, string_bytes};
 ghost use Rattle.cells.specs.Shape.{shape, shapes};
 ghost use Rattle.messages.specs.View.{response_view};
-ghost use Rattle.prints.specs.Telling.{spelled, row_line, row_text, heard_line, fault_line, failure_line};
+ghost use Rattle.prints.specs.Telling.{spelled, row_text, heard_line, failure_line};
 ghost use Rattle.prints.specs.Names.{outcome_name, phase_name};
 
 use crate::escapes::escape;
@@ -38,12 +38,14 @@ pub fn heard_line(ordinal: u64, outcome: Outcome, phase: Phase) -> ArrayString<L
 }
 
 /// `row HEX` on a line. A row that was heard at the version can be written.
+#[tactic(auto, using(crate::proofs::Spelled::row_cells))]
 pub(crate) fn row(alloc: Global, version: Version, cells: Vec<Cell>) -> Result<String, AllocError>
     ensures { IfOk result (λ t. string_bytes t ≡ row_text version (shapes cells.items)) }
 {
     let list = Cell::List(cells);
     let hex = spelled(alloc, version, &list)?;
-    row_text(alloc, hex.as_str())
+    let text = format!(in alloc; "row {hex}\n")?;
+    Ok(text)
 }
 
 /// The shortest spelling of a cell, in lower case hex.
@@ -60,13 +62,6 @@ fn spelled(alloc: Global, version: Version, cell: &Cell) -> Result<String, Alloc
     };
     let hex = hex::encode(alloc, spelling.as_slice())?;
     Ok(hex)
-}
-
-fn row_text(alloc: Global, hex: &str) -> Result<String, AllocError>
-    ensures { IfOk result (λ t. string_bytes t ≡ row_line hex.now) }
-{
-    let text = format!(in alloc; "row {hex}\n")?;
-    Ok(text)
 }
 
 /// `heard ORDINAL OUTCOME PHASE` on a line.
@@ -90,24 +85,18 @@ pub(crate) fn failure(alloc: Global, response: &Response) -> Result<Vec<u8>, All
     ensures { IfOk result (λ t. t.items ≡ failure_line (response_view response.now)) }
 {
     match response {
+        // The code and the message are a stranger's.
         Response::Failure { code, message } => {
-            failure_text(alloc, code.as_str(), message.as_str())
+            let code = escape(alloc, code.as_str())?;
+            let message = escape(alloc, message.as_str())?;
+            let mut line = Vec::new(alloc);
+            line.extend_from_slice(b"fault ")?;
+            line.extend_from_slice(code.as_bytes())?;
+            line.extend_from_slice(b" ")?;
+            line.extend_from_slice(message.as_bytes())?;
+            line.extend_from_slice(b"\n")?;
+            Ok(line)
         }
         _ => Ok(Vec::new(alloc)),
     }
-}
-
-/// The code and the message are a stranger's.
-fn failure_text(alloc: Global, code: &str, message: &str) -> Result<Vec<u8>, AllocError>
-    ensures { IfOk result (λ t. t.items ≡ fault_line code.now message.now) }
-{
-    let code = escape(alloc, code)?;
-    let message = escape(alloc, message)?;
-    let mut line = Vec::new(alloc);
-    line.extend_from_slice(b"fault ")?;
-    line.extend_from_slice(code.as_bytes())?;
-    line.extend_from_slice(b" ")?;
-    line.extend_from_slice(message.as_bytes())?;
-    line.extend_from_slice(b"\n")?;
-    Ok(line)
 }

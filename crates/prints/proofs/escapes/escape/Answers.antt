@@ -1,14 +1,11 @@
-use Rattle.std.proofs.Common.{ap, ◌∙◌, ◌++◌, sym, flat_map, encode_utf8_all}
 use Rattle.std.proofs.lemmas.List.{map-id}
 use Rattle.std.proofs.lemmas.Iterator.{YieldsList-from_chars}
 use Rattle.std.proofs.lemmas.Iterator.Consumers.{YieldsList-end}
-use Rattle.prints.specs.Prelude.{is_clean, shown}
-use Rattle.prints.proofs.Escapings.{escaped_same, escaped_clean, shown_more}
+use Rattle.prints.proofs.Escapings.{ap, ◌∙◌, sym, flat_map, encode_utf8_all, append-nil, flat_map-append, encodes-append, is_clean, shown, escaped_same, escaped_clean}
 use Rattle.prints.proofs.escapes.escape.Goals as goal
 
 pub loop-c-preserved : goal.loop-c-preserved
-loop-c-preserved c =
-    c.in_ok-push_shown.ensures ∙ ap (λ z. z ++ encode_utf8_all (shown c.in-Some.c)) c.loop-c.invariant ∙ sym (shown_more c.loop-c.yielded c.in-Some.c)
+loop-c-preserved c = rw (flat_map-append, append-nil, encodes-append, ← c.loop-c.invariant) c.in_ok-push_shown.ensures
 
 pub returns : goal.returns
 returns c =

@@ -1,5 +1,4 @@
-use Rattle.std.proofs.Common.{◌≡◌, string_bytes, flat_map, encode_utf8_all}
-use Rattle.prints.specs.Prelude.{shown}
+use Rattle.prints.proofs.Escapings.{◌≡◌, string_bytes, flat_map, encode_utf8_all, shown}
 use Rattle.prints.proofs.escapes.escape.Given as goal
 
 -- what is printed so far is what is printed of the characters so far

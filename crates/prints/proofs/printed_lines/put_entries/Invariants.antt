@@ -1,7 +1,5 @@
-use Rattle.std.proofs.Common.{take}
 use Rattle.std.specs.Io.KnownBytes.{Appends}
-use Rattle.engine.specs.Prelude.{entries_view}
-use Rattle.prints.specs.Prelude.{entries_text}
+use Rattle.prints.proofs.Gets.{take, entries_view, entries_text}
 use Rattle.prints.proofs.printed_lines.put_entries.Given as goal
 
 -- those before it are printed
