@@ -3,12 +3,10 @@ pub mod Exchanged
 pub use Exchanged.*
 
 filled_first : (n : ℕ) (l : Text) (ls : List Text) → filled_from n (l ∷ ls) ≡ if_filled n l ++ filled_from (n + 1) ls
-filled_first n [] ls = refl
-filled_first n (x ∷ xs) ls = refl
+filled_first n l ls = grind arith
 
 pub filled_one : (n : ℕ) (l : Text) → (length l ≡ 0 → ⊥) → if_filled n l ≡ (n, l) ∷ []
-filled_one n [] h = absurd (h refl)
-filled_one n (x ∷ xs) h = refl
+filled_one n l h = grind arith
 
 -- lines were done with or without a fault
 pub does_all : {fault : Option StreamFault} {start now : Streams} {all : List (ℕ × Text)} {p : Place} {c : Caller} → Talked start fault all now p
@@ -26,13 +24,8 @@ does_none {now = now} {done = done} (Broken f) e r =
 -- nothing was done, for want of memory
 pub nothing_done : (now : Streams) → Does (Some (Broken Memory)) now now []
 nothing_done now =
-    let none = moves_none {fault = Some Memory} now in
-    let sent : Puts false now.written now.written first_place.rest.unsent = record { front = ([], _, refl, Appends-nil _); all = λ e. absurd cc } in
-    let moves : Moves (Some Memory) now now (record (said [] []) { sent = first_place.rest.unsent }) =
-    record { read = none.read; sent = sent; printed = none.printed; told = none.told; source = none.source; sinks = none.sinks } in
-    let heard : HeardUpTo (Some Memory) (sent_out first_place 0) =
-    record { fed = []; unheard = []; needed = inl refl; whole = λ _. inl refl; printed = []; told = []; cut = None; cuts = inl refl; prints = prints_none } in
-    let talked = fails_first Memory now (record { out = 0; heard = heard; moves = moves; ends = λ e. absurd cc }) in
+    let moves = moves_sent (Some Memory) now now.written now.write_failed first_place.rest.unsent 0 ([], _, refl, Appends-nil _) (λ _ f. f) in
+    let talked = fails_first Memory now (record { out = 0; heard = heard_none; moves = moves; ends = λ e. absurd cc }) in
     record { done = []; lines = ([], refl); place = _; talked = talked }
 
 -- those of some lines, and others behind them that weren't looked at
@@ -57,42 +50,39 @@ module _ {start now : Streams} {script : List ℕ} {b : Conversation} (p : Progr
   pub at_end : filled_lines script ≡ p.done ++ last
   at_end = simp (append-nil, slice_split_none (λ x. x == 10) b.begun.items p.begun, filled_first b.number b.begun.items []) at (p.follow [])
 
-module _ {start now : Streams} {done : List (ℕ × Text)} {b : Caller} (s : Reaches start now done b) (q : ScriptRequestView) where
+module _ {start now : Streams} {done : List (ℕ × Text)} (b : Conversation) (s : Reaches start now done b.caller) (q : ScriptRequestView)
+    (some : length b.begun.items ≡ 0 → ⊥) {text : Text} (is : text ≡ b.begun.items) (r : request_line_of text ≡ Some q) where
   abbrev request : RequestView
   request = meant s.place.version q
 
-  module _ (n : ℕ) (l : Text) (some : length l ≡ 0 → ⊥) (r : request_line_of l ≡ Some q) {c : Caller} (printed : Option (List ℕ)) (failed : Bool) where
-    line_done : {fault : Option StreamFault} {then : Streams} {p : Place} → TalksLine fault s.place (n, l) now then p → (fault ≡ None → IsAt c p)
-        → DoesMore (option_map Broken fault) start then (done ++ if_filled n l) c
-    line_done x at = rw (filled_one n l some) (does_all (next_line _ done (n, l) now _ s.place _ s.talked x) at)
+  abbrev Line : Caller → Option StreamFault → Streams → Type 0
+  Line c fault then = DoesMore (option_map Broken fault) start then (done ++ if_filled b.number b.begun.items) c
 
-    pub submit_taken : {fault : Option StreamFault} {then : Streams} → refuses s.place.rest.knows request ≡ None → printed ≡ now.printed
+  line_done : {c : Caller} {fault : Option StreamFault} {then : Streams} {p : Place} → TalksLine fault s.place (b.number, b.begun.items) now then p
+      → (fault ≡ None → IsAt c p) → Line c fault then
+  line_done x at = rw (filled_one b.number b.begun.items some) (does_all (next_line _ done _ now _ s.place _ s.talked x) at)
+
+  module _ (printed : Option (List ℕ)) (failed : Bool) where
+    pub submit_taken : {c : Caller} {fault : Option StreamFault} {then : Streams} → refuses s.place.rest.knows request ≡ None → printed ≡ now.printed
         → StaysSound now.print_failed failed → Asks fault (submitted s.place request) (record now { printed = printed; print_failed = failed }) then c
-        → DoesMore (option_map Broken fault) start then (done ++ if_filled n l) c
+        → Line c fault then
     submit_taken e same sound a =
         let x = a.exchange in
         let before = moves_printed None now printed failed [] (rw same (Appends-nil now.printed)) (λ _. sound) in
-        line_done (answers_line q r e (record { out = x.out; heard = x.heard; moves = moves_then before x.moves; ends = x.ends })) (λ _. a.at)
+        line_done (answers_line q (rw is at r) e (record { out = x.out; heard = x.heard; moves = moves_then before x.moves; ends = x.ends })) (λ _. a.at)
 
-    pub submit_part : (fault : Option StreamFault) (why : SubmitFault) (code part : List ℕ) → refuses s.place.rest.knows request ≡ Some why
-        → refusal_code why ≡ Some code → IsPart fault (refused_line n code) part → Appends now.printed printed part
-        → ((fault ≡ Some WriteFailed → ⊥) → StaysSound now.print_failed failed) → IsAt c s.place
-        → DoesMore (option_map Broken fault) start (record now { printed = printed; print_failed = failed }) (done ++ if_filled n l) c
-    submit_part fault why code part e k some h sound at =
-        line_done (refuses_line q why code part r e k some (moves_printed fault now printed failed part h sound)) (λ _. at)
-
-    pub submit_failed : (fault : StreamFault) → Submits s.place request n now.printed printed (IsAt c) (Err fault)
-        → ((Some fault ≡ Some WriteFailed → ⊥) → StaysSound now.print_failed failed)
-        → Does (Some (Broken fault)) start (record now { printed = printed; print_failed = failed }) (done ++ if_filled n l)
-    submit_failed fault (at, inl e) sound =
-        let moves = moves_printed (Some fault) now printed failed [] (rw e (Appends-nil now.printed)) sound in
-        record { done = done; lines = (_, refl); place = s.place; talked = breaks_off fault done now _ s.place s.talked moves }
-    submit_failed fault (at, inr h) sound = let cut = h.4 in submit_part (Some fault) h.0 h.1 cut.0 h.2 h.3 (cut.1, cut.2) cut.3 sound at
-
--- the bytes before a place, the byte there, and those after it
-pub at_place : (script t : List ℕ) (i : ℕ) → i < length t → (script ++ take i t) ++ get_or t i 0 ∷ drop (i + 1) t ≡ script ++ t
-at_place script t i lt =
-    let e : take i t ++ get_or t i 0 ∷ drop (i + 1) t ≡ t = grind (arith, common_steps, lt) in append_assoc script (take i t) _ ∙ ap (λ z. script ++ z) e
+    -- it is refused, or a fault comes first
+    pub submit_over : (c : Caller) (result : Result Bool StreamFault) → (result ≡ Ok true → ⊥) → Submits s.place request b.number now.printed printed (IsAt c) result
+        → UnlessTold result WriteFailed (StaysSound now.print_failed failed) → Line c (result_err result) (record now { printed = printed; print_failed = failed })
+    submit_over c (Ok true) never h sound = absurd (never refl)
+    submit_over c (Ok false) never h sound =
+        line_done (refuses_line q h.0 h.1 _ (rw is at r) h.2 h.3 refl (moves_printed None now printed failed _ h.4 (λ _. sound))) (λ _. h.5)
+    submit_over c (Err f) never (at, inl e) sound =
+        let moves = moves_printed (Some f) now printed failed [] (rw e (Appends-nil now.printed)) (λ n. sound (λ e. n (ap Some e))) in
+        record { done = done; lines = (_, refl); place = s.place; talked = breaks_off f done now _ s.place s.talked moves }
+    submit_over c (Err f) never (at, inr h) sound =
+        let moves = moves_printed (Some f) now printed failed _ h.4.3 (λ n. sound (λ e. n (ap Some e))) in
+        line_done (refuses_line q h.0 h.1 h.4.0 (rw is at r) h.2 h.3 (h.4.1, h.4.2) moves) (λ _. at)
 
 -- the input is at its end
 pub does_last : {start now next : Streams} {script : List ℕ} {b : Conversation} (stop : Option StopReason) (c : Caller) → (p : Progress start now script b)
@@ -117,38 +107,33 @@ unless_so (Err e) f A a = λ n. a
 
 -- the summary of the request with this ordinal is among notes
 abbrev IsAnswered : ℕ → List Note → Type 0
-IsAnswered n notes = (phase : Phase) × (outcome : Outcome) × (said : ResponseView) × Contains notes (Summary n phase outcome said)
+IsAnswered n notes = (phase : Phase) × (outcome : Outcome) × (said : ResponseView) × (before : List Note) × (after : List Note)
+    × (notes ≡ before ++ Summary n phase outcome said ∷ after)
 
 -- Of requests that waited, from this ordinal on, some were answered, and the others wait.
-abbrev Answers : List RequestView → ℕ → List Note → Knows → Type 0
-Answers [] n notes k = (k.waiting ≡ []) × (k.first ≡ n)
-Answers (q ∷ qs) n notes k = ((k.waiting ≡ q ∷ qs) × (k.first ≡ n)) ⊎ (IsAnswered n notes × Answers qs (suc n) notes k)
+data Answers (k : Knows) (notes : List Note) : List RequestView → ℕ → Type 0 where
+  wait : {ws : List RequestView} {n : ℕ} → k.waiting ≡ ws → k.first ≡ n → Answers k notes ws n
+  answered : {q : RequestView} {ws : List RequestView} {n : ℕ} → IsAnswered n notes → Answers k notes ws (suc n) → Answers k notes (q ∷ ws) n
 
-answers_none : (k : Knows) (ws : List RequestView) → k.waiting ≡ ws → Answers ws k.first [] k
-answers_none k [] e = (e, refl)
-answers_none k (q ∷ qs) e = inl (e, refl)
+answers_behind : {k : Knows} {notes : List Note} {ws : List RequestView} {n : ℕ} (front : List Note) → Answers k notes ws n → Answers k (front ++ notes) ws n
+answers_behind front (wait e f) = wait e f
+answers_behind front (answered (phase, outcome, said, before, after, e) h) =
+    answered (phase, outcome, said, front ++ before, after, simp (e, append_assoc)) (answers_behind front h)
 
-answers_behind : (front : List Note) (ws : List RequestView) (n : ℕ) (notes : List Note) (k : Knows) → Answers ws n notes k → Answers ws n (front ++ notes) k
-answers_behind front [] n notes k h = h
-answers_behind front (q ∷ qs) n notes k (inl h) = inl h
-answers_behind front (q ∷ qs) n notes k (inr h) =
-    inr ((h.0.0, h.0.1, h.0.2, Contains-append_right front notes _ h.0.3), answers_behind front qs (suc n) notes k h.1)
-
-answers_step : (wish : Wish) (k : Knows) (x : Heard) (h : Hearing) (t : Tale) → Makes wish k x h → Answers h.knows.waiting h.knows.first t.notes t.knows
-    → Answers k.waiting k.first (notes_of x h ++ t.notes) t.knows
+answers_step : (wish : Wish) (k : Knows) (x : Heard) (h : Hearing) (t : Tale) → Makes wish k x h → Answers t.knows t.notes h.knows.waiting h.knows.first
+    → Answers t.knows (notes_of x h ++ t.notes) k.waiting k.first
 answers_step wish k x h t (tells_summary a s) more =
-    let told = Summary k.first s.next (outcome_of k.phase (kind_of s.first) s.verdict) a in
-    rw s.waits (inr ((_, _, _, (0, zero-lt-suc _, refl)), answers_behind (told ∷ []) s.later (suc k.first) t.notes t.knows (rw s.waits at more)))
-answers_step wish k x h t _ more = answers_behind (notes_of x h) k.waiting k.first t.notes t.knows more
+    rw s.waits (answered (_, _, _, [], t.notes, refl) (answers_behind (notes_of x h) (rw s.waits at more)))
+answers_step wish k x h t _ more = answers_behind (notes_of x h) more
 
-answers : (wish : Wish) (k : Knows) (items : List Item) → (let t = tale_of wish k items in Answers k.waiting k.first t.notes t.knows)
-answers wish k [] = answers_none k k.waiting refl
+answers : (wish : Wish) (k : Knows) (items : List Item) → (let t = tale_of wish k items in Answers t.knows t.notes k.waiting k.first)
+answers wish k [] = wait refl refl
 answers wish k (x ∷ xs) =
     let said = heard_as k.version x in
     let h = hears_item wish k said in
     let rest = tale_of wish h.knows xs in
-    cond_both k.over (record { knows = k; notes = [] }) (after_notes (notes_of said h) rest) (λ (t : Tale). Answers k.waiting k.first t.notes t.knows)
-    (λ _. answers_none k k.waiting refl) (λ _. answers_step wish k said h rest (makes wish k said) (answers wish h.knows xs))
+    cond_both k.over (record { knows = k; notes = [] }) (after_notes (notes_of said h) rest) (λ (t : Tale). Answers t.knows t.notes k.waiting k.first)
+    (λ _. wait refl refl) (λ _. answers_step wish k said h rest (makes wish k said) (answers wish h.knows xs))
 
 has_before : (line : List ℕ) {text : List ℕ} (front : List ℕ) → Has line text → Has line (front ++ text)
 has_before line front h = (front ++ h.0, h.1, simp (h.2, append_assoc))
@@ -160,34 +145,20 @@ module _ (n : ℕ) (phase : Phase) (outcome : Outcome) (said : ResponseView) whe
   abbrev line : List ℕ
   line = heard_line n (outcome_name outcome) (phase_name phase)
 
-  in_summaries : (notes : List Note) → Contains notes summary → Has line (summaries_text notes)
-  in_summaries [] i = absurd (not-suc-le-zero i.1)
-  in_summaries (x ∷ xs) (zero, lt, e) = ([], summaries_text xs, ap (λ (z : Note). summary_line z ++ summaries_text xs) e)
-  in_summaries (x ∷ xs) (suc k, lt, e) = has_before line (summary_line x) (in_summaries xs (k, le_of_suc-le-suc lt, e))
-
   -- it is printed, or told
-  has_line : {v : Version} {fault : Option StreamFault} {notes : List Note} {printed told : List ℕ} → Prints v fault notes printed told → Contains notes summary
-      → Has line printed ⊎ Has line told
-  has_line prints_none i = absurd (not-suc-le-zero i.1)
-  has_line (prints_one {printed = printed} x) (zero, lt, e) = rw e (inl ([], failure_told summary ++ printed, simp append_assoc))
-  has_line (prints_one {v = v} {n = n} x) (suc k, lt, e) =
-      ⊎_elim (λ h. inl (has_before line (explained (version_after v n) n) h)) inr (has_line x (k, le_of_suc-le-suc lt, e))
-  has_line (cut_at (unmade cells is)) (zero, lt, e) = absurd cc
-  has_line (cut_at {n = n} {rest = rest} (in_line front p)) (zero, lt, e) = inr (in_summaries (n ∷ rest) (zero, lt, e))
-  has_line (cut_at {v = v} {n = n} (behind_line fault front p)) (zero, lt, e) =
-      inl ([], front, ap (λ (z : Note). note_text (version_after v n) z ++ front) e)
-  has_line (cut_at {rest = rest} {told = told} c) (suc k, lt, e) = inr (has_before line told (in_summaries rest (k, le_of_suc-le-suc lt, e)))
+  has_line : {fault : Option StreamFault} (before : List Note) {v : Version} {printed told : List ℕ} (after : List Note)
+      → Prints v fault (before ++ summary ∷ after) printed told → Has line printed ⊎ Has line told
+  has_line [] after (prints_one {printed = printed} x) = inl ([], failure_told summary ++ printed, simp append_assoc)
+  has_line [] after (cut_at (unmade cells is)) = absurd cc
+  has_line [] after (cut_at (in_line front p)) = inr ([], summaries_text after, refl)
+  has_line [] after (cut_at (behind_line fault front p)) = inl ([], front, refl)
+  has_line (x ∷ xs) after (prints_one {v = v} y) = ⊎_elim (λ h. inl (has_before line (explained (version_after v x) x) h)) inr (has_line xs after y)
+  has_line (x ∷ xs) after (cut_at {told = told} c) =
+      inr (has_before line told (summaries_text xs, summaries_text after, flat_map-append summary_line xs (summary ∷ after)))
 
 -- one that waits is lost, unless nothing but a GOODBYE does
-lost_by : (over none goodbye : Bool) (ls : List (ℕ × Outcome)) → (goodbye ≡ true)
-    ⊎ (let awaits = cond over false (cond none true (not goodbye || false)) in cond (not awaits && not over) [] (cond (not awaits && false) [] ls) ≡ ls)
-lost_by over none true ls = inl refl
-lost_by true none false ls = inr refl
-lost_by false true false ls = inr refl
-lost_by false false false ls = inr refl
-
 lost_one : (k : Knows) (q : RequestView) → k.waiting ≡ q ∷ [] → (is_goodbye (kind_of q) ≡ true) ⊎ (lost_of k ≡ losses k)
-lost_one k q waits = rw waits (lost_by k.over (is_none k.version) (is_goodbye (kind_of q)) _)
+lost_one k q waits = grind arith
 
 -- nothing waits, and so many were answered
 abbrev NoneWaits : ℕ → Knows → Type 0
@@ -201,7 +172,7 @@ module _ {fault : Option StreamFault} {p : Place} {a b : Streams} (x : Exchanges
   then = (parted x.heard).rest
 
   sent_all : fault ≡ None → then.unsent ≡ []
-  sent_all e = cond_both (all_answered heard.knows) heard (after_drop heard) (λ (r : Rest). r.unsent ≡ []) (λ _. (x.ends e).0) (λ _. (x.ends e).0)
+  sent_all e = grind (arith, x.ends e)
 
   -- a client that goes on had all answered
   goes_on : then.knows.over ≡ false → (then.knows ≡ heard.knows) × (all_answered heard.knows ≡ true)
@@ -209,35 +180,37 @@ module _ {fault : Option StreamFault} {p : Place} {a b : Streams} (x : Exchanges
       (λ (r : Rest). r.knows.over ≡ false → (r.knows ≡ heard.knows) × (all_answered heard.knows ≡ true)) (λ e o. (refl, e)) (λ e o. absurd (true≢false o))
 
   -- what was heard of those that waited
-  so_answered : (ws : List RequestView) (n : ℕ) → p.rest.knows.waiting ≡ ws → p.rest.knows.first ≡ n
-      → Answers ws n (hears_all p.rest x.heard.fed).notes heard.knows
+  abbrev Answered : List RequestView → ℕ → Type 0
+  Answered = Answers heard.knows (hears_all p.rest x.heard.fed).notes
+
+  so_answered : (ws : List RequestView) (n : ℕ) → p.rest.knows.waiting ≡ ws → p.rest.knows.first ≡ n → Answered ws n
   so_answered ws n e f = rw (← f, ← e) (answers p.rest.wish p.rest.knows (outputs at_client p.rest.item x.heard.fed))
+
+  none_waited : {n : ℕ} → Answered [] n → then.knows.over ≡ false → NoneWaits n then.knows
+  none_waited {n = n} (wait e f) o = subst (NoneWaits n) (sym (goes_on o).0) (e, f)
 
   module _ (q : RequestView) (n : ℕ) where
     abbrev Fated : ℕ → Type 0
     Fated m = HasFate m q x.heard.printed (x.heard.told ++ parting fault heard.knows)
 
-    no_answer : heard.knows.waiting ≡ q ∷ [] → Fated heard.knows.first
+    no_answer : heard.knows.waiting ≡ q ∷ [] → Fated (heard.knows.first + 0)
     no_answer e =
         let k = heard.knows in
         let v = unwrap_or k.version V51 in
         let o = lost_outcome v k 0 in
-        let first : k.first + 0 ≡ k.first = omega arith in
-        let lost : lost_of k ≡ losses k → Has (lost_line (k.first, o)) (losses_text (lost_of k) ++ why_text fault k) =
-        λ l. rw (l ∙ ap (losses_from v k 0) e ∙ ap (λ (m : ℕ). (m, o) ∷ []) first) ([], why_text fault k, simp append_assoc) in
-        ⊎_elim unanswered (λ l. at_loss o (has_before (lost_line (k.first, o)) x.heard.told (lost l))) (lost_one k q e)
-
-    an_answer : IsAnswered n (hears_all p.rest x.heard.fed).notes → Fated n
-    an_answer (phase, outcome, said, i) =
-        ⊎_elim (on_output phase outcome) (λ h. on_errors phase outcome (h.0, h.1 ++ parting fault heard.knows, simp (h.2, append_assoc)))
-        (has_line n phase outcome said x.heard.prints i)
+        let lost : lost_of k ≡ losses k → Has (lost_line (k.first + 0, o)) (losses_text (lost_of k) ++ why_text fault k) =
+        λ l. rw (l ∙ ap (losses_from v k 0) e) ([], why_text fault k, simp append_assoc) in
+        ⊎_elim unanswered (λ l. at_loss o (has_before (lost_line (k.first + 0, o)) x.heard.told (lost l))) (lost_one k q e)
 
     -- its summary came, or none, and where the client stands then
-    one_exchange : p.rest.knows.waiting ≡ q ∷ [] → p.rest.knows.first ≡ n → Fated n × (then.knows.over ≡ false → NoneWaits (suc n) then.knows)
-    one_exchange e f =
-        let waits = λ (w : heard.knows.waiting ≡ q ∷ []). unanswered_waits heard.knows (rw w (omega arith)) in
-        ⊎_elim (λ h. (subst Fated h.1 (no_answer h.0), λ o. absurd (true≢false (sym (goes_on o).1 ∙ waits h.0))))
-        (λ h. (an_answer h.0, λ o. subst (NoneWaits (suc n)) (sym (goes_on o).0) h.1)) (so_answered (q ∷ []) n e f)
+    one_exchange : Answered (q ∷ []) n → Fated n × (then.knows.over ≡ false → NoneWaits (suc n) then.knows)
+    one_exchange (wait e f) =
+        (subst Fated (omega arith) (no_answer e), λ o. absurd (true≢false (sym (goes_on o).1 ∙ unanswered_waits heard.knows (rw e (omega arith)))))
+    one_exchange (answered (phase, outcome, said, before, after, e) h) = (
+      ⊎_elim (on_output phase outcome) (λ h. on_errors phase outcome (h.0, h.1 ++ parting fault heard.knows, simp (h.2, append_assoc)))
+          (has_line n phase outcome said before after (rw e at x.heard.prints)),
+      none_waited h,
+    )
 
 -- what the streams got of it, and what became of its requests
 pub record SoFar (fault : Option StreamFault) (start now : Streams) (p : Place) : Type 0 where
@@ -258,8 +231,7 @@ more_said part told so m =
 first_so_far : {fault : Option StreamFault} {a b : Streams} (x : Exchanges fault first_place a b) → SoFar fault a b (parted x.heard)
 first_so_far x =
     let lines = other_text x.heard.printed (parting_log [] x.heard).told no_request in
-    let next = λ (o : (then x).knows.over ≡ false). subst (NoneWaits 0) (sym (goes_on x o).0) (so_answered x [] 0 refl refl) in
-    record { log = _; moves = x.moves; requests = 0; lines = lines; next = λ _. next; unsent = sent_all x }
+    record { log = _; moves = x.moves; requests = 0; lines = lines; next = λ _. none_waited x (so_answered x [] 0 refl refl); unsent = sent_all x }
 
 pub so_far : {start : Streams} {fault : Option StreamFault} {now : Streams} {ls : List (ℕ × Text)} {p : Place} → Talked start fault ls now p
     → SoFar fault start now p
@@ -271,7 +243,7 @@ so_far (next_line fault ls l mid now p r h (answers_line q e d x)) =
     let asked = meant p.version q in
     let known = p.rest.knows.version in
     let w = so.next refl (accepted_facts p.rest.knows asked d).0 in
-    let did = one_exchange x asked so.requests (ap (λ (ws : List RequestView). ws ++ asked ∷ []) w.0) w.1 in
+    let did = one_exchange x asked so.requests (so_answered x _ _ (ap (λ (ws : List RequestView). ws ++ asked ∷ []) w.0) w.1) in
     let l = parting_log (submitted p asked).rest.unsent x.heard in
     let all = and_then so.log l in
     let Each = λ (z : List ℕ). EachHasALine (suc so.requests) (so.log.sent ++ (z ++ asking_bytes known asked)) all.printed all.told in
@@ -282,13 +254,7 @@ so_far (breaks_off fault ls mid now p h m) = more_said [] [] (so_far h) m
 -- and what is told behind it
 pub accounts : {fault : Option StreamFault} {start mid : Streams} {p : Place} (told : Option (List ℕ)) (deaf : Bool) (text : List ℕ) → SoFar fault start mid p
     → Gets mid.deaf deaf mid.told told text → Accounts start (record mid { told = told; deaf = deaf })
-accounts {fault = fault} {start = start} {mid = mid} told deaf text so h = record {
-  requests = so.requests;
-  sent = so.log.sent;
-  printed = so.log.printed ++ [];
-  told = so.log.told ++ text;
-  put = so.moves.sent.front;
-  output = rw append-nil so.moves.printed;
-  errors = gets_then start.deaf mid.deaf deaf start.told mid.told told so.log.told text so.moves.told h;
-  lines = other_text [] text so.lines;
-}
+accounts told deaf text so h =
+    let m = moves_told told deaf text so.moves h in
+    let lines = rw append-nil at (other_text [] text so.lines) in
+    record { requests = so.requests; sent = _; printed = _; told = _; put = m.sent.front; output = m.printed; errors = m.told; lines = lines }

@@ -1,6 +1,7 @@
 -- What the parts of a shell do, with or without a fault, and how a shell ends.
-use Rattle.std.specs.Prelude.{◌≡◌, ◌⊎◌, ℕ, Bool, true, false, if◌then◌else◌, List, [], ◌∷◌, ◌++◌, ◌==◌, drop, Option, Some, None, IfSome, Result, Ok, Err}
+use Rattle.std.specs.Prelude.{◌≡◌, ◌⊎◌, ℕ, Bool, true, false, if◌then◌else◌, List, [], ◌∷◌, ◌++◌, ◌==◌, drop, Option, Some, None, IfSome, IfOk, Result, Ok, Err}
 use Rattle.std.specs.List.{All}
+use Rattle.std.specs.Result.{result_err}
 use Rattle.std.specs.Io.KnownBytes.{Appends, Consumes, IsAtEnd}
 use Rattle.wire.specs.declared.Version.{Version}
 use Rattle.messages.specs.View.{RequestView}
@@ -12,7 +13,7 @@ use Rattle.streams.specs.declared.fault.StreamFault.TheVariants.{WriteFailed}
 use Rattle.streams.specs.Failing.{StaysSound}
 use Rattle.streams.specs.Fronts.{AppendsFront}
 use Rattle.streams.specs.Reading.{LetsRead}
-use Rattle.asks.specs.Asking.{IsTurn, ReadsOn}
+use Rattle.asks.specs.Asking.{IsTurn}
 use Rattle.scripts.specs.Views.{Text}
 use Rattle.scripts.specs.Words.{is_empty}
 use Rattle.scripts.specs.Script.{lines, filled_from, filled_lines}
@@ -66,33 +67,24 @@ pub record PutsNotes (v : Version) (notes : List Note) (fault : Option StreamFau
   pub sound : (fault ≡ Some WriteFailed → ⊥) → StaysSound before.print_failed after.print_failed
   pub got : Gets before.deaf after.deaf before.told after.told told
 
--- What waited to be sent was written; bytes were read, and fed but for those behind the client's end; and what they tell was printed.
-pub record HearsOn (p : Place) (before after : Streams) (c : Caller) : Type 0 where
-  pub out : ℕ
-  pub sent : Appends before.written after.written p.rest.unsent × (drop out p.rest.unsent ≡ [])
-  pub notes : List Note
-  pub reads : ReadsOn (taken_out p.rest out) before.left after.left [] notes (Fits c.client)
-  pub puts : PutsNotes p.version notes None (sinks_of before) (sinks_of after)
-  pub version : c.version ≡ versions_after p.version notes
-  pub source : StaysSound before.read_failed after.read_failed
-  pub sink : StaysSound before.write_failed after.write_failed
-
--- What waited to be sent, or some of it, was written; then bytes were read, fed and printed until no answer was still to come, the input had
--- ended, or a fault came.
-pub record Converses (fault : Option StreamFault) (p : Place) (before after : Streams) (c : Caller)
+-- What waited to be sent, or some of it, was written; then bytes were read, fed and printed, up to a fault.
+pub record Hears (fault : Option StreamFault) (p : Place) (before after : Streams) (c : Caller)
     : Type 0 where
   pub out : ℕ
   pub heard : HeardUpTo fault (sent_out p out)
   pub moves : Moves fault before after (heard_log p.rest.unsent heard)
   pub at : IsAt c (heard_place heard)
-  pub ends : fault ≡ None → (drop out p.rest.unsent ≡ [])
-      × (IsAtEnd after.left ⊎ (awaits (heard_place heard).rest.knows ≡ false))
+  pub all : fault ≡ None → drop out p.rest.unsent ≡ []
 
--- a piece more was heard; or there was none, or a fault came, and that is all
+-- a piece more was heard; or there was none, and the input has ended; or a fault came
 abbrev pub HearsMore : Place → Streams → Streams → Caller → Result Bool StreamFault → Type 0
-HearsMore p before after c (Ok true) = HearsOn p before after c
-HearsMore p before after c (Ok false) = Converses None p before after c
-HearsMore p before after c (Err fault) = Converses (Some fault) p before after c
+HearsMore p before after c result = Hears (result_err result) p before after c
+    × IfOk result (λ some. some ≡ false → IsAtEnd after.left)
+
+-- the same until no answer was still to come, the input had ended, or a fault came
+abbrev pub Converses : Option StreamFault → Place → Streams → Streams → Caller → Type 0
+Converses fault p before after c = (x : Hears fault p before after c)
+    × (fault ≡ None → IsAtEnd after.left ⊎ (awaits (heard_place x.heard).rest.knows ≡ false))
 
 -- An exchange was made, up to a fault.
 pub record Asks (fault : Option StreamFault) (p : Place) (before after : Streams) (c : Caller)

@@ -1,5 +1,5 @@
 //! A client asks its server for the answers that it waits for, and prints them as they come.
-ghost use Rattle.std.specs.Prelude.{◌≡◌, ◌<◌, ◌++◌, ◌∷◌, [], List, true, map, IfOk, IsErrOf};
+ghost use Rattle.std.specs.Prelude.{◌≡◌, ◌<◌, ◌++◌, ◌∷◌, [], List, None, true, map, IfOk, IsErrOf};
 ghost use Rattle.std.specs.Io.KnownBytes.{Appends};
 ghost use Rattle.std.specs.Result.{result_err};
 ghost use Rattle.client.specs.Fits.{Fits, rest_of};
@@ -12,7 +12,7 @@ ghost use Rattle.prints.specs.Stopping.{Gets};
 ghost use Rattle.shells.specs.Streams.{Streams};
 ghost use Rattle.shells.specs.Talking.{FailsToPut, IsAt, Place, ending, parting};
 ghost use Rattle.shells.specs.Printing.{version_after, versions_after};
-ghost use Rattle.shells.specs.Shelling.{Asks, Converses, HearsMore, HearsOn, LetsAsk, PutsNotes, Sinks, sinks_by};
+ghost use Rattle.shells.specs.Shelling.{Asks, Converses, Hears, HearsMore, LetsAsk, PutsNotes, Sinks, sinks_by};
 
 use crate::caller::Caller;
 use crate::errors::{put_losses, put_unprinted};
@@ -115,7 +115,7 @@ impl Caller {
         requires turn { LetsRead S.may_read (λ s taken.
             Appends streams.old.at.written taken [] × (S.left s ≡ streams.old.at.left)) }
         requires waits { awaits (rest_of self.old.client).knows ≡ true }
-        ensures hears { (p : Place) (start : Streams) → HearsOn p start streams.old.at self.old
+        ensures hears { (p : Place) (start : Streams) → Hears None p start streams.old.at self.old
             → HearsMore p start streams.new.at self.new result }
         ensures read { IsErrOf result StreamFault.ReadFailed → streams.new.at.read_failed ≡ true }
         ensures written { IsErrOf result StreamFault.WriteFailed → FailsToPut streams.new.at }

@@ -16,9 +16,19 @@ moves_none a =
 pub moves_printed : (fault : Option StreamFault) (a : Streams) (printed : Option (List ℕ)) (failed : Bool) (text : List ℕ) → Appends a.printed printed text
     → ((fault ≡ Some WriteFailed → ⊥) → StaysSound a.print_failed failed)
     → Moves fault a (record a { printed = printed; print_failed = failed }) (said text [])
-moves_printed fault a printed failed text h sound =
-    let none = moves_none {fault = fault} a in
-    record { read = none.read; sent = none.sent; printed = h; told = none.told; source = none.source; sinks = λ n. (λ f. f, sound n) }
+moves_printed fault a printed failed text h sound = search (moves_none {fault = fault} a)
+
+-- what waits is written, or some of it
+pub moves_sent : (fault : Option StreamFault) (a : Streams) (now : Option (List ℕ)) (failed : Bool) (bytes : List ℕ) (out : ℕ)
+    → Writes bytes out fault a.written now → ((fault ≡ Some WriteFailed → ⊥) → StaysSound a.write_failed failed)
+    → Moves fault a (record a { written = now; write_failed = failed }) (record (said [] []) { sent = bytes })
+moves_sent fault a now failed bytes out w sound = search (moves_none {fault = fault} a, puts fault w)
+  where
+    puts : (f : Option StreamFault) → Writes bytes out f a.written now → Puts (is_printed f) a.written now bytes
+    puts (Some Memory) w = record { front = w; all = λ e. absurd cc }
+    puts (Some WriteFailed) w = record { front = w.0; all = λ e. absurd cc }
+    puts (Some ReadFailed) w = puts_whole true _ _ _ w.0
+    puts None w = puts_whole true _ _ _ w.0
 
 -- one log after another
 abbrev pub and_then : Log → Log → Log
@@ -37,9 +47,7 @@ moves_then {a = a} {b = b} {c = c} h k = record {
 -- more is told behind
 pub moves_told : {fault : Option StreamFault} {a b : Streams} {l : Log} (told : Option (List ℕ)) (deaf : Bool) (text : List ℕ) → Moves fault a b l
     → Gets b.deaf deaf b.told told text → Moves fault a (record b { told = told; deaf = deaf }) (record l { told = l.told ++ text })
-moves_told {a = a} {b = b} {l = l} told deaf text h k =
-    let all = gets_then a.deaf b.deaf deaf a.told b.told told l.told text h.told k in
-    record { read = h.read; sent = h.sent; printed = h.printed; told = all; source = h.source; sinks = h.sinks }
+moves_told {a = a} {b = b} {l = l} told deaf text h k = search (h, gets_then a.deaf b.deaf deaf a.told b.told told l.told text h.told k)
 
 prints_then : {v : Version} {ns ms : List Note} {fault : Option StreamFault} {p q t u : List ℕ} → Prints v None ns p t
     → Prints (versions_after v ns) fault ms q u → Prints v fault (ns ++ ms) (p ++ q) (t ++ u)
@@ -53,6 +61,20 @@ prints_told n (prints_one x) = prints_one (prints_told n x)
 prints_told n (cut_at {rest = rest} {told = told} c) =
     let e : summaries_text (rest ++ n ∷ []) ≡ summaries_text rest ++ summary_line n = simp (flat_map-append, append-nil) in
     rw (append_assoc told (summaries_text rest) (summary_line n), ← e) (cut_at c)
+
+pub versions_more : (v : Version) (ns ms : List Note) → versions_after v (ns ++ ms) ≡ versions_after (versions_after v ns) ms
+versions_more v [] ms = refl
+versions_more v (n ∷ ns) ms = versions_more (version_after v n) ns ms
+
+pub texts_more : (text : Version → Note → List ℕ) (v : Version) (ns ms : List Note)
+    → texts_of text v (ns ++ ms) ≡ texts_of text v ns ++ texts_of text (versions_after v ns) ms
+texts_more text v [] ms = refl
+texts_more text v (n ∷ ns) ms = simp (texts_more text (version_after v n) ns ms, append_assoc)
+
+-- one piece after another
+pub place_more : (p : Place) (a b : List ℕ) → place_after p (a ++ b) ≡ place_after (place_after p a) b
+place_more p a b =
+    rw (hears_all-append p.rest a b, state-append Opened Item at_client p.rest.item a b, versions_more p.version (hears_all p.rest a).notes (hears_all (after_all p.rest a) b).notes) refl
 
 module _ {v : Version} {ns : List Note} {a b c : Sinks} where
   pub notes_then : {ms : List Note} {fault : Option StreamFault} → PutsNotes v ns None a b → PutsNotes (versions_after v ns) ms fault b c
@@ -90,15 +112,16 @@ module _ {v : Version} {n : Note} {a : Sinks} where
   note_line text line mid (Err Memory) h k s same front none = cut none (Appends-trans _ mid _ text [] h (rw k (Appends-nil mid))) s (gets_none _ _)
   note_line text line mid (Err ReadFailed) h k s same front none = absurd k
 
--- a piece tells what is told behind earlier notes, and less of it may be fed
-piece_more : {r : Rest} {left now : Option (List ℕ)} {new : List Note} {whole so : Bool} {Now : Rest → Type 0} (notes : List Note) → (so ≡ true → whole ≡ true)
-    → ReadsPiece r left now [] new whole Now → ReadsPiece r left now notes (notes ++ new) so Now
-piece_more {r = r} {new = new} {so = so} {Now = Now} notes e h =
-    let f = h.feeds in
-    let told = ap (λ (z : List Note). notes ++ z) f.told in
-    let feeds : FeedsPiece r h.piece notes (notes ++ new) so Now =
-    record { fed = f.fed; unheard = f.unheard; parts = f.parts; told = told; now = f.now; ends = λ t. f.ends (e t) } in
-    record { piece = h.piece; input = h.input; short = h.short; feeds = feeds }
+-- nothing is heard
+abbrev pub heard_none : {fault : Option StreamFault} {p : Place} → HeardUpTo fault p
+heard_none = record { fed = []; unheard = []; needed = inl refl; whole = λ _. inl refl; printed = []; told = []; cut = None; cuts = inl refl; prints = prints_none }
+
+pub written : {p : Place} {a : Streams} {k : Caller} (fault : Option StreamFault) (now : Option (List ℕ)) (failed : Bool)
+    → PutsOut p.rest a.written now (Fits k.client) fault → k.version ≡ p.version → ((fault ≡ Some WriteFailed → ⊥) → StaysSound a.write_failed failed)
+    → Hears fault p a (record a { written = now; write_failed = failed }) k
+written {p = p} {a = a} fault now failed (out, w, fits) version s =
+    let moves = moves_sent fault a now failed p.rest.unsent out w s in
+    record { out = out; heard = heard_none; moves = moves; at = record { fits = fits; version = version }; all = λ e. (rw e at w).1 }
 
 -- no fault comes while nothing is printed, so a source that fails isn't hidden by one
 none_cut : {v : Version} {notes : List Note} {f : StreamFault} {p t : List ℕ} → Prints v (Some f) notes p t → notes ≡ [] → ⊥
@@ -109,108 +132,79 @@ never_printed : (fault : StreamFault) → (fault ≡ ReadFailed → ⊥) → is_
 never_printed ReadFailed never = absurd (never refl)
 never_printed _ never = refl
 
--- what was read up to one fault, and printed up to another
-pub spoken : {p : Place} {a b : Streams} {k : Caller} {fault read cut : Option StreamFault} {notes : List Note} (out : ℕ)
-    → ReadsAll (taken_out p.rest out) a.left b.left [] notes (Fits k.client) read → PutsNotes p.version notes cut (sinks_of a) (sinks_of b)
-    → k.version ≡ versions_after p.version notes → Puts (is_printed fault) a.written b.written p.rest.unsent
-    → (is_printed fault ≡ true → read ≡ Some Memory → ⊥) → CutsBy fault cut → ((fault ≡ Some ReadFailed → ⊥) → StaysSound a.read_failed b.read_failed)
-    → ((fault ≡ Some WriteFailed → ⊥) → StaysSound a.write_failed b.write_failed) → (fault ≡ None → (read ≡ None) × (drop out p.rest.unsent ≡ []))
-    → Converses fault p a b k
-spoken {p = p} {fault = fault} {cut = cut} out r puts version sent whole by source sink all =
-    let up = subst (λ (ns : List Note). Prints p.version cut ns puts.printed puts.told) r.told puts.prints in
-    let heard : HeardUpTo fault (sent_out p out) =
-    record { fed = r.fed; unheard = r.unheard; needed = r.needed; whole = λ e. r.whole (whole e); printed = _; told = _; cut = cut; cuts = by; prints = up } in
-    let printed = λ (n : fault ≡ Some WriteFailed → ⊥). puts.sound (λ e. ⊎_elim (λ z. cc) (λ z. n (sym z.1 ∙ e)) by) in
-    record {
-      out = out;
-      heard = heard;
-      moves = record { read = r.input; sent = sent; printed = puts.took; told = puts.got; source = source; sinks = λ n. (sink n, printed n) };
-      at = record { fits = r.now; version = version ∙ ap (versions_after p.version) r.told };
-      ends = λ e. let so = all e in (so.1, r.ends so.0);
-    }
+-- while an answer is still to come, all that was read so far was heard
+pub all_heard : {q : Place} (h : HeardUpTo None q) → awaits (hears_all q.rest h.fed).knows ≡ true → h.unheard ≡ []
+all_heard {q = q} h waits = ⊎_elim (λ e. e) (λ o. absurd (awaits_open (hears_all q.rest h.fed).knows waits o)) (h.whole refl)
 
-pub not_memory : (fault : Option StreamFault) → is_printed fault ≡ true → fault ≡ Some Memory → ⊥
-not_memory fault e m = true≢false (sym e ∙ ap is_printed m)
+module _ {p : Place} {a b : Streams} {k : Caller} (c : Streams) (l : Caller) (new : List Note) (so : Hears None p a b k)
+    (waits : awaits (rest_of k.client).knows ≡ true) (version : l.version ≡ versions_after k.version new) (same : (c.written ≡ b.written) × (c.write_failed ≡ b.write_failed)) where
+  abbrev here : Place
+  here = heard_place so.heard
 
-module _ {p : Place} {a b : Streams} {k : Caller} (c : Streams) (l : Caller) (new : List Note) (so : HearsOn p a b k)
-    (waits : awaits (rest_of k.client).knows ≡ true) (version : l.version ≡ versions_after k.version new)
-    (sent : Appends a.written c.written p.rest.unsent) (sink : StaysSound a.write_failed c.write_failed) where
   abbrev New : Option StreamFault → Type 0
   New broken = PutsNotes k.version new broken (sinks_of b) (sinks_of c)
 
-  abbrev notes : List Note
-  notes = so.notes ++ new
-
-  abbrev Read : Option StreamFault → Type 0
-  Read = ReadsAll (taken_out p.rest so.out) a.left c.left [] notes (Fits l.client)
+  abbrev Read : Bool → Type 0
+  Read whole = ReadsPiece here.rest b.left c.left [] new whole (Fits l.client)
 
   abbrev Piece : Result Bool StreamFault → Type 0
-  Piece = HearsPiece (after_all (taken_out p.rest so.out) so.reads.fed) b.left c.left [] new (Fits l.client)
+  Piece done = HearsPiece here.rest b.left c.left [] new (Fits l.client) done
 
-  waiting : awaits (after_all (taken_out p.rest so.out) so.reads.fed).knows ≡ true
-  waiting = ap (λ (r : Rest). awaits r.knows) (sym so.reads.now) ∙ waits
+  nothing : Consumes b.left c.left [] → new ≡ [] → Fits l.client here.rest → Read true
+  nothing input told now =
+      record { piece = []; input = input; short = omega arith; feeds = record { fed = []; unheard = []; parts = refl; told = told; now = now; ends = λ _. inl refl } }
 
-  version_now : l.version ≡ versions_after p.version notes
-  version_now = version ∙ ap (λ (v : Version). versions_after v new) so.version ∙ sym (versions_more p.version so.notes new)
+  -- where nothing was read that is a piece too
+  as_piece : (done : Result Bool StreamFault) → Piece done → Read (is_printed (result_err done))
+  as_piece (Ok true) h = h
+  as_piece (Ok false) h = nothing h.input h.told h.now
+  as_piece (Err ReadFailed) h = nothing (Consumes-kept _ _ _ [] (Consumes-nil _) h.input) h.told h.now
+  as_piece (Err WriteFailed) h = absurd h
+  as_piece (Err Memory) h = h
 
-  put : {broken : Option StreamFault} → New broken → PutsNotes p.version notes broken (sinks_of a) (sinks_of c)
-  put new = notes_then so.puts (rw so.version at new)
+  -- a piece was heard, and printed up to a fault
+  piece_heard : {whole : Bool} {fault broken : Option StreamFault} → Read whole → (is_printed fault ≡ true → whole ≡ true) → New broken → CutsBy fault broken
+      → ((fault ≡ Some ReadFailed → ⊥) → StaysSound b.read_failed c.read_failed) → Hears fault p a c l
+  piece_heard {fault = fault} {broken = broken} h whole puts cuts source =
+      let was = so.heard in
+      let f = h.feeds in
+      let waiting : awaits here.rest.knows ≡ true = ap (λ (r : Rest). awaits r.knows) (sym so.at.fits) ∙ waits in
+      let sound = λ (n : fault ≡ Some WriteFailed → ⊥). puts.sound (λ e. ⊎_elim (λ z. cc) (λ z. n (sym z.1 ∙ e)) cuts) in
+      let sink : StaysSound b.write_failed c.write_failed = λ e. cc in
+      let sent = puts_whole (is_printed fault) b.written c.written [] (rw same.0 (Appends-nil b.written)) in
+      let read : Moves fault b c (record (said puts.printed puts.told) { read = f.fed ++ f.unheard }) =
+      search (rw f.parts at h.input, sent, puts, source, sound, sink) in
+      let before : Prints p.version None (hears_all (sent_out p so.out).rest was.fed).notes was.printed was.told =
+      rw (⊎_elim (λ e. e) (λ z. absurd cc) was.cuts) at was.prints in
+      let heard : HeardUpTo fault (sent_out p so.out) = record {
+        fed = was.fed ++ f.fed;
+        unheard = f.unheard;
+        needed = inr (record { before = was.fed; last = f.fed ++ f.unheard; parts = append_assoc was.fed f.fed f.unheard; short = rw f.parts at h.short; waits = waiting });
+        whole = λ e. rw hears_all-append (f.ends (whole e));
+        printed = was.printed ++ puts.printed;
+        told = was.told ++ puts.told;
+        cut = broken;
+        cuts = cuts;
+        prints = rw hears_all-append (prints_then before (rw (so.at.version, f.told) at puts.prints));
+      } in
+      let at : IsAt l (heard_place heard) = rw place_more (record { fits = f.now; version = rw (so.at.version, f.told) at version }) in
+      let moves : Moves fault a c (heard_log p.rest.unsent heard) = simp append_assoc (simp (all_heard was waiting, append-nil) at (moves_then so.moves read)) in
+      record { out = so.out; heard = heard; moves = moves; at = at; all = λ e. so.all refl }
 
-  told : new ≡ [] → notes ≡ so.notes
-  told e = ap (λ (z : List Note). so.notes ++ z) e ∙ append-nil so.notes
+  at_end : (done : Result Bool StreamFault) → Piece done → IfOk done (λ some. some ≡ false → IsAtEnd c.left)
+  at_end (Ok true) h = λ e. cc
+  at_end (Ok false) h = λ _. h.at_end
+  at_end (Err f) h = tt
 
-  faulted : (f : StreamFault) → HearsPiece (after_all (taken_out p.rest so.out) so.reads.fed) b.left c.left so.notes notes (Fits l.client) (Err f)
-      → Read (Some f)
-  faulted f h = hears_fault so.reads c.left notes (Fits l.client) f waiting h
+  untold : (done : Result Bool StreamFault) {f : StreamFault} → Piece done → New (Some f) → result_err done ≡ Some ReadFailed → ⊥
+  untold (Err ReadFailed) h puts e = none_cut puts.prints h.told
+  untold _ h puts e = cc
 
-  ended : {fault read cut : Option StreamFault} → Read read → New cut → (is_printed fault ≡ true → read ≡ Some Memory → ⊥) → CutsBy fault cut
-      → ((fault ≡ Some ReadFailed → ⊥) → StaysSound b.read_failed c.read_failed) → (fault ≡ None → read ≡ None) → Converses fault p a c l
-  ended r new whole cuts source all =
-      spoken so.out r (put new) version_now (puts_whole _ a.written c.written p.rest.unsent sent) whole cuts (λ n f. so.source (source n f)) (λ _. sink)
-      (λ e. (all e, so.sent.1))
-
-  -- a piece was heard, and all of it was printed
-  pub more_heard : (done : Result Bool StreamFault) → Piece done → New None → UnlessTold done ReadFailed (StaysSound b.read_failed c.read_failed)
-      → HearsMore p a c l done
-  more_heard (Ok true) h new sound =
-      let reads = hears_more so.reads waiting (piece_more so.notes (λ e. e) h) in
-      let source : StaysSound a.read_failed c.read_failed = λ f. so.source (sound f) in
-      record { out = so.out; sent = (sent, so.sent.1); notes = notes; reads = reads; puts = put new; version = version_now; source = source; sink = sink }
-  more_heard (Ok false) h new sound =
-      let end : ReadsEnd (after_all (taken_out p.rest so.out) so.reads.fed) b.left c.left so.notes notes (Fits l.client) =
-      record { input = h.input; at_end = h.at_end; told = told h.told; now = h.now } in
-      ended (hears_end so.reads {left_now = c.left} {after = notes} {Now = Fits l.client} end) new (not_memory None) (inl refl) (λ _. sound) (λ e. e)
-  more_heard (Err ReadFailed) h new sound =
-      let read = faulted ReadFailed (record { input = h.input; told = told h.told; now = h.now }) in
-      ended read new (not_memory _) (inl refl) (λ n. absurd (n refl)) (λ e. absurd cc)
-  more_heard (Err WriteFailed) h new sound = absurd h
-  more_heard (Err Memory) h new sound =
-      ended (faulted Memory (piece_more so.notes (λ e. e) h)) new (not_memory _) (inl refl) (λ _. sound (λ e. cc)) (λ e. absurd cc)
-
-  -- or a fault came while it was
-  pub heard_cut : (f : StreamFault) → (f ≡ ReadFailed → ⊥) → (done : Result Bool StreamFault) → Piece done → New (Some f)
-      → UnlessTold done ReadFailed (StaysSound b.read_failed c.read_failed) → Converses (Some f) p a c l
-  heard_cut f never (Ok true) h new sound =
-      let not = never_printed f never in
-      ended (faulted Memory (piece_more so.notes (λ e. cc) h)) new (λ e _. true≢false (sym e ∙ not)) (inr (not, refl)) (λ _. sound) (λ e. absurd cc)
-  heard_cut f never (Ok false) h new sound = absurd (none_cut new.prints h.told)
-  heard_cut f never (Err ReadFailed) h new sound = absurd (none_cut new.prints h.told)
-  heard_cut f never (Err WriteFailed) h new sound = absurd h
-  heard_cut f never (Err Memory) h new sound =
-      let not = never_printed f never in
-      let read = faulted Memory (piece_more so.notes (λ e. e) h) in
-      ended read new (λ e _. true≢false (sym e ∙ not)) (inr (not, refl)) (λ _. sound (λ e. cc)) (λ e. absurd cc)
-
--- what waited wasn't all written
-pub written_some : {p : Place} {a : Streams} {k : Caller} {f : StreamFault} (written : Option (List ℕ)) (failed : Bool) (out : ℕ)
-    → Writes p.rest.unsent out (Some f) a.written written → Fits k.client (taken_out p.rest out) → k.version ≡ p.version
-    → ((f ≡ WriteFailed → ⊥) → StaysSound a.write_failed failed) → Converses (Some f) p a (record a { written = written; write_failed = failed }) k
-written_some {p = p} {a = a} {k = k} {f = f} written failed out w fits version s =
-    let none : ReadsAll (taken_out p.rest out) a.left a.left [] [] (Fits k.client) (Some f) =
-    record { fed = []; unheard = []; input = Consumes-nil _; told = refl; now = fits; needed = inl refl; whole = λ _. inl refl; ends = λ e. absurd cc } in
-    spoken out none notes_none version (puts f w) (not_memory (Some f)) (inl refl) (λ _ x. x) (λ n. s (λ e. n (ap Some e))) (λ e. absurd cc)
-  where
-    puts : (f : StreamFault) → Writes p.rest.unsent out (Some f) a.written written → Puts (is_printed (Some f)) a.written written p.rest.unsent
-    puts Memory w = record { front = w; all = λ e. absurd cc }
-    puts ReadFailed w = puts_whole true _ _ _ w.0
-    puts WriteFailed w = record { front = w.0; all = λ e. absurd cc }
+  -- all of it was printed, or a fault came while it was
+  pub more_heard : (put : Result (Unit {0}) StreamFault) (done : Result Bool StreamFault) → (IsErrOf put ReadFailed → ⊥) → Piece done → New (result_err put)
+      → UnlessTold done ReadFailed (StaysSound b.read_failed c.read_failed) → HearsMore p a c l (result_and put done)
+  more_heard (Ok u) done never h puts sound = (piece_heard (as_piece done h) (λ e. e) puts (inl refl) (unless_err done ReadFailed _ sound), at_end done h)
+  more_heard (Err f) done never h puts sound =
+      let cut = never_printed f (λ e. never (ap Err e)) in
+      let source = λ (_ : Some f ≡ Some ReadFailed → ⊥). unless_err done ReadFailed _ sound (untold done h puts) in
+      (piece_heard (as_piece done h) (λ e. absurd (true≢false (sym e ∙ cut))) puts (inr (cut, refl)) source, tt)

@@ -11,8 +11,7 @@ returns-in-Ok g c =
     record {
       shells = record { stop = None; ends = refl; cause = tt; told = now.told; deaf = now.deaf; runs = c.in-Ok.ensures.runs; said = gets_none _ _ };
       accounts = accounts now.told now.deaf [] so (gets_none _ _);
-      sound = λ n.
-          let sinks = so.moves.sinks (λ e. cc) in (c.in-Ok.ensures.input, record { source = so.moves.source (λ e. cc); sink = sinks.0; out = sinks.1 });
+      sound = λ n. (c.in-Ok.ensures.input, search (so.moves.source (λ e. cc), so.moves.sinks (λ e. cc)));
     }
 
 pub returns-in-Err : goal.returns-in-Err
@@ -28,6 +27,5 @@ returns-in-Err g c =
       accounts = accounts told deaf (stop_text c.in-Err.stop) so c.put_stop.ensures.text;
       sound = λ n.
           let never = told_so c.in-Err.stop (λ e. n (put.status ∙ e)) in
-          let sinks = so.moves.sinks never.1 in
-          (c.in-Err.ensures.input (λ e. never.0 (ap (λ s. fault_in (Some s)) e)), record { source = so.moves.source never.0; sink = sinks.0; out = sinks.1 });
+          (c.in-Err.ensures.input (λ e. never.0 (ap (λ s. fault_in (Some s)) e)), search (so.moves.source never.0, so.moves.sinks never.1));
     }

@@ -1,9 +1,9 @@
-use Rattle.shells.proofs.Followed.{HearsOn, IsAt, Place}
+use Rattle.shells.proofs.Followed.{Hears, IsAt, None, Place}
 use Rattle.shells.proofs.caller.Caller.converse.Given as goal
 
 -- what was heard so far is printed
 abbrev pub invariant-loop-self : goal.invariant-loop-self
-invariant-loop-self g l = (p : Place) → IsAt l.fn.self p → HearsOn p l.fn.streams.at l.streams.at l.self
+invariant-loop-self g l = (p : Place) → IsAt l.fn.self p → Hears None p l.fn.streams.at l.streams.at l.self
 
 -- how many more reads may give bytes
 abbrev pub decreases-loop-self : goal.decreases-loop-self

@@ -1,4 +1,4 @@
-use Rattle.shells.proofs.Followed.{ap, refl, Err, Appends-nil, heard_cut, more_heard}
+use Rattle.shells.proofs.Followed.{refl, Ok, Err, Appends-nil, more_heard}
 use Rattle.shells.proofs.caller.Caller.hear_some.Goals as goal
 
 pub hear_piece-done-requires : goal.hear_piece-done-requires
@@ -9,13 +9,12 @@ pub returns-clause-hears : goal.returns-clause-hears
 returns-clause-hears g c = λ p start s.
     let so = rw (← c.streams.view_is) at s in
     let k = c.hear_piece-done in
-    let h = rw (c.new-heard.ensures.items, ← c.put_all.ensures.client) at (k.ensures.hears _ so.reads.now) in
-    more_heard _ _ _ so c.requires.waits c.put_all.ensures.version so.sent.0 so.sink k.result h c.in-Ok.ensures.puts k.ensures.sound
+    let h = rw (c.new-heard.ensures.items, ← c.put_all.ensures.client) at (k.ensures.hears _ so.at.fits) in
+    more_heard _ _ _ so c.requires.waits c.put_all.ensures.version (refl, refl) (Ok _) k.result (λ e. cc) h c.in-Ok.ensures.puts k.ensures.sound
 
 pub returns-in-Err-clause-hears : goal.returns-in-Err-clause-hears
 returns-in-Err-clause-hears g c = λ p start s.
     let so = rw (← c.streams.view_is) at s in
     let k = c.hear_piece-done in
-    let h = rw (c.new-heard.ensures.items, ← c.put_all.ensures.client) at (k.ensures.hears _ so.reads.now) in
-    heard_cut _ _ _ so c.requires.waits c.put_all.ensures.version so.sent.0 so.sink c.in-Err.fault
-    (λ e. c.in-Err.ensures.read (ap Err e)) k.result h c.in-Err.ensures.puts k.ensures.sound
+    let h = rw (c.new-heard.ensures.items, ← c.put_all.ensures.client) at (k.ensures.hears _ so.at.fits) in
+    more_heard _ _ _ so c.requires.waits c.put_all.ensures.version (refl, refl) (Err _) k.result c.in-Err.ensures.read h c.in-Err.ensures.puts k.ensures.sound

@@ -1,5 +1,5 @@
-use Rattle.shells.proofs.Followed.{◌≡◌, ◌∙◌, ◌++◌, [], refl, sym, ap, rules, Some, None, request_line_of, Memory, Unreadable, Broken, asks_answer, does_none}
-use Rattle.shells.proofs.Followed.{filled_one, refused_line, submit_failed, submit_part, submit_taken}
+use Rattle.shells.proofs.Followed.{◌≡◌, ◌++◌, [], false, refl, ap, rules, Err, None, Ok, request_line_of, Memory, Unreadable, Broken, asks_answer, does_none}
+use Rattle.shells.proofs.Followed.{filled_one, submit_over, submit_taken}
 use Rattle.shells.proofs.shells.Conversation.send.Goals as goal
 
 pub returns-in-Err-Unreadable-clause-sends : goal.returns-in-Err-Unreadable-clause-sends
@@ -21,31 +21,24 @@ ask-requires g c = record {
 
 pub returns-in-Ok-ask-clause-sends : goal.returns-in-Ok-ask-clause-sends
 returns-in-Ok-ask-clause-sends g c = λ start done s0.
-    let b = c.args.self.now in
     let s = rw (← c.streams.view_is) at s0 in
     let h = rw c.in-Ok-true.field-0-test at (c.in-Ok-true.ensures.submits s.place s.at) in
-    let r = ap request_line_of (sym c.as_slice.ensures.value) ∙ c.in-Ok.ensures in
-    submit_taken s _ b.number b.begun.items (search rules) r _ _ h.0 h.1 c.in-Ok-true.ensures.sound (c.in-Ok-ask.ensures.asks _ h.2)
+    submit_taken c.args.self.now s _ (search rules) c.as_slice.ensures.value c.in-Ok.ensures _ _ h.0 h.1 c.in-Ok-true.ensures.sound (c.in-Ok-ask.ensures.asks _ h.2)
 
 pub returns-in-Err-ask-clause-sends : goal.returns-in-Err-ask-clause-sends
 returns-in-Err-ask-clause-sends g c = λ start done s0.
-    let b = c.args.self.now in
     let s = rw (← c.streams.view_is) at s0 in
     let h = rw c.in-Ok-true.field-0-test at (c.in-Ok-true.ensures.submits s.place s.at) in
-    let r = ap request_line_of (sym c.as_slice.ensures.value) ∙ c.in-Ok.ensures in
-    submit_taken s _ b.number b.begun.items (search rules) r _ _ h.0 h.1 c.in-Ok-true.ensures.sound (c.in-Err-ask.ensures.asks _ h.2)
+    submit_taken c.args.self.now s _ (search rules) c.as_slice.ensures.value c.in-Ok.ensures _ _ h.0 h.1 c.in-Ok-true.ensures.sound (c.in-Err-ask.ensures.asks _ h.2)
 
 pub returns-in-Ok-false-clause-sends : goal.returns-in-Ok-false-clause-sends
 returns-in-Ok-false-clause-sends g c = λ start done s0.
-    let b = c.args.self.now in
     let s = rw (← c.streams.view_is) at s0 in
     let h = rw c.in-Ok-false.field-0-test at (c.in-Ok-false.ensures.submits s.place s.at) in
-    let r = ap request_line_of (sym c.as_slice.ensures.value) ∙ c.in-Ok.ensures in
-    submit_part s _ b.number b.begun.items (search rules) r _ _ None h.0 h.1 (refused_line b.number h.1) h.2 h.3 refl h.4 (λ _. c.in-Ok-false.ensures.sound) h.5
+    submit_over c.args.self.now s _ (search rules) c.as_slice.ensures.value c.in-Ok.ensures _ _ c.submit.new.self (Ok false) (λ e. cc) h c.in-Ok-false.ensures.sound
 
 pub returns-in-Err-clause-sends : goal.returns-in-Err-clause-sends
 returns-in-Err-clause-sends g c = λ start done s0.
-    let b = c.args.self.now in
     let s = rw (← c.streams.view_is) at s0 in
-    let r = ap request_line_of (sym c.as_slice.ensures.value) ∙ c.in-Ok.ensures in
-    submit_failed s _ b.number b.begun.items (search rules) r _ _ _ (c.in-Err.ensures.submits s.place s.at) (λ n. c.in-Err.ensures.sound (λ e. n (ap Some e)))
+    let h = c.in-Err.ensures.submits s.place s.at in
+    submit_over c.args.self.now s _ (search rules) c.as_slice.ensures.value c.in-Ok.ensures _ _ c.submit.new.self (Err _) (λ e. cc) h c.in-Err.ensures.sound

@@ -1,12 +1,12 @@
-use Rattle.shells.proofs.Followed.{◌++◌, ◌+◌, take, drop, subst, StopsIn, at_place}
+use Rattle.shells.proofs.Followed.{◌≡◌, ◌++◌, ◌+◌, ◌∷◌, append_assoc, arith, common_steps, drop, get_or, take}
 use Rattle.shells.proofs.shells.Conversation.take.Goals as goal
 
 pub returns-in-Err-clause-takes : goal.returns-in-Err-clause-takes
 returns-in-Err-clause-takes g c = λ start script p.
     let t = c.args.piece.now in
     let i = c.loop-byte.byte-index in
-    subst (StopsIn c.in-Err.stop start c.take_byte.new.streams.at) (at_place script t i c.loop-byte-test.true)
-    (c.in-Err.ensures.takes start (script ++ take i t) (c.loop-byte.invariant start script p) (drop (i + 1) t))
+    let all : take i t ++ get_or t i 0 ∷ drop (i + 1) t ≡ t = grind (arith, common_steps, c.loop-byte-test.true) in
+    rw (append_assoc, all) at (c.in-Err.ensures.takes start (script ++ take i t) (c.loop-byte.invariant start script p) (drop (i + 1) t))
 
 pub take_byte-requires : goal.take_byte-requires
 take_byte-requires g c = λ s taken n few turn.
