@@ -96,9 +96,7 @@ stop_of (Broken fault) A B a b = cause_of fault A B (λ e. a (ap Broken e)) (λ 
 
 -- a fault of a stream is told with status 1
 pub told_so : (stop : StopReason) → (stop_status stop ≡ 1 → ⊥) → (fault_in (Some stop) ≡ Some ReadFailed → ⊥) × (fault_in (Some stop) ≡ Some WriteFailed → ⊥)
-told_so (Unreadable m) n = (λ e. absurd cc, λ e. absurd cc)
-told_so (Broken Memory) n = (λ e. absurd cc, λ e. absurd cc)
-told_so (Broken _) n = absurd (n refl)
+told_so stop n = grind arith
 
 -- what holds holds unless a fault is told
 pub unless_so : {T E : Type 0} (x : Result T E) (f : E) (A : Type 0) → A → UnlessTold x f A
@@ -176,8 +174,7 @@ module _ {fault : Option StreamFault} {p : Place} {a b : Streams} (x : Exchanges
 
   -- a client that goes on had all answered
   goes_on : then.knows.over ≡ false → (then.knows ≡ heard.knows) × (all_answered heard.knows ≡ true)
-  goes_on = cond_both (all_answered heard.knows) heard (after_drop heard)
-      (λ (r : Rest). r.knows.over ≡ false → (r.knows ≡ heard.knows) × (all_answered heard.knows ≡ true)) (λ e o. (refl, e)) (λ e o. absurd (true≢false o))
+  goes_on = grind arith
 
   -- what was heard of those that waited
   abbrev Answered : List RequestView → ℕ → Type 0

@@ -58,9 +58,7 @@ prints_then (prints_one x) y = rw append_assoc (prints_one (prints_then x y))
 pub prints_told : {v : Version} {ns : List Note} {f : StreamFault} {p t : List ℕ} (n : Note) → Prints v (Some f) ns p t
     → Prints v (Some f) (ns ++ n ∷ []) p (t ++ summary_line n)
 prints_told n (prints_one x) = prints_one (prints_told n x)
-prints_told n (cut_at {rest = rest} {told = told} c) =
-    let e : summaries_text (rest ++ n ∷ []) ≡ summaries_text rest ++ summary_line n = simp (flat_map-append, append-nil) in
-    rw (append_assoc told (summaries_text rest) (summary_line n), ← e) (cut_at c)
+prints_told n (cut_at {rest = rest} c) = simp append_assoc (simp (flat_map-append, append-nil) at (cut_at {rest = rest ++ n ∷ []} c))
 
 pub versions_more : (v : Version) (ns ms : List Note) → versions_after v (ns ++ ms) ≡ versions_after (versions_after v ns) ms
 versions_more v [] ms = refl
@@ -76,13 +74,12 @@ pub place_more : (p : Place) (a b : List ℕ) → place_after p (a ++ b) ≡ pla
 place_more p a b =
     rw (hears_all-append p.rest a b, state-append Opened Item at_client p.rest.item a b, versions_more p.version (hears_all p.rest a).notes (hears_all (after_all p.rest a) b).notes) refl
 
-module _ {v : Version} {ns : List Note} {a b c : Sinks} where
-  pub notes_then : {ms : List Note} {fault : Option StreamFault} → PutsNotes v ns None a b → PutsNotes (versions_after v ns) ms fault b c
-      → PutsNotes v (ns ++ ms) fault a c
-  notes_then h m =
-      let took = Appends-trans a.printed b.printed c.printed h.printed m.printed h.took m.took in
-      let got = gets_then a.deaf b.deaf c.deaf a.told b.told c.told h.told m.told h.got m.got in
-      record { printed = _; told = _; prints = prints_then h.prints m.prints; took = took; sound = λ n s. h.sound (λ q. cc) (m.sound n s); got = got }
+pub notes_then : {v : Version} {ns ms : List Note} {fault : Option StreamFault} {a b c : Sinks} → PutsNotes v ns None a b
+    → PutsNotes (versions_after v ns) ms fault b c → PutsNotes v (ns ++ ms) fault a c
+notes_then h m =
+    let got = gets_then _ _ _ _ _ _ _ _ h.got m.got in
+    let took = Appends-trans _ _ _ _ _ h.took m.took in
+    record { printed = _; told = _; prints = prints_then h.prints m.prints; took = took; sound = λ n s. h.sound (λ q. cc) (m.sound n s); got = got }
 
 -- nothing is printed
 pub notes_none : {v : Version} {a : Sinks} → PutsNotes v [] None a a
@@ -91,9 +88,7 @@ notes_none = record { printed = []; told = []; prints = prints_none; took = Appe
 module _ {v : Version} {n : Note} {a : Sinks} where
   pub whole : {now : Option (List ℕ)} {has : Bool} → Appends a.printed now (explained (version_after v n) n) → StaysSound a.print_failed has
       → PutsNotes v (n ∷ []) None a (record a { printed = now; print_failed = has })
-  whole h s =
-      let text = explained (version_after v n) n in
-      record { printed = text ++ []; told = []; prints = prints_one prints_none; took = rw append-nil h; sound = λ _. s; got = gets_none _ _ }
+  whole h s = record { printed = _ ++ []; told = []; prints = prints_one prints_none; took = rw append-nil h; sound = λ _. s; got = gets_none _ _ }
 
   pub cut : {f : StreamFault} {b : Sinks} {part told : List ℕ} → IsCut (version_after v n) n f part told → Appends a.printed b.printed part
       → ((Some f ≡ Some WriteFailed → ⊥) → StaysSound a.print_failed b.print_failed) → Gets a.deaf b.deaf a.told b.told told → PutsNotes v (n ∷ []) (Some f) a b
@@ -129,8 +124,7 @@ none_cut (prints_one x) e = cc
 none_cut (cut_at c) e = cc
 
 never_printed : (fault : StreamFault) → (fault ≡ ReadFailed → ⊥) → is_printed (Some fault) ≡ false
-never_printed ReadFailed never = absurd (never refl)
-never_printed _ never = refl
+never_printed fault never = grind arith
 
 -- while an answer is still to come, all that was read so far was heard
 pub all_heard : {q : Place} (h : HeardUpTo None q) → awaits (hears_all q.rest h.fed).knows ≡ true → h.unheard ≡ []

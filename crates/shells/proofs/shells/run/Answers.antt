@@ -53,16 +53,13 @@ returns-then-len-eq0-clause-runs g c =
 pub loop-len-preserved : goal.loop-len-preserved
 loop-len-preserved g c =
     let so = c.loop-len.invariant in
-    let piece = take c.in-Ok-read.len c.read.new.buffer in
-    let read = Consumes-trans _ _ _ so.script piece so.read c.in-Ok-read.ensures.bytes.0 in
-    record { script = so.script ++ piece; read = read; progress = c.in-Ok-take.ensures.takes _ so.script so.progress }
+    record { script = _; read = Consumes-trans _ _ _ so.script _ so.read c.in-Ok-read.ensures.bytes.0; progress = c.in-Ok-take.ensures.takes _ so.script so.progress }
 
 pub returns-in-Err-take-clause-runs : goal.returns-in-Err-take-clause-runs
 returns-in-Err-take-clause-runs g c =
     let so = c.loop-len.invariant in
-    let piece = take c.in-Ok-read.len c.read.new.buffer in
-    let read = Consumes-trans _ _ _ so.script piece so.read c.in-Ok-read.ensures.bytes.0 in
-    record { script = so.script ++ piece; read = read; end = λ z. absurd cc; does = c.in-Err-take.ensures.takes _ so.script so.progress }
+    let read = Consumes-trans _ _ _ so.script _ so.read c.in-Ok-read.ensures.bytes.0 in
+    record { script = _; read = read; end = λ z. absurd cc; does = c.in-Err-take.ensures.takes _ so.script so.progress }
 
 pub returns-then-len-eq0-clause-input : goal.returns-then-len-eq0-clause-input
 returns-then-len-eq0-clause-input g c =
