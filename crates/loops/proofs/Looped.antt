@@ -1,18 +1,15 @@
 -- What two ends have come to, and how far they have where a fault breaks them off.
-pub use Rattle.shells.proofs.Followed.Exchanged.Words.{[], after_all, all_done, all_taken, ap, append-nil, append_assoc, append_cancel_left, Appends}
-pub use Rattle.shells.proofs.Followed.Exchanged.Words.{Appends-nil, Appends-trans, AppendsFront, arith, at_client, at_server, awaits, Bool, Broken, bytes_eq}
-pub use Rattle.shells.proofs.Followed.Exchanged.Words.{cases_Bool, cases_lt, cause_of, Consumes, Consumes-nil, Consumes-trans, drop, empty_nil}
-pub use Rattle.shells.proofs.Followed.Exchanged.Words.{entries_text, Err, false, false_from_ne_true, FeedsPiece, first_place, fold, front_after, front_in}
-pub use Rattle.shells.proofs.Followed.Exchanged.Words.{front_whole, Gets, hears_all, inl, inr, is_ok, IsAt, IsErrOf, IsSome, Item, items_received, length}
-pub use Rattle.shells.proofs.Followed.Exchanged.Words.{length-append, length-take, length-take-le, List, map, MatchResult, Memory, nil_from_length, None}
-pub use Rattle.shells.proofs.Followed.Exchanged.Words.{not-false, not-true, Note, note, note_text, notes_text, Ok, OnErr, OnOk, Opened, Option, outputs, Place}
-pub use Rattle.shells.proofs.Followed.Exchanged.Words.{place_after, PutsLine, ReadFailed, refl, refuses, RequestView, Rest as ClientRest, rest_of, Result}
-pub use Rattle.shells.proofs.Followed.Exchanged.Words.{rules, said_requests, script_request_view, ScriptRequestView, Some, state, stop_status, stop_text}
-pub use Rattle.shells.proofs.Followed.Exchanged.Words.{StopReason, StreamFault, SubmitFault, Submits, subst, sym, take, take-append-drop, take-append-le}
-pub use Rattle.shells.proofs.Followed.Exchanged.Words.{take_all, take_at, taken_out, Tale, text_of, true, true≢false, Unreadable, version_after, versions_after}
-pub use Rattle.shells.proofs.Followed.Exchanged.Words.{WriteFailed, ℕ, ⊎_elim, ◌++◌, ◌+◌, ◌-◌, ◌<◌, ◌∙◌, ◌∷◌, ◌≡◌, ◌≤◌, ◌⊎◌}
+pub use Rattle.shells.proofs.Followed.Exchanged.Words.{[], after_all, all_done, all_taken, ap, append-nil, append_assoc, append_cancel_left, Appends, Appends-nil, Appends-trans}
+pub use Rattle.shells.proofs.Followed.Exchanged.Words.{AppendsFront, arith, at_client, at_server, awaits, Bool, Broken, bytes_eq, cases_Bool, cases_lt, cause_of, Consumes, Consumes-nil}
+pub use Rattle.shells.proofs.Followed.Exchanged.Words.{Consumes-trans, drop, empty_nil, entries_text, Err, false, FeedsPiece, first_place, fold, front_after, front_in, front_whole, Gets}
+pub use Rattle.shells.proofs.Followed.Exchanged.Words.{hears_all, inl, inr, is_ok, IsAt, IsErrOf, IsSome, Item, items_received, length, length-append, length-take, length-take-le, List, map}
+pub use Rattle.shells.proofs.Followed.Exchanged.Words.{MatchResult, Memory, nil_from_length, None, not-false, Note, note, note_text, notes_text, Ok, OnErr, OnOk, Opened, Option, outputs}
+pub use Rattle.shells.proofs.Followed.Exchanged.Words.{Place, place_after, PutsLine, ReadFailed, refl, refuses, RequestView, Rest as ClientRest, rest_of, Result, rules, said_requests}
+pub use Rattle.shells.proofs.Followed.Exchanged.Words.{script_request_view, ScriptRequestView, Some, state, stop_status, stop_text, StopReason, StreamFault, SubmitFault, Submits, subst, sym}
+pub use Rattle.shells.proofs.Followed.Exchanged.Words.{take, take-append-drop, take-append-le, take_all, take_at, taken_out, Tale, text_of, true, Unreadable, version_after, versions_after}
+pub use Rattle.shells.proofs.Followed.Exchanged.Words.{WriteFailed, ℕ, ⊎_elim, ◌++◌, ◌+◌, ◌-◌, ◌<◌, ◌∙◌, ◌∷◌, ◌≡◌, ◌≤◌, ◌⊎◌, not-true, true≢false}
 pub use Rattle.shells.specs.declared.caller.Caller.{Caller}
-pub use Rattle.shells.proofs.Printed.{place_more, texts_more}
+pub use Rattle.shells.proofs.Followed.Exchanged.{place_more, texts_more}
 pub use Rattle.std.proofs.Math.Seq.{drop-append_seam, drop-length, take-append-add, take-append_seam, take-nil}
 pub use Rattle.std.proofs.lemmas.List.Sums.{fold-append}
 pub use borrow.Rule.Slice.PartMut.{post_of, put_mid}
@@ -30,10 +27,9 @@ pub use Rattle.serves.specs.declared.liveness.Liveness.{Liveness}
 pub use Rattle.serves.specs.declared.liveness.Liveness.TheVariants.{Open, Over}
 pub use Rattle.one_by_one.proofs.Served.{found_by}
 pub use Rattle.one_by_one.specs.Prelude.{HasOpened}
-pub use Rattle.loops.specs.Prelude.{AreQuiet, Breaks, BreaksAt, BreaksAtSource, BreaksIn, Comes, EndsAt, Goes, HasHeard, HearsFront, HearsUpTo, IsHeardAll}
-pub use Rattle.loops.specs.Prelude.{IsOpened, IsQuiet, LetsReadWaiting, Meets, Numbers, Outset, Passes, ReadsUpTo, Sits, StandsAt, TellsLine, Turns, Way, Ways}
-pub use Rattle.loops.specs.Prelude.{all_sent, answer_to, asked, due, end, exchanged, next_turn, no_turns, outset, place_by, stage, talk_for, text_by, turns_of}
-pub use Rattle.loops.specs.Prelude.{with_item, with_line}
+pub use Rattle.loops.specs.Prelude.{AreQuiet, Breaks, BreaksAt, BreaksAtSource, BreaksIn, Comes, EndsAt, Goes, HasHeard, HearsFront, HearsUpTo, IsHeardAll, IsOpened, IsQuiet}
+pub use Rattle.loops.specs.Prelude.{LetsReadWaiting, Meets, Numbers, Outset, Passes, ReadsUpTo, Sits, StandsAt, TellsLine, Turns, Way, Ways, all_sent, answer_to, asked, due, end, exchanged}
+pub use Rattle.loops.specs.Prelude.{next_turn, no_turns, outset, place_by, stage, talk_for, text_by, turns_of, with_item, with_line, LetBothRead}
 pub use Rattle.loops.specs.declared.loops.Pair.{Pair}
 pub use Rattle.std.proofs.lemmas.Result.{on_ok_weaker}
 
@@ -59,16 +55,13 @@ module _ {b : Caller} {p : Place} (s : StandsAt b p) where
     heard_whole : (h.unheard ≡ []) ⊎ ((hears_all here h.fed).knows.over ≡ true) → (hears_all here h.fed ≡ hears_all p.rest piece)
         × ((hears_all p.rest piece).knows.over ≡ false → state at_client s.item h.fed ≡ state at_client p.rest.item piece)
     heard_whole (inl none) =
-        let same : h.fed ≡ piece = sym (h.parts ∙ ap (λ z. h.fed ++ z) none ∙ append-nil h.fed) in
-        let gone = λ (o : p.rest.knows.over ≡ true). over_tale p.rest.wish p.rest.knows (outputs at_client p.rest.item piece) o in
-        let goes = λ (e : (hears_all p.rest piece).knows.over ≡ false).
-        false_from_ne_true p.rest.knows.over (λ o. true≢false (sym (ap (λ (t : Tale). t.knows.over) (gone o) ∙ o) ∙ e)) in
-        (rw same (hears_alike piece), λ e. rw (s.same (goes e), same) refl)
+        let same : h.fed ≡ piece = sym (rw (none, append-nil) at h.parts) in
+        let gone = over_tale p.rest.wish p.rest.knows (outputs at_client p.rest.item piece) in
+        (rw same (hears_alike piece), λ e. rw (s.same (grind (arith, gone, e)), same) refl)
     heard_whole (inr over) =
         let gone = over_tale p.rest.wish (hears_all here h.fed).knows (outputs at_client (state at_client s.item h.fed) h.unheard) over in
         let all : hears_all here (h.fed ++ h.unheard) ≡ hears_all here h.fed = rw (hears_all-append here h.fed h.unheard, gone, append-nil) refl in
-        let tale = sym all ∙ ap (hears_all here) (sym h.parts) ∙ hears_alike piece in
-        (tale, λ e. absurd (true≢false (sym over ∙ ap (λ (t : Tale). t.knows.over) tale ∙ e)))
+        let tale = sym all ∙ ap (hears_all here) (sym h.parts) ∙ hears_alike piece in (tale, λ e. grind (arith, over, tale, e))
 
   -- as far as it was fed
   pub heard_as_fed : {piece : List ℕ} {notes : List Note} {Now : ClientRest → Type 0} (c : Caller) (x y : Option (List ℕ)) (fed : Result (Unit {0}) StreamFault)
@@ -113,14 +106,24 @@ source_after {a = a} {b = b} {c = c} {xs = xs} h (inr k) =
 
 -- ---- while an answer is heard
 
-module _ {o : Outset} {heard : List ℕ} {mid : Way} {x : Option (List ℕ)} {c : Caller} (h : HasHeard o heard mid x c) where
-  -- nothing more was heard, though some was read
-  pub reads_none : {left : Option (List ℕ)} (rest whole unheard : List ℕ) → heard ++ rest ≡ whole → Consumes mid.left left unheard → length unheard ≤ max_piece
-      → HearsUpTo o whole left x
-  reads_none {left = left} rest whole unheard parts gave few =
-      let read = subst (Consumes o.way.left left) (append_assoc o.behind heard unheard) (Consumes-trans o.way.left mid.left left _ _ h.passes.gave gave) in
-      let prints = front_whole o.out x _ h.printed in
-      record { hears = record { heard = heard; rest = rest; parts = parts; prints = prints }; unheard = unheard; read = read; few = few }
+abbrev pub more_front : {p : Place} {part : List ℕ} {x y : Option (List ℕ)} (after : List ℕ) → HearsFront [] p part x y → HearsFront [] p (part ++ after) x y
+more_front after f = record { heard = f.heard; rest = f.rest ++ after; parts = simp (← append_assoc, f.parts); prints = f.prints }
+
+module _ {o : Outset} {heard : List ℕ} {mid : Way} {x : Option (List ℕ)} {c : Caller} (h : HasHeard o heard mid x c) {left : Option (List ℕ)} where
+  -- a beginning of what was read then was heard
+  pub reads_front : {y : Option (List ℕ)} {answer : List ℕ} (whole unheard : List ℕ) (f : HearsFront [] (place_after o.place heard) answer x y)
+      → heard ++ answer ≡ whole → Consumes mid.left left (f.heard ++ unheard) → length unheard ≤ max_piece → HearsUpTo o whole left y
+  reads_front {y = y} whole unheard f parts gave few =
+      let all : (heard ++ f.heard) ++ f.rest ≡ whole = rw (append_assoc heard f.heard f.rest, f.parts) parts in
+      let text = append_assoc o.text (text_of o.place heard) (text_of (place_after o.place heard) f.heard) in
+      let prints = rw (text, ← text_more) at (front_after o.out x y _ _ h.printed f.prints) in
+      let hears : HearsFront o.text o.place whole o.out y = record { heard = heard ++ f.heard; rest = f.rest; parts = all; prints = prints } in
+      let read = Consumes-trans o.way.left mid.left left _ _ h.passes.gave gave in
+      record { hears = hears; unheard = unheard; read = simp append_assoc (simp append_assoc at read); few = few }
+
+  -- nothing more was
+  pub reads_none : (rest whole unheard : List ℕ) → heard ++ rest ≡ whole → Consumes mid.left left unheard → length unheard ≤ max_piece → HearsUpTo o whole left x
+  reads_none rest whole unheard = reads_front whole unheard (record { heard = []; rest = rest; parts = refl; prints = front_whole x x [] (Appends-nil x) })
 
 -- ---- what a session makes of one piece after another, and of one line after another
 
@@ -141,23 +144,26 @@ module _ (S : Setting) (conn : ℕ) (ledger : List EntryView) where
 
   pub answer_more : (s a b : List ℕ) → answer_to S conn ledger s (a ++ b) ≡ answer_to S conn ledger s a ++ answer_to S conn ledger (s ++ a) b
   answer_more s a b =
-      let first = answer_to S conn ledger s a in
-      let second = answer_to S conn ledger (s ++ a) b in
-      let both = sym (answer_is s (a ++ b)) ∙ ap said (sym (append_assoc s a b)) ∙ answer_is (s ++ a) b ∙ ap (λ z. z ++ second) (answer_is s a) in
-      append_cancel_left (said s) _ _ (both ∙ append_assoc (said s) first second)
+      let assoc = append_assoc (said s) (answer_to S conn ledger s a) (answer_to S conn ledger (s ++ a) b) in
+      append_cancel_left (said s) _ _ (cc (answer_is s (a ++ b), append_assoc s a b, answer_is (s ++ a) b, answer_is s a, assoc))
 
   -- one line after another
   abbrev At : List (ℕ × ScriptRequestView) → Type 0
   At ls = IsQuiet (turns_of S conn ledger ls)
 
-  pub lines_more : (Came : Turns → Type 0) (ls : List (ℕ × ScriptRequestView)) (l : ℕ × ScriptRequestView) → AreQuiet S conn ledger ls
-      → (let t = exchanged S conn ledger (with_line (turns_of S conn ledger ls) l) in Came t × IsQuiet t)
-      → Came (turns_of S conn ledger (ls ++ l ∷ [])) × AreQuiet S conn ledger (ls ++ l ∷ [])
-  lines_more Came ls l before now =
-      let same = sym (ap (exchanged S conn ledger) (fold-append (next_turn S conn ledger) no_turns ls (l ∷ []))) in
-      let all = λ (n : ℕ) (m : length ls < n). take_all n (ls ++ l ∷ []) (omega (arith, m, length-append ls (l ∷ []))) in
-      let last = λ (n : ℕ) (m : length ls < n). subst At (sym (all n m)) (subst IsQuiet same now.1) in
-      (subst Came same now.0, λ n. ⊎_elim (last n) (λ m. subst At (sym (take-append-le n ls (l ∷ []) m)) (before n)) (cases_lt (length ls) n))
+  module _ (ls : List (ℕ × ScriptRequestView)) (l : ℕ × ScriptRequestView) (rest all : List (ℕ × ScriptRequestView)) (parts : ls ++ l ∷ rest ≡ all) where
+    pub lines_more : (Came : Turns → Type 0) → AreQuiet S conn ledger ls
+        → (let t = exchanged S conn ledger (with_line (turns_of S conn ledger ls) l) in Came t × IsQuiet t)
+        → (done : List (ℕ × ScriptRequestView)) × (done ++ rest ≡ all) × Came (turns_of S conn ledger done) × AreQuiet S conn ledger done
+    lines_more Came before now =
+        let same = sym (fold-append (next_turn S conn ledger) no_turns ls (l ∷ [])) in
+        let so = subst (λ t. Came (exchanged S conn ledger t) × IsQuiet (exchanged S conn ledger t)) same now in
+        let last = λ (n : ℕ) (m : length ls < n). subst At (sym (take_all n (ls ++ l ∷ []) (omega (arith, m, length-append ls (l ∷ []))))) so.1 in
+        let some = λ (n : ℕ) (m : n ≤ length ls). subst At (sym (take-append-le n ls (l ∷ []) m)) (before n) in
+        (ls ++ l ∷ [], append_assoc ls (l ∷ []) rest ∙ parts, so.0, λ n. ⊎_elim (last n) (some n) (cases_lt (length ls) n))
+
+    pub lines_break : (There : Turns → Type 0) → There (with_line (turns_of S conn ledger ls) l) → (n : ℕ) × There (stage S conn ledger (take n all))
+    lines_break There k = (length (ls ++ l ∷ []), rw (← parts, ← append_assoc ls (l ∷ []) rest, take-append_seam (ls ++ l ∷ []) rest, fold-append) k)
 
 -- the session, as a talk leaves it
 abbrev Left : {G : Type 0} → Rest G → ℕ → (Rest G → Type 0) → List ℕ → Talk → Type 0
@@ -177,17 +183,13 @@ module _ {G : Type 0} (r : Rest G) (conn : ℕ) (S : Setting) (Now : Rest G → 
       let parts = append_assoc up h.front h.rest ∙ ap (λ z. up ++ z) h.parts in
       record { front = up ++ h.front; rest = h.rest; parts = parts; stands = h.stands; over = h.over }
 
--- a request was submitted, or refused
-pub line_put : (p : Place) (q : RequestView) (n : ℕ) (x y : Option (List ℕ)) (Now : Place → Type 0) (b : Bool) → Submits p q n x y Now (Ok b)
-    → Appends x y (text_by (refuses p.rest.knows q) n) × Now (place_by (refuses p.rest.knows q) p q)
-line_put p q n x y Now true h = rw (h.0, h.1) (Appends-nil x, h.2)
-line_put p q n x y Now false h = rw (h.2, h.3) (h.4, h.5)
-
--- or the line of its refusal was cut
-pub line_cut : (p : Place) (q : RequestView) (n : ℕ) (x y : Option (List ℕ)) (Now : Place → Type 0) (fault : StreamFault) → Submits p q n x y Now (Err fault)
-    → AppendsFront x y (text_by (refuses p.rest.knows q) n)
-line_cut p q n x y Now fault (at, inl e) = rw e ([], text_by (refuses p.rest.knows q) n, refl, Appends-nil x)
-line_cut p q n x y Now fault (at, inr s) = rw (s.2, s.3) s.4
+-- a request was submitted, or refused; or the line of its refusal was cut
+pub line_by : (p : Place) (q : RequestView) (n : ℕ) (x y : Option (List ℕ)) (Now : Place → Type 0) (result : Result Bool StreamFault) → Submits p q n x y Now result
+    → (let o = refuses p.rest.knows q in MatchResult result (λ _. Appends x y (text_by o n) × Now (place_by o p q)) (λ _. AppendsFront x y (text_by o n)))
+line_by p q n x y Now (Ok true) h = rw (h.0, h.1) (Appends-nil x, h.2)
+line_by p q n x y Now (Ok false) h = rw (h.2, h.3) (h.4, h.5)
+line_by p q n x y Now (Err fault) (at, inl e) = rw e ([], text_by (refuses p.rest.knows q) n, refl, Appends-nil x)
+line_by p q n x y Now (Err fault) (at, inr s) = rw (s.2, s.3) s.4
 
 pub stands_by : {c : Caller} (p : Place) (q : RequestView) (item : Opened) (o : Option SubmitFault) → (p.rest.knows.over ≡ false → item ≡ p.rest.item)
     → IsAt c (place_by o (with_item p item) q) → StandsAt c (place_by o p q)
@@ -228,34 +230,35 @@ breaks_before S conn ledger t gave prints = record {
   few = omega arith;
 }
 
-module _ {G : Type 0} {r : Rest G} {conn : ℕ} {S : Setting} {start a : Ways} {t : Turns} {x : Pair} {Now : Rest G → Type 0} where
+module _ {G : Type 0} {r : Rest G} {conn : ℕ} {S : Setting} {start a : Ways} {x : Pair} {Now : Rest G → Type 0} where
   -- all that the client has to send was taken out
-  pub meets : {c : Caller} {bytes : List ℕ} (max : ℕ) (h : Comes r conn S start a t x Now) → (let was = rest_of x.caller.client in
+  pub meets : {t : Turns} {c : Caller} {bytes : List ℕ} (max : ℕ) (h : Comes r conn S start a t x Now) → (let was = rest_of x.caller.client in
       (bytes ≡ take max was.unsent) × (rest_of c.client ≡ taken_out was max)) → length bytes < max → c.version ≡ x.caller.version
       → (bytes ≡ t.place.rest.unsent) × Meets r conn S start a t [] (record { caller = c; said = x.said; liveness = x.liveness }) Now
-  meets {c = c} {bytes = bytes} max h o l v =
+  meets {t = t} {c = c} {bytes = bytes} max h o l v =
       let old = h.client in
       let was = rest_of x.caller.client in
       let taken = all_taken max was.unsent bytes o.0 l in
       let rest = o.1 ∙ ap (λ (z : List ℕ). record was { unsent = z }) taken.1 ∙ ap (λ (z : ClientRest). record z { unsent = [] }) old.at.fits in
       let stands : StandsAt c (all_sent t.place) = record { item = old.item; at = record { fits = rest; version = v ∙ old.at.version }; same = old.same } in
-      let all = said S conn r.ledger in
-      let none = ap (λ z. drop (length (all t.sent)) (all z)) (append-nil t.sent) ∙ drop-length (all t.sent) in
-      let heard : HasHeard (outset r conn S start t) [] a.down a.out c =
-      record { stands = stands; passes = rw append-nil h.down; printed = rw append-nil h.printed } in
-      let same = taken.0 ∙ ap (λ (z : ClientRest). z.unsent) old.at.fits in
-      (same, record { lives = h.lives; session = rw append-nil h.session; up = rw append-nil h.up; heard = rw none heard })
+      let none : answer_to S conn r.ledger t.sent [] ≡ [] = rw (append-nil, drop-length) refl in (
+        taken.0 ∙ ap (λ (z : ClientRest). z.unsent) old.at.fits,
+        record { lives = h.lives; client = rw none stands; session = rw append-nil h.session; up = rw append-nil h.up; down = rw append-nil h.down; printed = rw (none, append-nil) h.printed },
+      )
 
-  module _ {sent : List ℕ} (m : Meets r conn S start a t sent x Now) where
+  module _ (t : Turns) (sent : List ℕ) (m : Meets r conn S start a t sent x Now) where
     abbrev to : List ℕ → List ℕ → List ℕ
     to = answer_to S conn r.ledger
+
+    pub hears_so : HasHeard (outset r conn S start t) (to t.sent sent) a.down a.out x.caller
+    hears_so = record { stands = m.client; passes = subst (Passes start.down _) (answer_is S conn r.ledger t.sent sent) m.down; printed = m.printed }
 
     due_more : (rest : List ℕ) → sent ++ rest ≡ t.place.rest.unsent → to t.sent sent ++ to (t.sent ++ sent) rest ≡ due S conn r.ledger t
     due_more rest parts = sym (answer_more S conn r.ledger t.sent sent rest) ∙ ap (to t.sent) parts
 
     -- a fault comes
     pub breaks_here : (rest : List ℕ) → sent ++ rest ≡ t.place.rest.unsent → BreaksIn S conn r.ledger start a t
-    breaks_here rest parts = reads_none m.heard (to (t.sent ++ sent) rest) _ [] (due_more rest parts) (Consumes-nil a.down.left) (omega arith)
+    breaks_here rest parts = reads_none hears_so (to (t.sent ++ sent) rest) _ [] (due_more rest parts) (Consumes-nil a.down.left) (omega arith)
 
     -- it is heard, or a fault comes
     pub turn_goes : {Then : Rest G → Type 0} (b : Ways) (y : Pair) (piece after : List ℕ) (result : Result (Unit {0}) StreamFault)
@@ -268,12 +271,13 @@ module _ {G : Type 0} {r : Rest G} {conn : ℕ} {S : Setting} {start a : Ways} {
         → Goes r conn start b Then (Meets r conn S start b t (sent ++ piece) y Then) (BreaksIn S conn r.ledger start b t) result
     turn_goes b y piece after (Ok u) parts lives up s heard read written =
         let same = append_assoc t.sent sent piece in
-        let more = answer_more S conn r.ledger t.sent sent piece in
-        record { lives = lives; session = rw (← same) s; up = rw (← same) (passes_then m.up up); heard = rw more heard }
+        let h = rw (← answer_more S conn r.ledger t.sent sent piece) at heard in
+        let down = subst (Passes start.down _) (sym (answer_is S conn r.ledger t.sent (sent ++ piece))) h.passes in
+        record { lives = lives; client = h.stands; session = rw (← same) s; up = rw (← same) (passes_then m.up up); down = down; printed = h.printed }
     turn_goes b y piece after (Err fault) parts lives up s heard read written =
         let whole = ap (λ z. to t.sent sent ++ z) (sym (answer_more S conn r.ledger (t.sent ++ sent) piece after)) ∙ due_more (piece ++ after) parts in (
           lives,
-          cause_of fault _ _ (λ e. inr (source_after m.heard.passes (read (ap Err e)))) (λ e. inr (written (ap Err e))),
+          cause_of fault _ _ (λ e. inr (source_after hears_so.passes (read (ap Err e)))) (λ e. inr (written (ap Err e))),
           subst (λ z. HearsUpTo (outset r conn S start t) z b.down.left b.out) whole heard,
         )
 
@@ -317,15 +321,16 @@ module _ {G : Type 0} (r : Rest G) (S : Setting) (lines : List (ℕ × ScriptReq
       → ((x : Rest G) → Now x → es ≡ x.ledger) → (result : Result (Unit {0}) StreamFault) → OnOk result (Appends b.out out (entries_text es))
       → OnErr result (AppendsFront b.out out (entries_text es)) → (IsErrOf result ReadFailed → ⊥) → (IsErrOf result WriteFailed → failed ≡ true)
       → EndsAt r S lines Now start (record { up = b.up; down = b.down; out = out; out_failed = failed }) result
-  ends_at {b = b} {p = p} {Now = Now} out h es same (Ok u) told front read written =
-      let left = sits_talk (opened r) r.next S Now (end r S lines).sent p.said.bytes.items p.liveness h.0.session in
-      let text = subst (λ (z : List EntryView). Appends b.out out (entries_text z)) (same _ left.1) told in
-      let printed = Appends-trans start.out b.out out (end r S lines).text _ h.0.printed text in
-      record { unfinished = left.0; printed = printed; up = h.0.up; down = h.0.down; quiet = h.1; now = left.1 }
+  ends_at {b = b} {p = p} {Now = Now} out (h, quiet) es same (Ok u) told front read written =
+      let left = sits_talk (opened r) r.next S Now (end r S lines).sent p.said.bytes.items p.liveness h.session in
+      let printed = Appends-trans start.out b.out out _ _ h.printed (rw (same _ left.1) at told) in
+      record { unfinished = left.0; printed = printed; up = h.up; down = h.down; quiet = quiet; now = left.1 }
   ends_at {b = b} {p = p} {Now = Now} out (h, quiet) es same (Err fault) told front read written =
       let left = sits_talk (opened r) r.next S Now (end r S lines).sent p.said.bytes.items p.liveness h.session in
-      let text = subst (λ (z : List EntryView). AppendsFront b.out out (entries_text z)) (same _ left.1) front in
-      let begins = front_after start.out b.out out (end r S lines).text _ h.printed text in (
+      let entries = rw (same _ left.1) at front in (
         cause_of fault _ _ (λ z. absurd (read (ap Err z))) (λ z. inr (inr (written (ap Err z)))),
-        record { begins = begins; printed = inr (record { up = h.up; down = h.down; out = b.out; printed = h.printed; entries = text }) },
+        record {
+          begins = front_after start.out b.out out _ _ h.printed entries;
+          printed = inr (record { up = h.up; down = h.down; out = b.out; printed = h.printed; entries = entries });
+        },
       )

@@ -13,7 +13,7 @@ use Rattle.prints.specs.declared.stop.StopReason.{StopReason}
 use Rattle.prints.specs.declared.stop.StopReason.TheVariants.{Unreadable, Broken}
 use Rattle.prints.specs.Stopping.{Gets, IsStopOf, stop_text}
 use Rattle.shells.specs.Talking.{Place, IsAt, text_of, place_after}
-use Rattle.loops.specs.Turns.{Turns, no_turns, AreQuiet, all_sent, answer_to, talk_for, turns_of}
+use Rattle.loops.specs.Turns.{Turns, no_turns, AreQuiet, all_sent, given, talk_for, turns_of}
 use Rattle.loops.specs.Ways.{Way, Ways}
 use Rattle.loops.specs.Passing.{FailsToRead, FailsToWrite, Passes}
 use Rattle.server.specs.Serving.{Rest, find, opened}
@@ -136,12 +136,8 @@ module _ {G : Type 0} (r : Rest G) (conn : ℕ) (S : Setting) where
   }
 
   -- In that exchange these bytes were sent of all that the client has to send, and all that is answered to them is heard.
-  pub record Meets (start now : Ways) (t : Turns) (sent : List ℕ) (pair : Pair) (Now : Rest G → Type 0) : Type 0
-    where
-      pub lives : Grows r conn Now
-      pub session : Sits Now (t.sent ++ sent) pair.said.bytes.items pair.liveness
-      pub up : Passes start.up now.up (t.sent ++ sent)
-      pub heard : HasHeard (outset start t) (answer_to S conn r.ledger t.sent sent) now.down now.out pair.caller
+  abbrev pub Meets : Ways → Ways → Turns → List ℕ → Pair → (Rest G → Type 0) → Type 0
+  Meets start now t sent pair Now = Comes start now (given S conn r.ledger t sent) pair Now
 
 -- A session was opened with this number, the next, on a server on which none lives, and a client has heard nothing of it.
 pub record IsOpened {G : Type 0} (r : Rest G) (S : Setting) (conn : ℕ) (pair : Pair) (Now : Rest G → Type 0) : Type 0 where

@@ -52,3 +52,10 @@ abbrev pub LetsReadWaiting : {S : Type 0} → (S → Option (List ℕ))
 LetsReadWaiting {S = S} left may_read start =
     (s : S) (taken : Option (List ℕ)) (count : ℕ) → AreWaiting start taken (left s) count
     → may_read s taken count
+
+-- the sources of both ways do
+abbrev pub LetBothRead : {S T : Type 0} → (S → Option (List ℕ))
+    → (S → Option (List ℕ) → ℕ → Type 0) → (T → Option (List ℕ))
+    → (T → Option (List ℕ) → ℕ → Type 0) → Ways → Type 0
+LetBothRead near may_near far may_far start =
+    LetsReadWaiting near may_near start.down × LetsReadWaiting far may_far start.up

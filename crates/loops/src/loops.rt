@@ -2,7 +2,7 @@
 ghost use Rattle.std.specs.Prelude.{◌≡◌, ◌⊎◌, ◌<◌, ◌++◌, ℕ, List, [], drop, None, IsSome, IfErr, OnOk, MatchResult};
 ghost use Rattle.server.specs.Serving.{Rest, find, setting};
 ghost use Rattle.server.specs.Views.{Fits};
-ghost use Rattle.loops.specs.Passing.{FailsToRead, FailsToWrite, LetsReadWaiting};
+ghost use Rattle.loops.specs.Passing.{FailsToRead, FailsToWrite, LetBothRead, LetsReadWaiting};
 ghost use Rattle.loops.specs.Looping.{Comes, Goes, HasCause, HasLooped, IsOpened, Loops, Meets, Numbers, RunsNothing, TellsLine};
 ghost use Rattle.loops.specs.Breaking.{Breaks, BreaksIn, EndsAt, Exchanges, RunsLines};
 ghost use Rattle.one_by_one.specs.Serving.{IsVacant};
@@ -54,11 +54,9 @@ fn turn<E: Engine, G: Gate, A: PeerSource, B: Sink, C: PeerSource, D: Sink, O: S
     ways: &mut BothWays<A, B, C, D, O>,
 ) -> Result<(), StreamFault>
     requires { IsLive E.entries conn server.old
-        × LetsReadWaiting A.left A.may_read ways.old.at.down
-        × LetsReadWaiting C.left C.may_read ways.old.at.up }
+        × LetBothRead A.left A.may_read C.left C.may_read ways.old.at }
     ensures on { OnOk result (IsLive E.entries conn server.new
-        × LetsReadWaiting A.left A.may_read ways.new.at.down
-        × LetsReadWaiting C.left C.may_read ways.new.at.up) }
+        × LetBothRead A.left A.may_read C.left C.may_read ways.new.at) }
     ensures goes { (r : Rest G) (start : Ways) (t : Turns) (sent after : List ℕ)
         → IsSome (find conn r.sessions) → sent ++ (piece.now ++ after) ≡ t.place.rest.unsent
         → Meets r conn (setting E.answer G.welcomes r) start ways.old.at t sent pair.old
@@ -89,11 +87,9 @@ fn exchange<E: Engine, G: Gate, A: PeerSource, B: Sink, C: PeerSource, D: Sink, 
     ways: &mut BothWays<A, B, C, D, O>,
 ) -> Result<(), StreamFault>
     requires { IsLive E.entries conn server.old
-        × LetsReadWaiting A.left A.may_read ways.old.at.down
-        × LetsReadWaiting C.left C.may_read ways.old.at.up }
+        × LetBothRead A.left A.may_read C.left C.may_read ways.old.at }
     ensures on { OnOk result (IsLive E.entries conn server.new
-        × LetsReadWaiting A.left A.may_read ways.new.at.down
-        × LetsReadWaiting C.left C.may_read ways.new.at.up) }
+        × LetBothRead A.left A.may_read C.left C.may_read ways.new.at) }
     ensures goes { (r : Rest G) (start : Ways) (t : Turns) → IsSome (find conn r.sessions)
         → Comes r conn (setting E.answer G.welcomes r) start ways.old.at t pair.old
         (Fits E.entries server.old)
@@ -127,11 +123,9 @@ fn run_line<E: Engine, G: Gate, A: PeerSource, B: Sink, C: PeerSource, D: Sink, 
     ways: &mut BothWays<A, B, C, D, O>,
 ) -> Result<(), StreamFault>
     requires { IsLive E.entries conn server.old
-        × LetsReadWaiting A.left A.may_read ways.old.at.down
-        × LetsReadWaiting C.left C.may_read ways.old.at.up }
+        × LetBothRead A.left A.may_read C.left C.may_read ways.old.at }
     ensures on { OnOk result (IsLive E.entries conn server.new
-        × LetsReadWaiting A.left A.may_read ways.new.at.down
-        × LetsReadWaiting C.left C.may_read ways.new.at.up) }
+        × LetBothRead A.left A.may_read C.left C.may_read ways.new.at) }
     ensures goes { (r : Rest G) (start : Ways) (t : Turns) → IsSome (find conn r.sessions)
         → Comes r conn (setting E.answer G.welcomes r) start ways.old.at t pair.old
         (Fits E.entries server.old)
@@ -155,8 +149,7 @@ fn run_lines<E: Engine, G: Gate, A: PeerSource, B: Sink, C: PeerSource, D: Sink,
     ways: &mut BothWays<A, B, C, D, O>,
 ) -> Result<(), StreamFault>
     requires { IsLive E.entries conn server.old
-        × LetsReadWaiting A.left A.may_read ways.old.at.down
-        × LetsReadWaiting C.left C.may_read ways.old.at.up }
+        × LetBothRead A.left A.may_read C.left C.may_read ways.old.at }
     ensures { (r : Rest G) (start : Ways) → IsSome (find conn r.sessions)
         → Comes r conn (setting E.answer G.welcomes r) start ways.old.at no_turns pair.old
         (Fits E.entries server.old)

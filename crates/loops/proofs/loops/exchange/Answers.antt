@@ -1,5 +1,4 @@
-use Rattle.loops.proofs.Looped.{[], all_done, answer_is, ap, append_assoc, arith, awaits, breaks_before, breaks_here, ClientRest, empty_nil, front_whole, meets}
-use Rattle.loops.proofs.Looped.{Passes, refl, setting, subst, sym, ◌++◌, ◌∙◌}
+use Rattle.loops.proofs.Looped.{[], all_done, ap, append_assoc, arith, awaits, breaks_before, breaks_here, ClientRest, empty_nil, front_whole, meets, refl, setting, sym, ◌++◌, ◌∙◌}
 use Rattle.loops.proofs.loops.exchange.Goals as goal
 
 pub returns-in_default-clause-goes : goal.returns-in_default-clause-goes
@@ -25,17 +24,18 @@ loop-rest-preserved g c = record {
       (p.0 ++ c.next_part.result.0.now, append_assoc p.0 _ after ∙ parts, c.in-Ok-turn.ensures.goes r start t p.0 after i parts p.2);
 }
 
+pub returns-in-Err-clause-goes : goal.returns-in-Err-clause-goes
+returns-in-Err-clause-goes g c = λ r start t i h.
+    let p = c.loop-rest.invariant.goes r start t i h in
+    c.in-Err.ensures.goes r start t p.0 _ i (ap (λ z. p.0 ++ z) c.next_part.ensures.parts ∙ p.1) p.2
+
 pub returns-clause-goes : goal.returns-clause-goes
 returns-clause-goes g c = λ r start t i h.
     let p = c.loop-rest.invariant.goes r start t i h in
-    let m = p.2 in
     let none = empty_nil c.loop-rest.rest.now c.is_empty.result c.is_empty.ensures c.loop-rest-test.false in
-    let quiet = sym (c.awaits.ensures ∙ ap (λ (r : ClientRest). awaits r.knows) m.heard.stands.at.fits) ∙ c.if-awaits.false in
-    let said = answer_is (setting g.E.Engine.answer g.G.Gate.welcomes r) c.args.conn r.ledger t.sent p.0 in
-    let down = subst (Passes start.down _) (sym said) m.heard.passes in
-    rw (← all_done p.0 c.loop-rest.rest.now t.place.rest.unsent none p.1)
-    (record { lives = m.lives; client = m.heard.stands; session = m.session; up = m.up; down = down; printed = m.heard.printed }, quiet)
+    let quiet = sym (c.awaits.ensures ∙ ap (λ (r : ClientRest). awaits r.knows) p.2.client.at.fits) ∙ c.if-awaits.false in
+    rw (← all_done p.0 c.loop-rest.rest.now t.place.rest.unsent none p.1) (p.2, quiet)
 
 pub returns-then-awaits-clause-goes : goal.returns-then-awaits-clause-goes
 returns-then-awaits-clause-goes g c = λ r start t i h.
-    let p = c.loop-rest.invariant.goes r start t i h in (p.2.lives, tt, breaks_here p.2 c.loop-rest.rest.now p.1)
+    let p = c.loop-rest.invariant.goes r start t i h in (p.2.lives, tt, breaks_here t p.0 p.2 c.loop-rest.rest.now p.1)

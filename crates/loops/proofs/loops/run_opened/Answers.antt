@@ -7,7 +7,7 @@ returns-in-Err g c = λ r f none. rw c.in-Err.ensures.fault (inl (c.in-Err.ensur
 
 pub run_lines-requires : goal.run_lines-requires
 run_lines-requires g c =
-    let v = c.requires.vacant in let o = c.in-Ok.ensures.opens v.0 v.1 v.2 in ((opened v.0, o.now, o.found), c.requires.near, c.requires.far)
+    let v = c.requires.vacant in let o = c.in-Ok.ensures.opens v.0 v.1 v.2 in ((opened v.0, o.now, o.found), (c.requires.near, c.requires.far))
 
 pub returns-in-Err-run_lines : goal.returns-in-Err-run_lines
 returns-in-Err-run_lines g c = λ r f none.

@@ -1,5 +1,4 @@
-use Rattle.loops.proofs.Looped.{Err, Fits, List, answer_to, ap, breaks_here, cause_of, drop, grows_by, inl, length, on_ok_weaker, outset, setting, sits_talk}
-use Rattle.loops.proofs.Looped.{source_after, talk_for, turn_goes, ℕ, ◌++◌, ◌∙◌}
+use Rattle.loops.proofs.Looped.{Err, Fits, answer_to, ap, breaks_here, cause_of, grows_by, hears_so, inl, on_ok_weaker, outset, setting, sits_talk, source_after, turn_goes, ◌++◌, ◌≡◌}
 use Rattle.loops.proofs.loops.turn.Goals as goal
 
 pub returns-in-Err-clause-goes : goal.returns-in-Err-clause-goes
@@ -8,17 +7,17 @@ returns-in-Err-clause-goes g c = λ r start t sent after i parts m0.
     let k = c.in-Err.ensures in (
       m.lives,
       cause_of c.in-Err.fault _ _ (λ e. inl (source_after m.up (k.read (ap Err e)))) (λ e. inl (k.written (ap Err e))),
-      breaks_here m (c.args.piece.now ++ after) parts,
+      breaks_here t sent m (c.args.piece.now ++ after) parts,
     )
 
 pub returns-in-Err-give-clause-goes : goal.returns-in-Err-give-clause-goes
 returns-in-Err-give-clause-goes g c = λ r start t sent after i parts m0.
     let m = rw (← c.ways.view_is) at m0 in
     let lives = grows_by c.args.conn (Fits g.E.Engine.entries c.args.server.now) (Fits g.E.Engine.entries c.give.new.server) c.give.ensures.grows r i m.lives in
-    rw c.in-Err-give.ensures.fault (lives, tt, breaks_here m (c.args.piece.now ++ after) parts)
+    rw c.in-Err-give.ensures.fault (lives, tt, breaks_here t sent m (c.args.piece.now ++ after) parts)
 
 pub returns-clause-on : goal.returns-clause-on
-returns-clause-on g c = on_ok_weaker c.hand_over.result (λ near. (c.give.ensures.live, near, c.in-Ok.ensures.lets)) c.hand_over.ensures.lets
+returns-clause-on g c = on_ok_weaker c.hand_over.result (λ near. (c.give.ensures.live, (near, c.in-Ok.ensures.lets))) c.hand_over.ensures.lets
 
 pub returns-clause-goes : goal.returns-clause-goes
 returns-clause-goes g c = λ r start t sent after i parts m0.
@@ -29,11 +28,9 @@ returns-clause-goes g c = λ r start t sent after i parts m0.
     let to = answer_to S c.args.conn r.ledger in
     let lives = grows_by c.args.conn Was Then c.give.ensures.grows r i m.lives in
     let s = c.in-Ok-give.ensures.sits r (t.sent ++ sent) i m.session in
-    let said = c.give.new.said.bytes.items in
     let old = sits_talk r c.args.conn S Was (t.sent ++ sent) _ _ m.session in
     let new = sits_talk r c.args.conn S Then ((t.sent ++ sent) ++ c.args.piece.now) _ _ s in
-    let behind = c.put_out_behind-answer.ensures ∙ ap (λ (z : List ℕ). drop (length z) said) (c.bytes-before.ensures ∙ old.2) in
-    let due = behind ∙ ap (drop (length (talk_for S c.args.conn r.ledger (t.sent ++ sent)).out)) new.2 in
+    let due : c.put_out_behind-answer.result.now ≡ to (t.sent ++ sent) c.args.piece.now = cc (c.put_out_behind-answer.ensures, c.bytes-before.ensures, old.2, new.2) in
     let k = c.hand_over.ensures in
-    let heard = rw due at (k.hears (outset r c.args.conn S start t) (to t.sent sent) (to ((t.sent ++ sent) ++ c.args.piece.now) after) m.heard) in
-    turn_goes m _ _ c.args.piece.now after c.hand_over.result parts lives c.in-Ok.ensures.passes s heard k.read k.written
+    let heard = rw due at (k.hears (outset r c.args.conn S start t) (to t.sent sent) (to ((t.sent ++ sent) ++ c.args.piece.now) after) (hears_so t sent m)) in
+    turn_goes t sent m _ _ c.args.piece.now after c.hand_over.result parts lives c.in-Ok.ensures.passes s heard k.read k.written

@@ -1,6 +1,5 @@
-use Rattle.loops.proofs.Looped.{Appends-trans, AppendsFront, Consumes, Consumes-trans, [], all_done, ap, append-nil, append_assoc, arith, empty_nil}
-use Rattle.loops.proofs.Looped.{front_after, length, length-append, max_piece, passes_none, passes_then, place_after, place_more, reads_none, refl}
-use Rattle.loops.proofs.Looped.{source_after, subst, sym, text_more, text_of, ◌++◌, ◌∙◌, ◌≡◌, ◌≤◌}
+use Rattle.loops.proofs.Looped.{Appends-trans, [], all_done, ap, append-nil, append_assoc, arith, empty_nil, length, length-append, max_piece, more_front, passes_none, passes_then}
+use Rattle.loops.proofs.Looped.{place_after, place_more, reads_front, reads_none, refl, source_after, text_more, text_of, ◌++◌, ◌∙◌, ◌≡◌, ◌≤◌}
 use Rattle.loops.proofs.passing.hand_over.Goals as goal
 
 pub loop-rest-init : goal.loop-rest-init
@@ -45,18 +44,11 @@ pub returns-in-Err-hear-clause-hears : goal.returns-in-Err-hear-clause-hears
 returns-in-Err-hear-clause-hears g c = λ o x after h.
     let so = c.loop-rest.invariant in
     let k = so.heard o x h in
-    let heard = x ++ so.done in
-    let part = c.next_part.result.0.now in
-    let some = c.in-Err-hear.ensures.hears (place_after o.place heard) k.stands in
-    let all : (heard ++ some.heard) ++ (some.rest ++ (c.next_part.result.1.now ++ after)) ≡ x ++ (c.args.bytes.now ++ after)
-    = rw (← so.parts, ← c.next_part.ensures.parts, ← some.parts) (simp append_assoc) in
-    let text = append_assoc o.text (text_of o.place heard) _ ∙ ap (λ z. o.text ++ z) (sym (text_more o.place heard some.heard)) in
-    let read : Consumes o.way.left _ (o.behind ++ ((heard ++ some.heard) ++ some.rest)) =
-    rw (append_assoc heard some.heard some.rest, some.parts, ← append_assoc o.behind heard part)
-    (Consumes-trans _ _ _ _ _ k.passes.gave c.in-Ok.ensures.passes.gave) in
-    let prints = subst (AppendsFront o.out _) text (front_after o.out _ _ _ _ k.printed some.prints) in
+    let some = c.in-Err-hear.ensures.hears (place_after o.place (x ++ so.done)) k.stands in
+    let all : (x ++ so.done) ++ (c.next_part.result.0.now ++ (c.next_part.result.1.now ++ after)) ≡ x ++ (c.args.bytes.now ++ after)
+    = rw (← so.parts, ← c.next_part.ensures.parts) (simp append_assoc) in
     let few : length some.rest ≤ max_piece = omega (arith, c.next_part.ensures.short, ap length some.parts, length-append some.heard some.rest) in
-    record { hears = record { heard = heard ++ some.heard; rest = _; parts = all; prints = prints }; unheard = some.rest; read = read; few = few }
+    reads_front k _ some.rest (more_front _ some) all (rw some.parts c.in-Ok.ensures.passes.gave) few
 
 pub returns-clause-hears : goal.returns-clause-hears
 returns-clause-hears g c = λ o x after h.
