@@ -27,8 +27,7 @@ moves_sent fault a now failed bytes out w sound = search (moves_none {fault = fa
     puts : (f : Option StreamFault) → Writes bytes out f a.written now → Puts (is_printed f) a.written now bytes
     puts (Some Memory) w = record { front = w; all = λ e. absurd cc }
     puts (Some WriteFailed) w = record { front = w.0; all = λ e. absurd cc }
-    puts (Some ReadFailed) w = puts_whole true _ _ _ w.0
-    puts None w = puts_whole true _ _ _ w.0
+    puts _ w = puts_whole true _ _ _ w.0
 
 -- one log after another
 abbrev pub and_then : Log → Log → Log

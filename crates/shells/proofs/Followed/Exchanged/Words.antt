@@ -9,8 +9,8 @@ pub use Rattle.std.specs.Io.KnownBytes.{Appends, Consumes, IsAtEnd}
 pub use Rattle.std.specs.Result.{result_err, result_and}
 pub use Rattle.wire.specs.declared.Version.{Version}
 pub use Rattle.messages.specs.Prelude.{Heard, RequestView, ResponseView}
-pub use Rattle.client.specs.Prelude.{Fits, Hearing, Knows, Note, Rest, Summary, after_drop, asking_bytes, awaits, heard_as, hears_item, losses, lost_outcome, note, refuses, taken_out}
-pub use Rattle.client.specs.Prelude.{rest_of, losses_from}
+pub use Rattle.client.specs.Prelude.{Fits, Hearing, Knows, Note, Rest, Summary, asking_bytes, awaits, heard_as, hears_item, losses, lost_outcome, note, refuses, taken_out, rest_of}
+pub use Rattle.client.specs.Prelude.{losses_from}
 pub use Rattle.streams.proofs.Fronts.{front_after, front_whole}
 pub use Rattle.streams.specs.Prelude.{StaysSound, UnlessTold, AppendsFront}
 pub use Rattle.streams.specs.declared.fault.StreamFault.{StreamFault}
@@ -19,7 +19,7 @@ pub use Rattle.asks.proofs.Asked.{unanswered_waits, unless_err, all_taken, await
 pub use Rattle.asks.specs.Prelude.{FeedsPiece, HearsPiece, ReadsPiece, Tale, Writes, after_all, after_notes, all_answered, hears_all, notes_of, tale_of}
 pub use Rattle.scripts.specs.Prelude.{ScriptRequestView, Text, filled_from, filled_lines, lines, meant, request_line_of, said_requests, script_request_view}
 pub use Rattle.prints.proofs.Gets.{gets_none, gets_then, front_in, cause_of}
-pub use Rattle.prints.specs.Prelude.{Gets, IsStopOf, PutsLine, failure_line, heard_line, note_text, outcome_name, phase_name, row_text, stop_status, stop_text, entries_text, lost_line}
+pub use Rattle.prints.specs.Prelude.{Gets, IsStopOf, PutsLine, heard_line, note_text, outcome_name, phase_name, row_text, stop_status, stop_text, entries_text, lost_line}
 pub use Rattle.prints.specs.declared.stop.StopReason.TheVariants.{Broken, Unreadable}
 pub use Rattle.shells.specs.Prelude.{Accounts, AreDone, Asks, Does, DoesMore, EachHasALine, Exchanges, Has, HasFate, HeardUpTo, IsAt, IsCut, IsFront, Log, Moves, Place, Prints, CutsBy}
 pub use Rattle.shells.specs.Prelude.{Progress, Puts, PutsNotes, Reaches, StopsIn, Streams, Submits, Talked, TalksLine, a_request, answers_line, asks_answer, asks_version, at_loss}

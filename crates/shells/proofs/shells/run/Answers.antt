@@ -1,6 +1,6 @@
-use Rattle.shells.proofs.Followed.{◌∙◌, ◌++◌, ◌<◌, [], ap, refl, append-nil, length, take, rules, false≢true, Consumes-kept, Consumes-nil, Consumes-trans}
-use Rattle.shells.proofs.Followed.{ReadFailed, Broken, Rest, result_err, asks_version, fails_first, first_place, greeting, opens, parted, at_end, does_all}
-use Rattle.shells.proofs.Followed.{not-suc-le-zero, does_last, does_none, moves_none, moves_told, nothing_done, unless_so}
+use Rattle.shells.proofs.Followed.{◌∙◌, [], ap, refl, append-nil, rules, false≢true, Consumes-kept, Consumes-nil, Consumes-trans, ReadFailed, Broken, Rest, result_err}
+use Rattle.shells.proofs.Followed.{asks_version, fails_first, first_place, greeting, opens, parted, at_end, does_all, not-suc-le-zero, does_last, does_none, moves_none, moves_told}
+use Rattle.shells.proofs.Followed.{nothing_done, unless_so}
 use Rattle.shells.proofs.shells.run.Goals as goal
 
 pub ask-requires : goal.ask-requires
@@ -44,11 +44,10 @@ returns-in_default-clause-runs g c =
 pub returns-then-len-eq0-clause-runs : goal.returns-then-len-eq0-clause-runs
 returns-then-len-eq0-clause-runs g c =
     let so = c.loop-len.invariant in
-    let some : 0 < length c.read.new.buffer = search rules in
     let bytes = c.in-Ok-read.ensures.bytes in
     let read = rw (c.if-len-eq0.true, append-nil) at (Consumes-trans _ _ _ so.script _ so.read bytes.0) in
     let does = does_last (result_err c.send.result) _ so.progress (c.send.ensures.sends _ so.progress.done so.progress.reaches) in
-    record { script = so.script; read = read; end = λ _. bytes.1 c.if-len-eq0.true some; does = does }
+    record { script = so.script; read = read; end = λ _. bytes.1 c.if-len-eq0.true (search rules); does = does }
 
 pub loop-len-preserved : goal.loop-len-preserved
 loop-len-preserved g c =

@@ -1,5 +1,4 @@
-use Rattle.shells.proofs.Followed.{all_done, ◌∙◌, ◌++◌, ◌∷◌, [], append_assoc, rules, refl, sym, ap, map, map-append, nil_from_length, note, notes_none}
-use Rattle.shells.proofs.Followed.{versions_more}
+use Rattle.shells.proofs.Followed.{all_done, ◌∙◌, ◌++◌, ◌∷◌, [], append_assoc, rules, refl, sym, ap, map, map-append, nil_from_length, note, notes_none, versions_more}
 use Rattle.shells.proofs.caller.Caller.put_all.Goals as goal
 
 pub loop-one-init : goal.loop-one-init

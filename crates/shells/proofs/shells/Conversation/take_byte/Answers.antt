@@ -1,5 +1,4 @@
-use Rattle.shells.proofs.Followed.{All-push, ◌==◌, ◌≡◌, ◌+◌, ◌++◌, ◌∷◌, append_assoc, false, ne_eqb, not-suc-le-zero, rules, Memory, Broken, at_newline}
-use Rattle.shells.proofs.Followed.{does_none, stops}
+use Rattle.shells.proofs.Followed.{All-push, ◌==◌, ◌≡◌, ◌+◌, ◌++◌, ◌∷◌, append_assoc, false, ne_eqb, not-suc-le-zero, rules, Memory, Broken, at_newline, does_none, stops}
 use Rattle.shells.proofs.shells.Conversation.take_byte.Goals as goal
 
 pub returns-in-Ok-clause-takes : goal.returns-in-Ok-clause-takes
@@ -23,11 +22,10 @@ pub returns-clause-takes : goal.returns-clause-takes
 returns-clause-takes g c = λ start script p.
     let number : c.in-Some.next ≡ c.args.self.now.number + 1 = search rules in
     let none = c.clear.ensures.items in
-    let reaches = c.in-Ok-send.ensures.sends start p.done p.reaches in
     rw c.if-byte-ne10.false
     (record {
       done = _;
-      reaches = reaches;
+      reaches = c.in-Ok-send.ensures.sends start p.done p.reaches;
       begun = rw none (λ k d l. absurd (not-suc-le-zero l));
       follow = λ more. rw (number, none) (simp append_assoc (simp append_assoc at (at_newline p more)));
     })
