@@ -1,10 +1,10 @@
 -- What two ends have come to, and how far they have where a fault breaks them off.
 pub use Rattle.shells.proofs.Followed.Exchanged.Words.{[], after_all, all_done, all_taken, ap, append-nil, append_assoc, append_cancel_left, Appends, Appends-nil, Appends-trans}
-pub use Rattle.shells.proofs.Followed.Exchanged.Words.{AppendsFront, arith, at_client, at_server, awaits, Bool, Broken, bytes_eq, cases_Bool, cases_lt, cause_of, Consumes, Consumes-nil}
-pub use Rattle.shells.proofs.Followed.Exchanged.Words.{Consumes-trans, drop, empty_nil, entries_text, Err, false, FeedsPiece, first_place, fold, front_after, front_in, front_whole, Gets}
-pub use Rattle.shells.proofs.Followed.Exchanged.Words.{hears_all, inl, inr, is_ok, IsAt, IsErrOf, IsSome, Item, items_received, length, length-append, length-take, length-take-le, List, map}
-pub use Rattle.shells.proofs.Followed.Exchanged.Words.{MatchResult, Memory, nil_from_length, None, not-false, Note, note, note_text, notes_text, Ok, OnErr, OnOk, Opened, Option, outputs}
-pub use Rattle.shells.proofs.Followed.Exchanged.Words.{Place, place_after, PutsLine, ReadFailed, refl, refuses, RequestView, Rest as ClientRest, rest_of, Result, rules, said_requests}
+pub use Rattle.shells.proofs.Followed.Exchanged.Words.{AppendsFront, arith, at_client, at_server, awaits, Bool, Broken, bytes_eq, cases_lt, cause_of, Consumes, Consumes-nil, Consumes-trans}
+pub use Rattle.shells.proofs.Followed.Exchanged.Words.{drop, empty_nil, entries_text, Err, false, FeedsPiece, first_place, fold, front_after, front_in, front_whole, Gets, hears_all, inl}
+pub use Rattle.shells.proofs.Followed.Exchanged.Words.{inr, is_ok, IsAt, IsErrOf, IsSome, Item, items_received, length, length-append, length-take, length-take-le, List, map, MatchResult}
+pub use Rattle.shells.proofs.Followed.Exchanged.Words.{Memory, nil_from_length, None, not-false, Note, note, note_text, notes_text, Ok, OnErr, OnOk, Opened, Option, outputs, Place}
+pub use Rattle.shells.proofs.Followed.Exchanged.Words.{place_after, PutsLine, ReadFailed, refl, refuses, RequestView, Rest as ClientRest, rest_of, Result, rules, said_requests}
 pub use Rattle.shells.proofs.Followed.Exchanged.Words.{script_request_view, ScriptRequestView, Some, state, stop_status, stop_text, StopReason, StreamFault, SubmitFault, Submits, subst, sym}
 pub use Rattle.shells.proofs.Followed.Exchanged.Words.{take, take-append-drop, take-append-le, take_all, take_at, taken_out, Tale, text_of, true, Unreadable, version_after, versions_after}
 pub use Rattle.shells.proofs.Followed.Exchanged.Words.{WriteFailed, ℕ, ⊎_elim, ◌++◌, ◌+◌, ◌-◌, ◌<◌, ◌∙◌, ◌∷◌, ◌≡◌, ◌≤◌, ◌⊎◌, not-true, true≢false}
@@ -42,8 +42,7 @@ module _ {b : Caller} {p : Place} (s : StandsAt b p) where
   -- so it doesn't matter then which item isn't whole
   hears_alike : (bytes : List ℕ) → hears_all here bytes ≡ hears_all p.rest bytes
   hears_alike bytes =
-      let ended = λ (i : Opened) (o : p.rest.knows.over ≡ true). over_tale p.rest.wish p.rest.knows (outputs at_client i bytes) o in
-      ⊎_elim (λ o. ended s.item o ∙ sym (ended p.rest.item o)) (λ o. rw (s.same o) refl) (cases_Bool p.rest.knows.over)
+      let ended = λ (i : Opened). over_tale p.rest.wish p.rest.knows (outputs at_client i bytes) in grind (arith, ended s.item, ended p.rest.item, s.same)
 
   module _ {piece : List ℕ} {notes : List Note} {whole : Bool} {Now : ClientRest → Type 0} (h : FeedsPiece here piece [] notes whole Now) where
     -- what is heard of some of a piece
