@@ -1,7 +1,7 @@
 -- What standard error gets, one text after the other, what is printed of a text, and why a program stops.
 pub use Rattle.std.proofs.Common.{◌≡◌, refl, sym, subst, ap, ◌∙◌, ℕ, ◌+◌, Bool, List, [], ◌∷◌, ◌++◌, Option, append_assoc, append-nil, take, drop, arith}
 pub use Rattle.std.proofs.KnownBytes.{Appends-nil, Appends-trans}
-pub use Rattle.std.proofs.lemmas.List.{map-append}
+pub use Rattle.std.proofs.lemmas.List.{map-append, take_more}
 pub use Rattle.std.proofs.lemmas.Grind.{common_steps, flat_map-append}
 pub use Rattle.engine.specs.Prelude.{entries_view}
 pub use Rattle.streams.proofs.Fronts.{front_after}
@@ -19,9 +19,6 @@ gets_then d1 d2 d3 a b c xs ys h k e = let second = k e in let first = h second.
 -- a beginning of a text begins what has more behind it
 pub front_in : (a b : Option (List ℕ)) (xs ys : List ℕ) → AppendsFront a b xs → AppendsFront a b (xs ++ ys)
 front_in a b xs ys h = (h.0, h.1 ++ ys, sym (append_assoc h.0 h.1 ys) ∙ ap (λ z. z ++ ys) h.2, h.3)
-
--- one line after another
-pub ruleset in_parts = (common_steps, map-append, flat_map-append, append-nil, Appends-trans)
 
 pub cause_of : (fault : StreamFault) (A B : Type 0) → (fault ≡ StreamFault.ReadFailed → A) → (fault ≡ StreamFault.WriteFailed → B) → IsStopOf (StopReason.Broken fault) A B
 cause_of StreamFault.ReadFailed A B a b = a refl

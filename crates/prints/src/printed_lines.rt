@@ -190,7 +190,6 @@ fn end_text(alloc: Global, conn: u64, cause: Cause) -> Result<String, AllocError
 }
 
 /// Prints the line of each entry of the ledger.
-#[tactic(auto, using(crate::proofs::Gets::in_parts))]
 pub fn put_entries<O: Sink>(
     alloc: Global,
     entries: &[Entry],
