@@ -52,9 +52,6 @@ module _ {start now : Streams} {script : List ℕ} {b : Conversation} (p : Progr
 
 module _ {start now : Streams} {done : List (ℕ × Text)} (b : Conversation) (s : Reaches start now done b.caller) (q : ScriptRequestView)
     (some : length b.begun.items ≡ 0 → ⊥) {text : Text} (is : text ≡ b.begun.items) (r : request_line_of text ≡ Some q) where
-  abbrev request : RequestView
-  request = meant s.place.version q
-
   abbrev Line : Caller → Option StreamFault → Streams → Type 0
   Line c fault then = DoesMore (option_map Broken fault) start then (done ++ if_filled b.number b.begun.items) c
 
@@ -63,8 +60,8 @@ module _ {start now : Streams} {done : List (ℕ × Text)} (b : Conversation) (s
   line_done x at = rw (filled_one b.number b.begun.items some) (does_all (next_line _ done _ now _ s.place _ s.talked x) at)
 
   module _ (printed : Option (List ℕ)) (failed : Bool) where
-    pub submit_taken : {c : Caller} {fault : Option StreamFault} {then : Streams} → refuses s.place.rest.knows request ≡ None → printed ≡ now.printed
-        → StaysSound now.print_failed failed → Asks fault (submitted s.place request) (record now { printed = printed; print_failed = failed }) then c
+    pub submit_taken : {c : Caller} {fault : Option StreamFault} {then : Streams} → refuses s.place.rest.knows (meant s.place.version q) ≡ None → printed ≡ now.printed
+        → StaysSound now.print_failed failed → Asks fault (submitted s.place (meant s.place.version q)) (record now { printed = printed; print_failed = failed }) then c
         → Line c fault then
     submit_taken e same sound a =
         let x = a.exchange in
@@ -72,7 +69,7 @@ module _ {start now : Streams} {done : List (ℕ × Text)} (b : Conversation) (s
         line_done (answers_line q (rw is at r) e (record { out = x.out; heard = x.heard; moves = moves_then before x.moves; ends = x.ends })) (λ _. a.at)
 
     -- it is refused, or a fault comes first
-    pub submit_over : (c : Caller) (result : Result Bool StreamFault) → (result ≡ Ok true → ⊥) → Submits s.place request b.number now.printed printed (IsAt c) result
+    pub submit_over : (c : Caller) (result : Result Bool StreamFault) → (result ≡ Ok true → ⊥) → Submits s.place (meant s.place.version q) b.number now.printed printed (IsAt c) result
         → UnlessTold result WriteFailed (StaysSound now.print_failed failed) → Line c (result_err result) (record now { printed = printed; print_failed = failed })
     submit_over c (Ok true) never h sound = absurd (never refl)
     submit_over c (Ok false) never h sound =
@@ -103,25 +100,21 @@ pub unless_so : {T E : Type 0} (x : Result T E) (f : E) (A : Type 0) → A → U
 unless_so (Ok t) f A a = a
 unless_so (Err e) f A a = λ n. a
 
--- the summary of the request with this ordinal is among notes
-abbrev IsAnswered : ℕ → List Note → Type 0
-IsAnswered n notes = (phase : Phase) × (outcome : Outcome) × (said : ResponseView) × (before : List Note) × (after : List Note)
-    × (notes ≡ before ++ Summary n phase outcome said ∷ after)
-
--- Of requests that waited, from this ordinal on, some were answered, and the others wait.
+-- Of requests that waited, from this ordinal on, some were answered, by a summary among the notes, and the others wait.
 data Answers (k : Knows) (notes : List Note) : List RequestView → ℕ → Type 0 where
   wait : {ws : List RequestView} {n : ℕ} → k.waiting ≡ ws → k.first ≡ n → Answers k notes ws n
-  answered : {q : RequestView} {ws : List RequestView} {n : ℕ} → IsAnswered n notes → Answers k notes ws (suc n) → Answers k notes (q ∷ ws) n
+  answered : {q : RequestView} {ws : List RequestView} {n : ℕ} (phase : Phase) (outcome : Outcome) (said : ResponseView) (before after : List Note)
+      → notes ≡ before ++ Summary n phase outcome said ∷ after → Answers k notes ws (suc n) → Answers k notes (q ∷ ws) n
 
 answers_behind : {k : Knows} {notes : List Note} {ws : List RequestView} {n : ℕ} (front : List Note) → Answers k notes ws n → Answers k (front ++ notes) ws n
 answers_behind front (wait e f) = wait e f
-answers_behind front (answered (phase, outcome, said, before, after, e) h) =
-    answered (phase, outcome, said, front ++ before, after, simp (e, append_assoc)) (answers_behind front h)
+answers_behind front (answered phase outcome said before after e h) =
+    answered phase outcome said (front ++ before) after (simp (e, append_assoc)) (answers_behind front h)
 
 answers_step : (wish : Wish) (k : Knows) (x : Heard) (h : Hearing) (t : Tale) → Makes wish k x h → Answers t.knows t.notes h.knows.waiting h.knows.first
     → Answers t.knows (notes_of x h ++ t.notes) k.waiting k.first
 answers_step wish k x h t (tells_summary a s) more =
-    rw s.waits (answered (_, _, _, [], t.notes, refl) (answers_behind (notes_of x h) (rw s.waits at more)))
+    rw s.waits (answered _ _ _ [] t.notes refl (answers_behind (notes_of x h) (rw s.waits at more)))
 answers_step wish k x h t _ more = answers_behind (notes_of x h) more
 
 answers : (wish : Wish) (k : Knows) (items : List Item) → (let t = tale_of wish k items in Answers t.knows t.notes k.waiting k.first)
@@ -153,10 +146,6 @@ module _ (n : ℕ) (phase : Phase) (outcome : Outcome) (said : ResponseView) whe
   has_line (x ∷ xs) after (prints_one {v = v} y) = ⊎_elim (λ h. inl (has_before line (explained (version_after v x) x) h)) inr (has_line xs after y)
   has_line (x ∷ xs) after (cut_at {told = told} c) =
       inr (has_before line told (summaries_text xs, summaries_text after, flat_map-append summary_line xs (summary ∷ after)))
-
--- one that waits is lost, unless nothing but a GOODBYE does
-lost_one : (k : Knows) (q : RequestView) → k.waiting ≡ q ∷ [] → (is_goodbye (kind_of q) ≡ true) ⊎ (lost_of k ≡ losses k)
-lost_one k q waits = grind arith
 
 -- nothing waits, and so many were answered
 abbrev NoneWaits : ℕ → Knows → Type 0
@@ -195,15 +184,17 @@ module _ {fault : Option StreamFault} {p : Place} {a b : Streams} (x : Exchanges
         let k = heard.knows in
         let v = unwrap_or k.version V51 in
         let o = lost_outcome v k 0 in
+        -- one that waits is lost, unless nothing but a GOODBYE does
+        let one : (is_goodbye (kind_of q) ≡ true) ⊎ (lost_of k ≡ losses k) = grind arith in
         let lost : lost_of k ≡ losses k → Has (lost_line (k.first + 0, o)) (losses_text (lost_of k) ++ why_text fault k) =
         λ l. rw (l ∙ ap (losses_from v k 0) e) ([], why_text fault k, simp append_assoc) in
-        ⊎_elim unanswered (λ l. at_loss o (has_before (lost_line (k.first + 0, o)) x.heard.told (lost l))) (lost_one k q e)
+        ⊎_elim unanswered (λ l. at_loss o (has_before (lost_line (k.first + 0, o)) x.heard.told (lost l))) one
 
     -- its summary came, or none, and where the client stands then
     one_exchange : Answered (q ∷ []) n → Fated n × (then.knows.over ≡ false → NoneWaits (suc n) then.knows)
     one_exchange (wait e f) =
         (subst Fated (omega arith) (no_answer e), λ o. absurd (true≢false (sym (goes_on o).1 ∙ unanswered_waits heard.knows (rw e (omega arith)))))
-    one_exchange (answered (phase, outcome, said, before, after, e) h) = (
+    one_exchange (answered phase outcome said before after e h) = (
       ⊎_elim (on_output phase outcome) (λ h. on_errors phase outcome (h.0, h.1 ++ parting fault heard.knows, simp (h.2, append_assoc)))
           (has_line n phase outcome said before after (rw e at x.heard.prints)),
       none_waited h,

@@ -185,9 +185,7 @@ module _ {p : Place} {a b : Streams} {k : Caller} (c : Streams) (l : Caller) (ne
       record { out = so.out; heard = heard; moves = moves; at = at; all = λ e. so.all refl }
 
   at_end : (done : Result Bool StreamFault) → Piece done → IfOk done (λ some. some ≡ false → IsAtEnd c.left)
-  at_end (Ok true) h = λ e. cc
-  at_end (Ok false) h = λ _. h.at_end
-  at_end (Err f) h = tt
+  at_end done h = grind arith
 
   untold : (done : Result Bool StreamFault) {f : StreamFault} → Piece done → New (Some f) → result_err done ≡ Some ReadFailed → ⊥
   untold (Err ReadFailed) h puts e = none_cut puts.prints h.told
