@@ -1,18 +1,7 @@
 -- The line of each request that a client at a shell sends.
 use Rattle.std.specs.Prelude.{◌≡◌, ℕ, suc, true, List, [], ◌++◌, Option}
-use Rattle.std.specs.Io.KnownBytes.{Appends}
-use Rattle.wire.specs.declared.Version.{Version}
-use Rattle.wire.specs.declared.Wish.TheVariants.{Newest}
-use Rattle.wire.specs.Offers.{offer_of}
-use Rattle.messages.specs.View.{RequestView}
-use Rattle.machine.specs.declared.Phase.{Phase}
-use Rattle.machine.specs.Asks.{kind_of, is_goodbye}
-use Rattle.client.specs.declared.Outcome.{Outcome}
-use Rattle.client.specs.Rest.{asking_bytes}
-use Rattle.streams.specs.Fronts.{AppendsFront}
-use Rattle.prints.specs.Names.{outcome_name, phase_name}
-use Rattle.prints.specs.Stopping.{Gets}
-use Rattle.prints.specs.Telling.{heard_line, lost_line}
+use Rattle.shells.specs.Words.{Appends, Version, Newest, offer_of, RequestView, Phase, kind_of, is_goodbye, Outcome, asking_bytes, AppendsFront, outcome_name}
+use Rattle.shells.specs.Words.{phase_name, Gets, heard_line, lost_line}
 use Rattle.shells.specs.Streams.{Streams}
 
 -- a text that has this line in it

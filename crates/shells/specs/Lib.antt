@@ -1,3 +1,4 @@
+pub mod Words
 pub mod Streams
 pub mod Printing
 pub mod Talking

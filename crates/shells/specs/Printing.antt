@@ -1,13 +1,8 @@
 -- What is printed of notes, at a shell and at a loop.
 use Rattle.std.specs.Prelude.{◌≡◌, ℕ, Option, Some, None, List, [], ◌∷◌, ◌++◌}
 use Rattle.std.specs.List.{flat_map}
-use Rattle.packstream.specs.Tree.{Tree}
-use Rattle.wire.specs.declared.Version.{Version}
-use Rattle.client.specs.Rest.{Note, Nothing, Chose, Row, Summary}
-use Rattle.streams.specs.declared.fault.StreamFault.{StreamFault}
-use Rattle.streams.specs.declared.fault.StreamFault.TheVariants.{WriteFailed, Memory}
-use Rattle.prints.specs.Names.{outcome_name, phase_name}
-use Rattle.prints.specs.Telling.{failure_line, heard_line, note_text}
+use Rattle.shells.specs.Words.{Tree, Version, Note, Nothing, Chose, Row, Summary, StreamFault, WriteFailed, Memory, outcome_name, phase_name, failure_line}
+use Rattle.shells.specs.Words.{heard_line, note_text}
 
 -- the version that rows are printed at: the one that was heard, once one was
 abbrev pub version_after : Version → Note → Version

@@ -1,30 +1,11 @@
 -- What the parts of a shell do, with or without a fault, and how a shell ends.
 use Rattle.std.specs.Prelude.{◌≡◌, ◌⊎◌, ℕ, Bool, true, false, if◌then◌else◌, List, [], ◌∷◌, ◌++◌, ◌==◌, drop, Option, Some, None, IfSome, IfOk, Result, Ok, Err}
 use Rattle.std.specs.List.{All}
-use Rattle.std.specs.Result.{result_err}
-use Rattle.std.specs.Io.KnownBytes.{Appends, Consumes, IsAtEnd}
-use Rattle.wire.specs.declared.Version.{Version}
-use Rattle.messages.specs.View.{RequestView}
-use Rattle.client.specs.declared.SubmitFault.{SubmitFault}
-use Rattle.client.specs.Fits.{Fits}
-use Rattle.client.specs.Rest.{Note, awaits, refuses, taken_out}
-use Rattle.streams.specs.declared.fault.StreamFault.{StreamFault}
-use Rattle.streams.specs.declared.fault.StreamFault.TheVariants.{WriteFailed}
-use Rattle.streams.specs.Failing.{StaysSound}
-use Rattle.streams.specs.Fronts.{AppendsFront}
-use Rattle.streams.specs.Reading.{LetsRead}
-use Rattle.asks.specs.Asking.{IsTurn}
-use Rattle.scripts.specs.Views.{Text}
-use Rattle.scripts.specs.Words.{is_empty}
-use Rattle.scripts.specs.Script.{lines, filled_from, filled_lines}
-use Rattle.scripts.specs.Rows.{request_line_of}
+use Rattle.shells.specs.Words.{result_err, Appends, Consumes, IsAtEnd, Version, RequestView, SubmitFault, Fits, Note, awaits, refuses, taken_out, StreamFault}
+use Rattle.shells.specs.Words.{WriteFailed, StaysSound, AppendsFront, LetsRead, IsTurn, Text, is_empty, lines, filled_from, filled_lines, request_line_of}
+use Rattle.shells.specs.Words.{StopReason, Unreadable, Broken, refusal_code, Gets, IsStopOf, ends_with, said_of, refused_line}
 use Rattle.shells.specs.declared.caller.Caller.{Caller}
 use Rattle.shells.specs.declared.shells.Conversation.{Conversation}
-use Rattle.prints.specs.declared.stop.StopReason.{StopReason}
-use Rattle.prints.specs.declared.stop.StopReason.TheVariants.{Unreadable, Broken}
-use Rattle.prints.specs.Names.{refusal_code}
-use Rattle.prints.specs.Stopping.{Gets, IsStopOf, ends_with, said_of}
-use Rattle.prints.specs.Telling.{refused_line}
 use Rattle.shells.specs.Printing.{Prints, versions_after}
 use Rattle.shells.specs.Talking.{FailsToPut, Place, IsAt, submitted, sent_out, heard_log, heard_place, HeardUpTo, Exchanges, IsServersTurn, Moves, parted}
 use Rattle.shells.specs.Talking.{Talked}
@@ -200,11 +181,7 @@ module _ {S : Type 0} (MayRead : S → Option (List ℕ) → ℕ → Type 0) (le
   pub record LetsAsk : Type 0 where
     pub lets : LetsRead MayRead (λ s taken. (p : Place) → IsAt c p → IsTurn p.rest now.left (left s) now.written taken)
 
-  -- the same after any conversation that leaves the streams and the client so
-  pub record LetsTalk : Type 0 where
-    pub lets : LetsRead MayRead (λ s taken. (start : Streams) (done : List (ℕ × Text)) → Reaches start now done c → IsServersTurn start (left s) taken)
-
--- the same turn after any beginning of an input
+-- it is the server's turn after any beginning of an input that leaves the streams and the client so
 abbrev pub IsTurnWithin : Streams → Conversation → Option (List ℕ) → Option (List ℕ) → Type 0
 IsTurnWithin now c left taken =
     (start : Streams) (script : List ℕ) → Progress start now script c

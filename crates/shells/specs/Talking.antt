@@ -1,29 +1,11 @@
 -- What a client at a shell does with numbered lines: what it sends and reads, what is printed and told, and where it stands then.
 use Rattle.std.specs.Prelude.{◌≡◌, ◌⊎◌, ℕ, Bool, true, false, not, ◌&&◌, if◌then◌else◌, List, [], ◌∷◌, ◌++◌, drop, codes, Option, Some, None}
 use Rattle.std.specs.List.{flat_map}
-use Rattle.std.specs.Io.KnownBytes.{Appends, Consumes, IsAtEnd}
-use Rattle.wire.specs.declared.Version.{Version}
-use Rattle.wire.specs.declared.Version.TheVariants.{V51}
-use Rattle.wire.specs.declared.Wish.TheVariants.{Newest}
-use Rattle.machine.specs.declared.Phase.{Phase}
-use Rattle.machine.specs.Following.{is_defunct}
-use Rattle.messages.specs.View.{RequestView}
-use Rattle.client.specs.declared.Outcome.{Outcome}
-use Rattle.client.specs.declared.SubmitFault.{SubmitFault}
-use Rattle.client.specs.Rest.{Knows, Note, Rest, begun as begun_rest, refuses, after_submit, taken_out, awaits}
-use Rattle.client.specs.Fits.{Fits}
-use Rattle.streams.specs.declared.fault.StreamFault.{StreamFault}
-use Rattle.streams.specs.declared.fault.StreamFault.TheVariants.{ReadFailed, WriteFailed, Memory}
-use Rattle.streams.specs.Failing.{StaysSound}
-use Rattle.streams.specs.Fronts.{AppendsFront}
-use Rattle.asks.specs.Asking.{hears_all, after_all, IsNeeded, IsTurn, given_up, losses_then}
-use Rattle.scripts.specs.Views.{Text, ScriptRequestView}
-use Rattle.scripts.specs.Meant.{meant}
-use Rattle.scripts.specs.Rows.{request_line_of}
+use Rattle.shells.specs.Words.{Appends, Consumes, IsAtEnd, Version, V51, Newest, Phase, is_defunct, RequestView, Outcome, SubmitFault, Knows, Note, Rest}
+use Rattle.shells.specs.Words.{begun as begun_rest, refuses, after_submit, taken_out, awaits, Fits, StreamFault, ReadFailed, WriteFailed, Memory, StaysSound}
+use Rattle.shells.specs.Words.{AppendsFront, hears_all, after_all, IsNeeded, IsTurn, given_up, losses_then, Text, ScriptRequestView, meant, request_line_of}
+use Rattle.shells.specs.Words.{refusal_code, version_name, Gets, lost_line, refused_line}
 use Rattle.shells.specs.declared.caller.Caller.{Caller}
-use Rattle.prints.specs.Names.{refusal_code, version_name}
-use Rattle.prints.specs.Stopping.{Gets}
-use Rattle.prints.specs.Telling.{lost_line, refused_line}
 use Rattle.shells.specs.Printing.{IsFront, Prints, versions_after, notes_text}
 use Rattle.shells.specs.Streams.{Streams}
 

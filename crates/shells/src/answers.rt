@@ -130,11 +130,8 @@ impl Caller {
             &mut heard,
         );
         // What was heard before a fault is printed too.
-        match self.put_all(heard, &mut streams.out, &mut streams.err) {
-            Ok(()) => {}
-            Err(fault) => return Err(fault),
-        }
-        done
+        self.put_all(heard, &mut streams.out, &mut streams.err)
+            .and(done)
     }
 
     /// Prints all that was heard. From a fault on each summary that isn't printed is told on standard error.

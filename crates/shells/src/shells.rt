@@ -6,7 +6,7 @@ ghost use Rattle.streams.specs.Failing.{StaysSound, UnlessTold};
 ghost use Rattle.streams.specs.Reading.{LetsRead};
 ghost use Rattle.shells.specs.Talking.{FailsToPut, IsAt, IsServersTurn, first_place};
 ghost use Rattle.shells.specs.Accounting.{Accounts};
-ghost use Rattle.shells.specs.Shelling.{DoesMore, IsSound, IsTurnWithin, LetsTalk, Progress, Reaches, Runs, Shells, Takes, TakesByte, if_filled};
+ghost use Rattle.shells.specs.Shelling.{DoesMore, IsSound, IsTurnWithin, Progress, Reaches, Runs, Shells, Takes, TakesByte, if_filled};
 ghost use Rattle.shells.specs.Streams.{Streams};
 
 use crate::caller::Caller;
@@ -106,7 +106,7 @@ impl Conversation {
         &mut self,
         streams: &mut ShellStreams<S, T, O, E>,
     ) -> Result<(), StopReason>
-        requires { LetsTalk S.may_read S.left streams.old.at self.old.caller }
+        requires { LetsRead S.may_read (λ s. IsTurnWithin streams.old.at self.old (S.left s)) }
         ensures sends { (start : Streams) (done : List (ℕ × Text))
             → Reaches start streams.old.at done self.old.caller
             → DoesMore (result_err result) start streams.new.at

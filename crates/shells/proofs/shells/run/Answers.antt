@@ -9,7 +9,7 @@ ask-requires g c =
     record { lets = λ s taken n few turn. c.requires s taken n few (record { now = _; place = _; asking = asks_version; turn = turn first_place at }) }
 
 pub send-requires : goal.send-requires
-send-requires g c = record { lets = λ s taken n few turn. let p = c.loop-len.invariant.progress in c.requires s taken n few (turn _ p.done p.reaches) }
+send-requires g c = λ s taken n few turn. let so = c.loop-len.invariant in c.requires s taken n few (turn _ so.script so.progress)
 
 pub take-requires : goal.take-requires
 take-requires g c = λ s taken n few turn. let so = c.loop-len.invariant in c.requires s taken n few (turn _ so.script so.progress)

@@ -1,9 +1,6 @@
 use Rattle.shells.proofs.Followed.{[], ap, refl, ◌∙◌, None, Some, Err, stop_text, fault_in, gets_none, accounts, so_far, stop_of, told_so}
 use Rattle.shells.proofs.shells.shell.Goals as goal
 
-pub run-requires : goal.run-requires
-run-requires g c = c.requires
-
 pub returns-in-Ok : goal.returns-in-Ok
 returns-in-Ok g c =
     let so = so_far c.in-Ok.ensures.runs.does.talked in

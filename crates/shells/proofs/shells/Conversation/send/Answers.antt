@@ -13,10 +13,10 @@ returns-in-Err-Memory-clause-sends g c = λ start done s. does_none (Broken Memo
 
 pub ask-requires : goal.ask-requires
 ask-requires g c = record {
-  lets = λ s taken n few turn. c.requires.lets s taken n few (λ start done s0.
-      let r = rw (← c.streams.view_is) at s0 in
+  lets = λ s taken n few turn. c.requires s taken n few (λ start script p.
+      let r = rw (← c.streams.view_is) at p.reaches in
       let h = rw c.in-Ok-true.field-0-test at (c.in-Ok-true.ensures.submits r.place r.at) in
-      record { now = _; place = _; asking = asks_answer done _ r.place _ r.talked h.0; turn = turn _ h.2 });
+      record { now = _; place = _; asking = asks_answer p.done _ r.place _ r.talked h.0; turn = turn _ h.2 });
 }
 
 pub returns-in-Ok-ask-clause-sends : goal.returns-in-Ok-ask-clause-sends

@@ -29,6 +29,3 @@ returns-clause-takes g c = λ start script p.
       begun = rw none (λ k d l. absurd (not-suc-le-zero l));
       follow = λ more. rw (number, none) (simp append_assoc (simp append_assoc at (at_newline p more)));
     })
-
-pub send-requires : goal.send-requires
-send-requires g c = record { lets = λ s taken n few turn. c.requires s taken n few (λ start script p. turn start p.done p.reaches) }
