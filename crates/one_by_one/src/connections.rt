@@ -91,6 +91,7 @@ pub fn serve_next<E: Engine, G: Gate, I: Source, O: Sink, P: Sink>(
 }
 
 /// Opens a session, and answers its number; or I3, for want of memory or of a number.
+#[tactic(auto, using(crate::proofs::Served::not_opened))]
 pub fn open_session<E: Engine, G: Gate>(server: &mut Server<E, G>) -> Result<u64, StreamFault>
     ensures opens { (r : Rest G) → Fits E.entries server.old r
         → MatchResult result (λ conn. HasOpened r conn (Fits E.entries server.new))
@@ -104,6 +105,7 @@ pub fn open_session<E: Engine, G: Gate>(server: &mut Server<E, G>) -> Result<u64
 }
 
 /// Serves a session that was opened, and gives it up. If a stream fails, or memory runs out, it was lost, by that fault.
+#[tactic(auto, using(crate::proofs::Served::served, crate::proofs::Served::found_by))]
 fn serve_opened<E: Engine, G: Gate, I: Source, O: Sink>(
     alloc: Global,
     server: &mut Server<E, G>,

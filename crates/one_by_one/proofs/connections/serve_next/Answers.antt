@@ -1,12 +1,9 @@
-use Rattle.std.proofs.Common.{refl, inl, inr}
+use Rattle.std.proofs.Common.{refl, inr}
 use Rattle.one_by_one.proofs.Served.{opened_lives}
 use Rattle.one_by_one.proofs.connections.serve_next.Goals as goal
 
 pub returns-in-Err-clause-vacant : goal.returns-in-Err-clause-vacant
 returns-in-Err-clause-vacant g c = let v = c.requires in (v.0, c.in-Err.ensures.opens v.0 v.1, v.2)
-
-pub returns-in-Err-clause-err : goal.returns-in-Err-clause-err
-returns-in-Err-clause-err g c = λ r f e. inl (c.in-Err.ensures.opens r f)
 
 pub serve_opened-told-requires : goal.serve_opened-told-requires
 serve_opened-told-requires g c = let v = c.requires in opened_lives (c.in-Ok.ensures.opens v.0 v.1) v.2
