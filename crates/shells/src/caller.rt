@@ -87,8 +87,7 @@ impl Caller {
         ensures written { IsErrOf result StreamFault.WriteFailed → O.has_failed out.new ≡ true }
     {
         match heard {
-            Heard::Nothing => Ok(()),
-            Heard::Version(_) => Ok(()),
+            Heard::Nothing | Heard::Version(_) => Ok(()),
             Heard::Row(cells) => put_row(self.alloc, self.version, cells, out),
             Heard::Summary {
                 ordinal,
@@ -123,10 +122,8 @@ impl Caller {
         let Some(code) = refusal_code(&fault) else {
             return Err(StreamFault::Memory);
         };
-        match put_refused(self.alloc, number, code, out) {
-            Ok(()) => Ok(false),
-            Err(fault) => Err(fault),
-        }
+        put_refused(self.alloc, number, code, out)?;
+        Ok(false)
     }
 }
 

@@ -33,15 +33,12 @@ impl Conversation {
             (λ c. IsAt c.caller first_place × (c.begun.items ≡ []) × (c.number ≡ 1)) }
         ensures memory { IfErr result (λ e. e ≡ StreamFault.Memory) }
     {
-        match Caller::new(alloc) {
-            Ok(caller) => Ok(Conversation {
-                caller,
-                begun: Vec::new(alloc),
-                number: 1,
-                alloc,
-            }),
-            Err(fault) => Err(fault),
-        }
+        Ok(Conversation {
+            caller: Caller::new(alloc)?,
+            begun: Vec::new(alloc),
+            number: 1,
+            alloc,
+        })
     }
 
     /// Takes a piece of the input: each line that ends in it is sent.

@@ -1,12 +1,10 @@
 use Rattle.cells.specs.Prelude.{shapes}
-use Rattle.shells.proofs.Followed.{refl, sym, ap, [], append-nil, ◌∙◌, Appends-nil, WriteFailed, unless_err, row_text, in_line, unmade, note_line, whole}
+use Rattle.shells.proofs.Followed.{refl, sym, ap, [], append-nil, ◌∙◌, Appends-nil, ⊎_elim, WriteFailed, unless_err, row_text, in_line, unmade, note_line, whole}
 use Rattle.shells.proofs.caller.Caller.put_explained.Goals as goal
 
 pub returns-in-Nothing-clause-puts : goal.returns-in-Nothing-clause-puts
-returns-in-Nothing-clause-puts g c = λ v e. rw c.in-Nothing.is (whole (Appends-nil _) (λ s. s))
-
-pub returns-in-Version-clause-puts : goal.returns-in-Version-clause-puts
-returns-in-Version-clause-puts g c = λ v e. rw c.in-Version.is (whole (Appends-nil _) (λ s. s))
+returns-in-Nothing-clause-puts g c = λ v e.
+    ⊎_elim (λ n. rw n (whole (Appends-nil _) (λ s. s))) (λ n. rw n.1 (whole (Appends-nil _) (λ s. s))) c.in-Nothing.is
 
 pub returns-in-Row-clause-puts : goal.returns-in-Row-clause-puts
 returns-in-Row-clause-puts g c = λ v e.
