@@ -21,13 +21,6 @@ does_none (Unreadable n) e r = record { done = _; lines = e; place = r.place; ta
 does_none {now = now} {done = done} (Broken f) e r =
     record { done = done; lines = e; place = r.place; talked = breaks_off f done now now r.place r.talked (moves_none now) }
 
--- nothing was done, for want of memory
-pub nothing_done : (now : Streams) → Does (Some (Broken Memory)) now now []
-nothing_done now =
-    let moves = moves_sent (Some Memory) now now.written now.write_failed first_place.rest.unsent 0 ([], _, refl, Appends-nil _) (λ _ f. f) in
-    let talked = fails_first Memory now (record { out = 0; heard = heard_none; moves = moves; ends = λ e. absurd cc }) in
-    record { done = []; lines = ([], refl); place = _; talked = talked }
-
 -- those of some lines, and others behind them that weren't looked at
 done_more : (stop : StopReason) (all done after : List (ℕ × Text)) → AreDone (Some stop) all done → AreDone (Some stop) (all ++ after) done
 done_more (Unreadable n) all done after h = (h.0, h.1 ++ after, simp (h.2, append_assoc), h.3)
@@ -94,11 +87,6 @@ stop_of (Broken fault) A B a b = cause_of fault A B (λ e. a (ap Broken e)) (λ 
 -- a fault of a stream is told with status 1
 pub told_so : (stop : StopReason) → (stop_status stop ≡ 1 → ⊥) → (fault_in (Some stop) ≡ Some ReadFailed → ⊥) × (fault_in (Some stop) ≡ Some WriteFailed → ⊥)
 told_so stop n = grind arith
-
--- what holds holds unless a fault is told
-pub unless_so : {T E : Type 0} (x : Result T E) (f : E) (A : Type 0) → A → UnlessTold x f A
-unless_so (Ok t) f A a = a
-unless_so (Err e) f A a = λ n. a
 
 -- Of requests that waited, from this ordinal on, some were answered, by a summary among the notes, and the others wait.
 data Answers (k : Knows) (notes : List Note) : List RequestView → ℕ → Type 0 where

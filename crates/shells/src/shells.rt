@@ -2,7 +2,7 @@
 ghost use Rattle.std.specs.Prelude.{◌≡◌, ◌++◌, ◌⊎◌, [], List, ℕ, true, IfOk, IfErr, IsErrOf};
 ghost use Rattle.std.specs.Result.{result_err};
 ghost use Rattle.scripts.specs.Views.{Text};
-ghost use Rattle.streams.specs.Failing.{StaysSound, UnlessTold};
+ghost use Rattle.streams.specs.Failing.{StaysSound};
 ghost use Rattle.streams.specs.Reading.{LetsRead};
 ghost use Rattle.shells.specs.Talking.{FailsToPut, IsAt, IsServersTurn, first_place};
 ghost use Rattle.shells.specs.Accounting.{Accounts};
@@ -147,8 +147,8 @@ fn run<I: Source, S: PeerSource, T: Sink, O: Sink, E: Sink>(
         → (I.has_failed input.new ≡ true) ⊎ (streams.new.at.read_failed ≡ true) }
     ensures written { IsErrOf result (StopReason.Broken StreamFault.WriteFailed)
         → FailsToPut streams.new.at }
-    ensures input { UnlessTold result (StopReason.Broken StreamFault.ReadFailed)
-        (StaysSound (I.has_failed input.old) (I.has_failed input.new)) }
+    ensures input { (IsErrOf result (StopReason.Broken StreamFault.ReadFailed) → ⊥)
+        → StaysSound (I.has_failed input.old) (I.has_failed input.new) }
 {
     let mut conversation = match Conversation::new(alloc) {
         Ok(conversation) => conversation,

@@ -1,6 +1,5 @@
-use Rattle.shells.proofs.Followed.{◌∙◌, [], ap, refl, append-nil, rules, false≢true, Consumes-kept, Consumes-nil, Consumes-trans, ReadFailed, Broken, Rest, result_err}
-use Rattle.shells.proofs.Followed.{asks_version, fails_first, first_place, greeting, opens, parted, at_end, does_all, not-suc-le-zero, does_last, does_none, moves_none, moves_told}
-use Rattle.shells.proofs.Followed.{nothing_done, unless_so}
+use Rattle.shells.proofs.Followed.{◌∙◌, [], Some, ap, refl, append-nil, rules, false≢true, Appends-nil, Consumes-kept, Consumes-nil, Consumes-trans, Memory, ReadFailed, Broken, Rest, result_err}
+use Rattle.shells.proofs.Followed.{asks_version, fails_first, first_place, greeting, opens, parted, at_end, does_all, not-suc-le-zero, does_last, does_none, heard_none, moves_none, moves_sent, moves_told}
 use Rattle.shells.proofs.shells.run.Goals as goal
 
 pub ask-requires : goal.ask-requires
@@ -16,7 +15,15 @@ take-requires g c = λ s taken n few turn. let so = c.loop-len.invariant in c.re
 
 pub returns-in-Err-clause-runs : goal.returns-in-Err-clause-runs
 returns-in-Err-clause-runs g c =
-    record { script = []; read = Consumes-nil _; end = λ z. absurd cc; does = rw c.in-Err.ensures.memory (nothing_done _) }
+    let now = c.args.streams.now.at in
+    let moves = moves_sent (Some Memory) now now.written now.write_failed first_place.rest.unsent 0 ([], _, refl, Appends-nil _) (λ _ f. f) in
+    let talked = fails_first Memory now (record { out = 0; heard = heard_none; moves = moves; ends = λ e. absurd cc }) in
+    record {
+      script = [];
+      read = Consumes-nil _;
+      end = λ z. absurd cc;
+      does = rw c.in-Err.ensures.memory (record { done = []; lines = ([], refl); place = _; talked = talked });
+    }
 
 pub returns-in-Err-ask-clause-runs : goal.returns-in-Err-ask-clause-runs
 returns-in-Err-ask-clause-runs g c =
@@ -61,8 +68,7 @@ returns-in-Err-take-clause-runs g c =
     record { script = _; read = read; end = λ z. absurd cc; does = c.in-Err-take.ensures.takes _ so.script so.progress }
 
 pub returns-then-len-eq0-clause-input : goal.returns-then-len-eq0-clause-input
-returns-then-len-eq0-clause-input g c =
-    unless_so c.send.result (Broken ReadFailed) _ (λ h. absurd (false≢true (rw c.in-Ok-read.is at (c.read.ensures.failed.1 h))))
+returns-then-len-eq0-clause-input g c = λ n h. absurd (false≢true (rw c.in-Ok-read.is at (c.read.ensures.failed.1 h)))
 
 pub returns-in-Err-take-clause-input : goal.returns-in-Err-take-clause-input
 returns-in-Err-take-clause-input g c = λ n h. absurd (false≢true (rw c.in-Ok-read.is at (c.read.ensures.failed.1 h)))

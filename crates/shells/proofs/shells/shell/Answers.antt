@@ -1,4 +1,4 @@
-use Rattle.shells.proofs.Followed.{[], ap, refl, ◌∙◌, None, Some, Err, stop_text, fault_in, gets_none, accounts, so_far, stop_of, told_so}
+use Rattle.shells.proofs.Followed.{◌≡◌, [], ap, refl, ◌∙◌, Broken, ReadFailed, None, Some, Err, stop_text, fault_in, gets_none, accounts, so_far, stop_of, told_so}
 use Rattle.shells.proofs.shells.shell.Goals as goal
 
 pub returns-in-Ok : goal.returns-in-Ok
@@ -8,7 +8,7 @@ returns-in-Ok g c =
     record {
       shells = record { stop = None; ends = refl; cause = tt; told = now.told; deaf = now.deaf; runs = c.in-Ok.ensures.runs; said = gets_none _ _ };
       accounts = accounts now.told now.deaf [] so (gets_none _ _);
-      sound = λ n. (c.in-Ok.ensures.input, search (so.moves.source (λ e. cc), so.moves.sinks (λ e. cc)));
+      sound = λ n. (c.in-Ok.ensures.input (λ e. cc), search (so.moves.source (λ e. cc), so.moves.sinks (λ e. cc)));
     }
 
 pub returns-in-Err : goal.returns-in-Err
@@ -24,5 +24,6 @@ returns-in-Err g c =
       accounts = accounts told deaf (stop_text c.in-Err.stop) so c.put_stop.ensures.text;
       sound = λ n.
           let never = told_so c.in-Err.stop (λ e. n (put.status ∙ e)) in
-          (c.in-Err.ensures.input (λ e. never.0 (ap (λ s. fault_in (Some s)) e)), search (so.moves.source never.0, so.moves.sinks never.1));
+          let input = c.in-Err.ensures.input (λ e. let is : c.in-Err.stop ≡ Broken ReadFailed = cc in never.0 (ap (λ s. fault_in (Some s)) is)) in
+          (input, search (so.moves.source never.0, so.moves.sinks never.1));
     }
