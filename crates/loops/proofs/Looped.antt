@@ -1,15 +1,14 @@
 -- What two ends have come to, and how far they have where a fault breaks them off.
-pub use Rattle.shells.proofs.Followed.Exchanged.Words.{[], after_all, all_done, all_taken, ap, append-nil, append_assoc, append_cancel_left, Appends, Appends-nil, Appends-trans}
-pub use Rattle.shells.proofs.Followed.Exchanged.Words.{AppendsFront, arith, at_client, at_server, awaits, Bool, Broken, bytes_eq, cases_lt, cause_of, Consumes, Consumes-nil, Consumes-trans}
-pub use Rattle.shells.proofs.Followed.Exchanged.Words.{drop, empty_nil, entries_text, Err, false, FeedsPiece, first_place, fold, front_after, front_in, front_whole, Gets, hears_all, inl}
-pub use Rattle.shells.proofs.Followed.Exchanged.Words.{inr, is_ok, IsAt, IsErrOf, IsSome, Item, items_received, length, length-append, length-take, length-take-le, List, map, MatchResult}
-pub use Rattle.shells.proofs.Followed.Exchanged.Words.{Memory, nil_from_length, None, not-false, Note, note, note_text, notes_text, Ok, OnErr, OnOk, Opened, Option, outputs, Place}
-pub use Rattle.shells.proofs.Followed.Exchanged.Words.{place_after, PutsLine, ReadFailed, refl, refuses, RequestView, Rest as ClientRest, rest_of, Result, rules, said_requests}
-pub use Rattle.shells.proofs.Followed.Exchanged.Words.{script_request_view, ScriptRequestView, Some, state, stop_status, stop_text, StopReason, StreamFault, SubmitFault, Submits, subst, sym}
-pub use Rattle.shells.proofs.Followed.Exchanged.Words.{take, take-append-drop, take-append-le, take_all, take_at, taken_out, Tale, text_of, true, Unreadable, version_after, versions_after}
-pub use Rattle.shells.proofs.Followed.Exchanged.Words.{WriteFailed, ℕ, ⊎_elim, ◌++◌, ◌+◌, ◌-◌, ◌<◌, ◌∙◌, ◌∷◌, ◌≡◌, ◌≤◌, ◌⊎◌, not-true, true≢false}
-pub use Rattle.shells.specs.declared.caller.Caller.{Caller}
+pub use Rattle.shells.proofs.Followed.Exchanged.Words.{[], after_all, all_done, all_taken, ap, append-nil, append_assoc, append_cancel_left, Appends, Appends-nil, Appends-trans, AppendsFront, arith}
+pub use Rattle.shells.proofs.Followed.Exchanged.Words.{at_client, at_server, awaits, Bool, Broken, bytes_eq, cases_lt, cause_of, Consumes, Consumes-nil, Consumes-trans, drop, empty_nil, entries_text}
+pub use Rattle.shells.proofs.Followed.Exchanged.Words.{Err, false, FeedsPiece, first_place, fold, front_after, front_in, front_whole, Gets, hears_all, inl, inr, is_ok, IsAt, IsErrOf, IsSome, IsStopOf}
+pub use Rattle.shells.proofs.Followed.Exchanged.Words.{Item, items_received, length, length-append, length-take, length-take-le, List, map, MatchResult, Memory, nil_from_length, not-false, Note, note}
+pub use Rattle.shells.proofs.Followed.Exchanged.Words.{note_text, notes_text, Ok, OnErr, OnOk, Opened, Option, outputs, Place, place_after, PutsLine, ReadFailed, refl, refuses, RequestView}
+pub use Rattle.shells.proofs.Followed.Exchanged.Words.{Rest as ClientRest, rest_of, Result, rules, said_requests, script_request_view, ScriptRequestView, Some, state, stop_status, stop_text}
+pub use Rattle.shells.proofs.Followed.Exchanged.Words.{StopReason, StreamFault, Submits, subst, sym, take, take-append-drop, take-append-le, take_all, take_at, Tale, text_of, true, Unreadable}
+pub use Rattle.shells.proofs.Followed.Exchanged.Words.{versions_after, WriteFailed, ℕ, ⊎_elim, ◌++◌, ◌+◌, ◌-◌, ◌<◌, ◌∙◌, ◌∷◌, ◌≡◌, ◌≤◌, ◌⊎◌, not-true, true≢false, hears_all-append}
 pub use Rattle.shells.proofs.Followed.Exchanged.{place_more, texts_more}
+pub use Rattle.shells.specs.declared.caller.Caller.{Caller}
 pub use Rattle.std.proofs.Math.Seq.{drop-append_seam, drop-length, take-append-add, take-append_seam, take-nil}
 pub use Rattle.std.proofs.lemmas.List.Sums.{fold-append}
 pub use borrow.Rule.Slice.PartMut.{post_of, put_mid}
@@ -17,21 +16,17 @@ pub use Rattle.wire.proofs.Readers.{outputs-append}
 pub use Rattle.cells.proofs.Equality.{bytes_are, bytes_is}
 pub use Rattle.engine.specs.Prelude.{EntryView, entries_view}
 pub use Rattle.session.specs.Prelude.{Setting, begun}
-pub use Rattle.server.specs.Prelude.{Fits, Live, Rest, find, fresh, opened, setting}
+pub use Rattle.server.specs.Prelude.{Fits, Live, Rest, find, opened, setting}
 pub use Rattle.streams.specs.Limits.{max_piece}
-pub use Rattle.asks.proofs.Tales.{hears_all-append, over_tale}
+pub use Rattle.asks.proofs.Tales.{over_tale}
 pub use Rattle.serves.proofs.Called.{grows_by, lives_same, replace-itself}
 pub use Rattle.serves.proofs.Talks.{item_talk-append, talk_by_items, told_over}
 pub use Rattle.serves.specs.Prelude.{Grows, IsLive, TakesPiece, Talk, item_talk, told_by, with_talk}
 pub use Rattle.serves.specs.declared.liveness.Liveness.{Liveness}
-pub use Rattle.serves.specs.declared.liveness.Liveness.TheVariants.{Open, Over}
 pub use Rattle.one_by_one.proofs.Served.{found_by}
-pub use Rattle.one_by_one.specs.Prelude.{HasOpened}
-pub use Rattle.loops.specs.Prelude.{AreQuiet, Breaks, BreaksAt, BreaksAtSource, BreaksIn, Comes, EndsAt, Goes, HasHeard, HearsFront, HearsUpTo, IsHeardAll, IsOpened, IsQuiet}
-pub use Rattle.loops.specs.Prelude.{LetsReadWaiting, Meets, Numbers, Outset, Passes, ReadsUpTo, Sits, StandsAt, TellsLine, Turns, Way, Ways, all_sent, answer_to, asked, due, end, exchanged}
-pub use Rattle.loops.specs.Prelude.{next_turn, no_turns, outset, place_by, stage, talk_for, text_by, turns_of, with_item, with_line, LetBothRead}
-pub use Rattle.loops.specs.declared.loops.Pair.{Pair}
-pub use Rattle.std.proofs.lemmas.Result.{on_ok_weaker}
+pub use Rattle.loops.specs.Prelude.{AreQuiet, Breaks, BreaksAt, BreaksAtSource, BreaksIn, Comes, EndsAt, Goes, HasHeard, HearsFront, HearsUpTo, HasLooped, IsHeardAll, IsQuiet, LetsReadWaiting, Meets}
+pub use Rattle.loops.specs.Prelude.{Numbers, Outset, Passes, ReadsUpTo, Sits, StandsAt, TellsLine, Turns, Way, Ways, all_sent, answer_to, asked, due, end, exchanged, next_turn, no_turns, outset}
+pub use Rattle.loops.specs.Prelude.{HandsOver, place_by, stage, talk_for, text_by, turns_of, with_item, with_line, LetBothRead, Pair}
 
 pub ruleset parts = (take-append-drop, length-take)
 
@@ -105,24 +100,21 @@ source_after {a = a} {b = b} {c = c} {xs = xs} h (inr k) =
 
 -- ---- while an answer is heard
 
-abbrev pub more_front : {p : Place} {part : List ℕ} {x y : Option (List ℕ)} (after : List ℕ) → HearsFront [] p part x y → HearsFront [] p (part ++ after) x y
-more_front after f = record { heard = f.heard; rest = f.rest ++ after; parts = simp (← append_assoc, f.parts); prints = f.prints }
-
 module _ {o : Outset} {heard : List ℕ} {mid : Way} {x : Option (List ℕ)} {c : Caller} (h : HasHeard o heard mid x c) {left : Option (List ℕ)} where
   -- a beginning of what was read then was heard
-  pub reads_front : {y : Option (List ℕ)} {answer : List ℕ} (whole unheard : List ℕ) (f : HearsFront [] (place_after o.place heard) answer x y)
-      → heard ++ answer ≡ whole → Consumes mid.left left (f.heard ++ unheard) → length unheard ≤ max_piece → HearsUpTo o whole left y
-  reads_front {y = y} whole unheard f parts gave few =
-      let all : (heard ++ f.heard) ++ f.rest ≡ whole = rw (append_assoc heard f.heard f.rest, f.parts) parts in
+  pub reads_front : {y : Option (List ℕ)} {answer : List ℕ} (after whole unheard : List ℕ) (f : HearsFront [] (place_after o.place heard) answer x y)
+      → heard ++ (answer ++ after) ≡ whole → Consumes mid.left left (f.heard ++ unheard) → length unheard ≤ max_piece → HearsUpTo o whole left y
+  reads_front {y = y} after whole unheard f parts gave few =
+      let all : (heard ++ f.heard) ++ (f.rest ++ after) ≡ whole = rw (append_assoc, ← append_assoc f.heard f.rest after, f.parts) parts in
       let text = append_assoc o.text (text_of o.place heard) (text_of (place_after o.place heard) f.heard) in
       let prints = rw (text, ← text_more) at (front_after o.out x y _ _ h.printed f.prints) in
-      let hears : HearsFront o.text o.place whole o.out y = record { heard = heard ++ f.heard; rest = f.rest; parts = all; prints = prints } in
+      let hears : HearsFront o.text o.place whole o.out y = record { heard = heard ++ f.heard; rest = f.rest ++ after; parts = all; prints = prints } in
       let read = Consumes-trans o.way.left mid.left left _ _ h.passes.gave gave in
       record { hears = hears; unheard = unheard; read = simp append_assoc (simp append_assoc at read); few = few }
 
   -- nothing more was
   pub reads_none : (rest whole unheard : List ℕ) → heard ++ rest ≡ whole → Consumes mid.left left unheard → length unheard ≤ max_piece → HearsUpTo o whole left x
-  reads_none rest whole unheard = reads_front whole unheard (record { heard = []; rest = rest; parts = refl; prints = front_whole x x [] (Appends-nil x) })
+  reads_none rest whole unheard = reads_front rest whole unheard (record { heard = []; rest = []; parts = refl; prints = front_whole x x [] (Appends-nil x) })
 
 -- ---- what a session makes of one piece after another, and of one line after another
 
@@ -147,14 +139,12 @@ module _ (S : Setting) (conn : ℕ) (ledger : List EntryView) where
       append_cancel_left (said s) _ _ (cc (answer_is s (a ++ b), append_assoc s a b, answer_is (s ++ a) b, answer_is s a, assoc))
 
   -- one line after another
-  abbrev At : List (ℕ × ScriptRequestView) → Type 0
-  At ls = IsQuiet (turns_of S conn ledger ls)
-
   module _ (ls : List (ℕ × ScriptRequestView)) (l : ℕ × ScriptRequestView) (rest all : List (ℕ × ScriptRequestView)) (parts : ls ++ l ∷ rest ≡ all) where
     pub lines_more : (Came : Turns → Type 0) → AreQuiet S conn ledger ls
         → (let t = exchanged S conn ledger (with_line (turns_of S conn ledger ls) l) in Came t × IsQuiet t)
         → (done : List (ℕ × ScriptRequestView)) × (done ++ rest ≡ all) × Came (turns_of S conn ledger done) × AreQuiet S conn ledger done
     lines_more Came before now =
+        let At = λ (done : List (ℕ × ScriptRequestView)). IsQuiet (turns_of S conn ledger done) in
         let same = sym (fold-append (next_turn S conn ledger) no_turns ls (l ∷ [])) in
         let so = subst (λ t. Came (exchanged S conn ledger t) × IsQuiet (exchanged S conn ledger t)) same now in
         let last = λ (n : ℕ) (m : length ls < n). subst At (sym (take_all n (ls ++ l ∷ []) (omega (arith, m, length-append ls (l ∷ []))))) so.1 in
@@ -170,53 +160,31 @@ Left r conn Now out t = (u : Opened) × Now (with_talk r conn u t.ledger t.kept)
 
 module _ {G : Type 0} (r : Rest G) (conn : ℕ) (S : Setting) (Now : Rest G → Type 0) (up : List ℕ) where
   pub sits_talk : (out : List ℕ) (liveness : Liveness) → Sits r conn S Now up out liveness → Left r conn Now out (talk_for S conn r.ledger up)
-  sits_talk out Open s = subst (Left r conn Now out) (sym (talk_by_items S conn r.ledger up)) (state at_server at_server.start up, s.0.0, s.0.1)
-  sits_talk out Over s =
+  sits_talk out Liveness.Open s = subst (Left r conn Now out) (sym (talk_by_items S conn r.ledger up)) (state at_server at_server.start up, s.0.0, s.0.1)
+  sits_talk out Liveness.Over s =
       let same = sym (told_over r conn S s.front s.rest s.over) ∙ ap (told_by r conn S) s.parts ∙ sym (talk_by_items S conn r.ledger up) in
       subst (Left r conn Now out) same (state at_server at_server.start s.front, s.stands.0, s.stands.1)
 
   pub sits_takes : (piece out : List ℕ) (liveness : Liveness) → TakesPiece r conn S Now (Some []) (Some out) up piece (Ok liveness)
       → Sits r conn S Now (up ++ piece) out liveness
-  sits_takes piece out Open h = h
-  sits_takes piece out Over h =
-      let parts = append_assoc up h.front h.rest ∙ ap (λ z. up ++ z) h.parts in
-      record { front = up ++ h.front; rest = h.rest; parts = parts; stands = h.stands; over = h.over }
+  sits_takes piece out Liveness.Open h = h
+  sits_takes piece out Liveness.Over h = record { front = up ++ h.front; rest = h.rest; parts = rw (append_assoc, h.parts) refl; stands = h.stands; over = h.over }
 
 -- a request was submitted, or refused; or the line of its refusal was cut
-pub line_by : (p : Place) (q : RequestView) (n : ℕ) (x y : Option (List ℕ)) (Now : Place → Type 0) (result : Result Bool StreamFault) → Submits p q n x y Now result
-    → (let o = refuses p.rest.knows q in MatchResult result (λ _. Appends x y (text_by o n) × Now (place_by o p q)) (λ _. AppendsFront x y (text_by o n)))
-line_by p q n x y Now (Ok true) h = rw (h.0, h.1) (Appends-nil x, h.2)
-line_by p q n x y Now (Ok false) h = rw (h.2, h.3) (h.4, h.5)
-line_by p q n x y Now (Err fault) (at, inl e) = rw e ([], text_by (refuses p.rest.knows q) n, refl, Appends-nil x)
-line_by p q n x y Now (Err fault) (at, inr s) = rw (s.2, s.3) s.4
-
-pub stands_by : {c : Caller} (p : Place) (q : RequestView) (item : Opened) (o : Option SubmitFault) → (p.rest.knows.over ≡ false → item ≡ p.rest.item)
-    → IsAt c (place_by o (with_item p item) q) → StandsAt c (place_by o p q)
-stands_by p q item None same at = record { item = item; at = at; same = same }
-stands_by p q item (Some why) same at = record { item = item; at = at; same = same }
-
--- before the first exchange, on a server on which no session lives
-pub loop_begins : {G : Type 0} (r : Rest G) (S : Setting) {p : Pair} {Now : Rest G → Type 0} {conn : ℕ} → r.sessions ≡ [] → HasOpened r conn Now
-    → p.said.bytes.items ≡ [] → p.liveness ≡ Open → IsAt p.caller first_place → IsOpened r S conn p Now
-loop_begins r S {Now = Now} {conn = conn} none o e g at =
-    let f = found_by r none o.number in
-    let found : IsSome (find conn (opened r).sessions) = subst IsSome (sym f) refl in
-    let same = ap (λ (ss : List Live). record (opened r) { sessions = ss }) (replace-itself conn (fresh conn) (opened r).sessions f) in
-    record {
-      number = o.number;
-      found = found;
-      now = o.now;
-      comes = λ a. record {
-        lives = lives_same conn Now (opened r) o.now found;
-        client = record { item = first_place.rest.item; at = at; same = λ e. refl };
-        session = rw g ((subst Now (sym same) o.now, e), refl);
-        up = passes_none;
-        down = subst (Passes a.down a.down) (ap (λ (t : Talk). t.out) (sym (talk_by_items S conn r.ledger []))) passes_none;
-        printed = Appends-nil a.out;
-      };
-    }
+pub line_by : {b : Caller} (c : Caller) {p : Place} (s : StandsAt b p) (q : RequestView) (n : ℕ) (x y : Option (List ℕ)) (result : Result Bool StreamFault)
+    → Submits (with_item p s.item) q n x y (IsAt c) result → (let o = refuses p.rest.knows q in
+    MatchResult result (λ _. Appends x y (text_by o n) × StandsAt c (place_by o p q)) (λ _. AppendsFront x y (text_by o n)))
+line_by c s q n x y (Ok true) h = rw (h.0, h.1) (Appends-nil x, record { item = s.item; at = h.2; same = s.same })
+line_by c s q n x y (Ok false) h = rw (h.2, h.3) (h.4, record { item = s.item; at = h.5; same = s.same })
+line_by c {p = p} s q n x y (Err fault) (at, inl e) = rw e ([], text_by (refuses p.rest.knows q) n, refl, Appends-nil x)
+line_by c s q n x y (Err fault) (at, inr t) = rw (t.2, t.3) t.4
 
 -- ---- in an exchange
+
+-- a fault broke it off, and has a cause
+pub broken_off : {T A B C D : Type 0} (fault : StreamFault) → A → (IsErrOf {T = T} (Err fault) ReadFailed → B) → (IsErrOf {T = T} (Err fault) WriteFailed → C) → D
+    → A × IsStopOf (Broken fault) B C × D
+broken_off fault lives read written there = (lives, cause_of fault _ _ (λ e. read (ap Err e)) (λ e. written (ap Err e)), there)
 
 -- nothing is heard in it
 pub breaks_before : (S : Setting) (conn : ℕ) (ledger : List EntryView) (t : Turns) {l left x out : Option (List ℕ)}
@@ -229,68 +197,44 @@ breaks_before S conn ledger t gave prints = record {
   few = omega arith;
 }
 
-module _ {G : Type 0} {r : Rest G} {conn : ℕ} {S : Setting} {start a : Ways} {x : Pair} {Now : Rest G → Type 0} where
-  -- all that the client has to send was taken out
-  pub meets : {t : Turns} {c : Caller} {bytes : List ℕ} (max : ℕ) (h : Comes r conn S start a t x Now) → (let was = rest_of x.caller.client in
-      (bytes ≡ take max was.unsent) × (rest_of c.client ≡ taken_out was max)) → length bytes < max → c.version ≡ x.caller.version
-      → (bytes ≡ t.place.rest.unsent) × Meets r conn S start a t [] (record { caller = c; said = x.said; liveness = x.liveness }) Now
-  meets {t = t} {c = c} {bytes = bytes} max h o l v =
-      let old = h.client in
-      let was = rest_of x.caller.client in
-      let taken = all_taken max was.unsent bytes o.0 l in
-      let rest = o.1 ∙ ap (λ (z : List ℕ). record was { unsent = z }) taken.1 ∙ ap (λ (z : ClientRest). record z { unsent = [] }) old.at.fits in
-      let stands : StandsAt c (all_sent t.place) = record { item = old.item; at = record { fits = rest; version = v ∙ old.at.version }; same = old.same } in
-      let none : answer_to S conn r.ledger t.sent [] ≡ [] = rw (append-nil, drop-length) refl in (
-        taken.0 ∙ ap (λ (z : ClientRest). z.unsent) old.at.fits,
-        record { lives = h.lives; client = rw none stands; session = rw append-nil h.session; up = rw append-nil h.up; down = rw append-nil h.down; printed = rw (none, append-nil) h.printed },
-      )
+module _ {G : Type 0} {r : Rest G} {conn : ℕ} {S : Setting} {start a : Ways} {x : Pair} {Now : Rest G → Type 0} (t : Turns) (sent : List ℕ) (m : Meets r conn S start a t sent x Now) where
+  abbrev to : List ℕ → List ℕ → List ℕ
+  to = answer_to S conn r.ledger
 
-  module _ (t : Turns) (sent : List ℕ) (m : Meets r conn S start a t sent x Now) where
-    abbrev to : List ℕ → List ℕ → List ℕ
-    to = answer_to S conn r.ledger
+  pub hears_so : HasHeard (outset r conn S start t) (to t.sent sent) a.down a.out x.caller
+  hears_so = record { stands = m.client; passes = subst (Passes start.down _) (answer_is S conn r.ledger t.sent sent) m.down; printed = m.printed }
 
-    pub hears_so : HasHeard (outset r conn S start t) (to t.sent sent) a.down a.out x.caller
-    hears_so = record { stands = m.client; passes = subst (Passes start.down _) (answer_is S conn r.ledger t.sent sent) m.down; printed = m.printed }
+  due_more : (rest : List ℕ) → sent ++ rest ≡ t.place.rest.unsent → to t.sent sent ++ to (t.sent ++ sent) rest ≡ due S conn r.ledger t
+  due_more rest parts = sym (answer_more S conn r.ledger t.sent sent rest) ∙ ap (to t.sent) parts
 
-    due_more : (rest : List ℕ) → sent ++ rest ≡ t.place.rest.unsent → to t.sent sent ++ to (t.sent ++ sent) rest ≡ due S conn r.ledger t
-    due_more rest parts = sym (answer_more S conn r.ledger t.sent sent rest) ∙ ap (to t.sent) parts
+  -- a fault comes
+  pub breaks_here : (rest : List ℕ) → sent ++ rest ≡ t.place.rest.unsent → BreaksIn S conn r.ledger start a t
+  breaks_here rest parts = reads_none hears_so (to (t.sent ++ sent) rest) _ [] (due_more rest parts) (Consumes-nil a.down.left) (omega arith)
 
-    -- a fault comes
-    pub breaks_here : (rest : List ℕ) → sent ++ rest ≡ t.place.rest.unsent → BreaksIn S conn r.ledger start a t
-    breaks_here rest parts = reads_none hears_so (to (t.sent ++ sent) rest) _ [] (due_more rest parts) (Consumes-nil a.down.left) (omega arith)
-
-    -- it is heard, or a fault comes
-    pub turn_goes : {Then : Rest G → Type 0} (b : Ways) (y : Pair) (piece after : List ℕ) (result : Result (Unit {0}) StreamFault)
-        → sent ++ (piece ++ after) ≡ t.place.rest.unsent → Grows r conn Then → Passes a.up b.up piece
-        → Sits r conn S Then ((t.sent ++ sent) ++ piece) y.said.bytes.items y.liveness
-        → (let answer = to (t.sent ++ sent) piece in let o = outset r conn S start t in
-        MatchResult result (λ _. HasHeard o (to t.sent sent ++ answer) b.down b.out y.caller)
-        (λ _. HearsUpTo o (to t.sent sent ++ (answer ++ to ((t.sent ++ sent) ++ piece) after)) b.down.left b.out))
-        → (IsErrOf result ReadFailed → BreaksAtSource a.down b.down) → (IsErrOf result WriteFailed → (b.down.write_failed ≡ true) ⊎ (b.out_failed ≡ true))
-        → Goes r conn start b Then (Meets r conn S start b t (sent ++ piece) y Then) (BreaksIn S conn r.ledger start b t) result
-    turn_goes b y piece after (Ok u) parts lives up s heard read written =
-        let same = append_assoc t.sent sent piece in
-        let h = rw (← answer_more S conn r.ledger t.sent sent piece) at heard in
-        let down = subst (Passes start.down _) (sym (answer_is S conn r.ledger t.sent (sent ++ piece))) h.passes in
-        record { lives = lives; client = h.stands; session = rw (← same) s; up = rw (← same) (passes_then m.up up); down = down; printed = h.printed }
-    turn_goes b y piece after (Err fault) parts lives up s heard read written =
-        let whole = ap (λ z. to t.sent sent ++ z) (sym (answer_more S conn r.ledger (t.sent ++ sent) piece after)) ∙ due_more (piece ++ after) parts in (
-          lives,
-          cause_of fault _ _ (λ e. inr (source_after hears_so.passes (read (ap Err e)))) (λ e. inr (written (ap Err e))),
-          subst (λ z. HearsUpTo (outset r conn S start t) z b.down.left b.out) whole heard,
-        )
+  -- it is heard, or a fault comes
+  pub turn_goes : {Then : Rest G → Type 0} (b : Ways) (y : Pair) (piece after : List ℕ) (result : Result (Unit {0}) StreamFault)
+      → sent ++ (piece ++ after) ≡ t.place.rest.unsent → Grows r conn Then → Passes a.up b.up piece
+      → Sits r conn S Then ((t.sent ++ sent) ++ piece) y.said.bytes.items y.liveness
+      → HandsOver (outset r conn S start t) (to t.sent sent) (to (t.sent ++ sent) piece) (to ((t.sent ++ sent) ++ piece) after) b.down b.out y.caller result
+      → (IsErrOf result ReadFailed → BreaksAtSource a.down b.down) → (IsErrOf result WriteFailed → (b.down.write_failed ≡ true) ⊎ (b.out_failed ≡ true))
+      → Goes r conn start b Then (Meets r conn S start b t (sent ++ piece) y Then) (BreaksIn S conn r.ledger start b t) result
+  turn_goes b y piece after (Ok u) parts lives up s heard read written =
+      let same = append_assoc t.sent sent piece in
+      let h = rw (← answer_more S conn r.ledger t.sent sent piece) at heard in
+      let down = subst (Passes start.down _) (sym (answer_is S conn r.ledger t.sent (sent ++ piece))) h.passes in
+      record { lives = lives; client = h.stands; session = rw (← same) s; up = rw (← same) (passes_then m.up up); down = down; printed = h.printed }
+  turn_goes b y piece after (Err fault) parts lives up s heard read written =
+      let there = rw (← answer_more S conn r.ledger (t.sent ++ sent) piece after, due_more (piece ++ after) parts) at heard in
+      broken_off fault lives (λ e. inr (source_after hears_so.passes (read e))) (λ e. inr (written e)) there
 
 -- ---- in a whole run
 
 module _ (S : Setting) (conn : ℕ) (ledger : List EntryView) where
-  abbrev next : Turns → ℕ × ScriptRequestView → Turns
-  next = next_turn S conn ledger
-
   -- what is printed then is a beginning of what is printed in the end, since each line prints more
   lines_front : (x y : Option (List ℕ)) (t : Turns) (ls : List (ℕ × ScriptRequestView)) → AppendsFront x y (exchanged S conn ledger t).text
-      → AppendsFront x y (exchanged S conn ledger (fold next t ls)).text
+      → AppendsFront x y (exchanged S conn ledger (fold (next_turn S conn ledger) t ls)).text
   lines_front x y t [] h = h
-  lines_front x y t (l ∷ ls) h = lines_front x y (next t l) ls (front_in x y _ _ (front_in x y _ _ h))
+  lines_front x y t (l ∷ ls) h = lines_front x y (next_turn S conn ledger t l) ls (front_in x y _ _ (front_in x y _ _ h))
 
 module _ {G : Type 0} (r : Rest G) (S : Setting) (lines : List (ℕ × ScriptRequestView)) {start : Ways} where
   -- in the lines
@@ -302,7 +246,7 @@ module _ {G : Type 0} (r : Rest G) (S : Setting) (lines : List (ℕ × ScriptReq
       let h = k.hears in
       let more = front_in start.out last.out _ (text_of (place_after p h.heard) h.rest) h.prints in
       let front = rw (append_assoc t.text (text_of p h.heard), ← text_more p h.heard h.rest, h.parts) at more in
-      let whole = sym (fold-append (next S r.next r.ledger) no_turns (take n lines) (drop n lines)) ∙ ap stages (take-append-drop n lines) in
+      let whole = sym (fold-append (next_turn S r.next r.ledger) no_turns (take n lines) (drop n lines)) ∙ ap stages (take-append-drop n lines) in
       let begins = subst (λ (z : Turns). AppendsFront start.out last.out (exchanged S r.next r.ledger z).text) whole
       (lines_front S r.next r.ledger start.out last.out t (drop n lines) front) in
       record { begins = front_in start.out last.out _ _ begins; printed = inl (n, k) }
@@ -319,17 +263,17 @@ module _ {G : Type 0} (r : Rest G) (S : Setting) (lines : List (ℕ × ScriptReq
       → Comes (opened r) r.next S start b (end r S lines) p Now × AreQuiet S r.next r.ledger lines → (es : List EntryView)
       → ((x : Rest G) → Now x → es ≡ x.ledger) → (result : Result (Unit {0}) StreamFault) → OnOk result (Appends b.out out (entries_text es))
       → OnErr result (AppendsFront b.out out (entries_text es)) → (IsErrOf result ReadFailed → ⊥) → (IsErrOf result WriteFailed → failed ≡ true)
-      → EndsAt r S lines Now start (record { up = b.up; down = b.down; out = out; out_failed = failed }) result
+      → HasLooped r Now × EndsAt r S lines Now start (record { up = b.up; down = b.down; out = out; out_failed = failed }) result
   ends_at {b = b} {p = p} {Now = Now} out (h, quiet) es same (Ok u) told front read written =
       let left = sits_talk (opened r) r.next S Now (end r S lines).sent p.said.bytes.items p.liveness h.session in
       let printed = Appends-trans start.out b.out out _ _ h.printed (rw (same _ left.1) at told) in
-      record { unfinished = left.0; printed = printed; up = h.up; down = h.down; quiet = quiet; now = left.1 }
+      (inr h.lives, record { unfinished = left.0; printed = printed; up = h.up; down = h.down; quiet = quiet; now = left.1 })
   ends_at {b = b} {p = p} {Now = Now} out (h, quiet) es same (Err fault) told front read written =
       let left = sits_talk (opened r) r.next S Now (end r S lines).sent p.said.bytes.items p.liveness h.session in
       let entries = rw (same _ left.1) at front in (
-        cause_of fault _ _ (λ z. absurd (read (ap Err z))) (λ z. inr (inr (written (ap Err z)))),
-        record {
-          begins = front_after start.out b.out out _ _ h.printed entries;
-          printed = inr (record { up = h.up; down = h.down; out = b.out; printed = h.printed; entries = entries });
-        },
+        inr h.lives,
+        (
+          cause_of fault _ _ (λ z. absurd (read (ap Err z))) (λ z. inr (inr (written (ap Err z)))),
+          record { begins = front_after start.out b.out out _ _ h.printed entries; printed = inr (record { up = h.up; down = h.down; out = b.out; printed = h.printed; entries = entries }) },
+        ),
       )

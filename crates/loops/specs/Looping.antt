@@ -98,6 +98,13 @@ pub record HasHeard (o : Outset) (heard : List ℕ) (way : Way) (out : Option (L
   pub passes : Passes o.way way (o.behind ++ heard)
   pub printed : Appends o.out out (o.text ++ text_of o.place heard)
 
+-- These bytes passed behind what it has heard, and it has heard them; or a fault came while it read and heard them and what is answered after them.
+abbrev pub HandsOver : Outset → List ℕ → List ℕ → List ℕ → Way → Option (List ℕ) → Caller
+    → Result (Unit {0}) StreamFault → Type 0
+HandsOver o heard bytes after way out c (Ok x) = HasHeard o (heard ++ bytes) way out c
+HandsOver o heard bytes after way out c (Err fault) =
+    HearsUpTo o (heard ++ (bytes ++ after)) way.left out
+
 -- a stop is I1 only if a way breaks at its source, and I2 only if a sink has failed
 abbrev pub HasCause : StopReason → Ways → Ways → Type 0
 HasCause stop start now = IsStopOf stop (FailsToRead start now) (FailsToWrite now)

@@ -5,7 +5,7 @@ ghost use Rattle.server.specs.Serving.{Rest, find, setting};
 ghost use Rattle.server.specs.Views.{Fits};
 ghost use Rattle.serves.specs.Settling.{IsLive, LivesOn};
 ghost use Rattle.loops.specs.Passing.{BreaksAtSource, GivesNoMore, GivesSome, LetsReadWaiting, Passes};
-ghost use Rattle.loops.specs.Looping.{HasHeard, HearsFront, HearsUpTo, IsHeardAll, Outset, Sits, StandsAt};
+ghost use Rattle.loops.specs.Looping.{HandsOver, HasHeard, HearsFront, IsHeardAll, Outset, Sits, StandsAt};
 ghost use Rattle.shells.specs.Talking.{Place};
 
 use crate::ways::OneWay;
@@ -112,9 +112,7 @@ pub(crate) fn hand_over<T: Sink, S: PeerSource, O: Sink>(
     requires { LetsReadWaiting S.left S.may_read way.old.at }
     ensures hears { (o : Outset) (heard after : List ℕ)
         → HasHeard o heard way.old.at (O.taken out.old) caller.old
-        → MatchResult result
-        (λ _. HasHeard o (heard ++ bytes.now) way.new.at (O.taken out.new) caller.new)
-        (λ _. HearsUpTo o (heard ++ (bytes.now ++ after)) way.new.at.left (O.taken out.new)) }
+        → HandsOver o heard bytes.now after way.new.at (O.taken out.new) caller.new result }
     ensures lets { OnOk result (LetsReadWaiting S.left S.may_read way.new.at) }
     ensures read { IsErrOf result StreamFault.ReadFailed → BreaksAtSource way.old.at way.new.at }
     ensures written { IsErrOf result StreamFault.WriteFailed
@@ -137,6 +135,7 @@ pub(crate) fn hand_over<T: Sink, S: PeerSource, O: Sink>(
 }
 
 /// The session takes a piece and puts out what it makes due, unless it has ended.
+#[tactic(auto, using(serves::proofs::Called::lives_same))]
 pub(crate) fn give<E: Engine, G: Gate>(
     server: &mut Server<E, G>,
     conn: u64,

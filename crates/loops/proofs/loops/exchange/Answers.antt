@@ -1,4 +1,5 @@
-use Rattle.loops.proofs.Looped.{[], all_done, ap, append_assoc, arith, awaits, breaks_before, breaks_here, ClientRest, empty_nil, front_whole, meets, refl, setting, sym, ◌++◌, ◌∙◌}
+use Rattle.loops.proofs.Looped.{ClientRest, StandsAt, [], all_done, all_sent, all_taken, answer_to, ap, append-nil, append_assoc, arith, awaits, breaks_before, breaks_here, drop-length, empty_nil}
+use Rattle.loops.proofs.Looped.{front_whole, refl, rest_of, setting, sym, ◌++◌, ◌∙◌, ◌≡◌}
 use Rattle.loops.proofs.loops.exchange.Goals as goal
 
 pub returns-in_default-clause-goes : goal.returns-in_default-clause-goes
@@ -9,9 +10,18 @@ pub loop-rest-init : goal.loop-rest-init
 loop-rest-init g c = record {
   on = c.requires;
   goes = λ r start t i h.
-      let m = meets {c = record c.args.pair.now.caller { client = c.take_out.new.self }} 18446744073709551615 h c.in-Ok.ensures.ok
-      (omega (arith, c.in-Ok.ensures.short)) refl in
-      ([], c.as_slice-rest.ensures ∙ m.0, m.1);
+      let was = rest_of c.args.pair.now.caller.client in
+      let o = c.in-Ok.ensures.ok in
+      let taken = all_taken 18446744073709551615 was.unsent _ o.0 (omega (arith, c.in-Ok.ensures.short)) in
+      let rest = o.1 ∙ ap (λ z. record was { unsent = z }) taken.1 ∙ ap (λ (z : ClientRest). record z { unsent = [] }) h.client.at.fits in
+      let client : StandsAt (record c.args.pair.now.caller { client = c.take_out.new.self }) (all_sent t.place)
+      = record { item = h.client.item; at = record { fits = rest; version = h.client.at.version }; same = h.client.same } in
+      let S = setting g.E.Engine.answer g.G.Gate.welcomes r in
+      let none : answer_to S c.args.conn r.ledger t.sent [] ≡ [] = rw (append-nil, drop-length) refl in (
+        [],
+        c.as_slice-rest.ensures ∙ taken.0 ∙ ap (λ (z : ClientRest). z.unsent) h.client.at.fits,
+        record { lives = h.lives; client = rw none client; session = rw append-nil h.session; up = rw append-nil h.up; down = rw append-nil h.down; printed = rw (none, append-nil) h.printed },
+      );
 }
 
 pub loop-rest-preserved : goal.loop-rest-preserved

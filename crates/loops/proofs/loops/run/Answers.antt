@@ -1,8 +1,5 @@
-use Rattle.loops.proofs.Looped.{breaks_none, inl, refl}
+use Rattle.loops.proofs.Looped.{breaks_none, inl}
 use Rattle.loops.proofs.loops.run.Goals as goal
-
-pub returns-in-Err-Unreadable-clause-loops : goal.returns-in-Err-Unreadable-clause-loops
-returns-in-Err-Unreadable-clause-loops g c = λ r f none. (inl f, (tt, λ n. absurd (n refl)))
 
 pub returns-in-Err-Memory-clause-loops : goal.returns-in-Err-Memory-clause-loops
 returns-in-Err-Memory-clause-loops g c = λ r f none. (inl f, (tt, λ n. breaks_none _ _ _))

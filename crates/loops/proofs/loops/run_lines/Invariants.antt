@@ -1,5 +1,4 @@
-use Rattle.loops.proofs.Looped.{AreQuiet, Comes, Fits, IsLive, IsSome, LetBothRead, List, Rest, ScriptRequestView, Ways, find, no_turns, said_requests}
-use Rattle.loops.proofs.Looped.{setting, turns_of, ℕ, ◌++◌, ◌≡◌}
+use Rattle.loops.proofs.Looped.{AreQuiet, Comes, Fits, IsLive, IsSome, LetBothRead, List, Rest, ScriptRequestView, Ways, find, no_turns, said_requests, setting, turns_of, ℕ, ◌++◌, ◌≡◌}
 use Rattle.loops.proofs.loops.run_lines.Given as goal
 
 -- some lines were run, no answer is still to come, and the others follow

@@ -1,13 +1,11 @@
-use Rattle.loops.proofs.Looped.{Bool, Broken, Gets, List, Numbers, Option, ReadFailed, Some, StopReason, TellsLine, Unreadable, stop_status, stop_text, sym, ℕ}
-use Rattle.loops.proofs.Looped.{⊎_elim, ◌∙◌, ◌≡◌}
+use Rattle.loops.proofs.Looped.{Bool, Broken, Gets, List, Numbers, Option, Some, StopReason, TellsLine, Unreadable, arith, stop_status, stop_text, sym, ℕ, ⊎_elim, ◌∙◌, ◌≡◌}
 use Rattle.loops.proofs.loops.run_loop.Goals as goal
 
 -- a status of 0 is that of no stop, and 2 that of a line that can't be read, whose number is told
 stopped : (script : List ℕ) (stop : StopReason) (had has : Bool) (before after : Option (List ℕ)) → Gets had has before after (stop_text stop)
     → Numbers script stop → (stop_status stop ≡ 0 → ⊥) × (stop_status stop ≡ 2 → TellsLine script had has before after)
 stopped script (Unreadable n) had has before after text h = (λ e. absurd cc, λ e. (n, h, text))
-stopped script (Broken ReadFailed) had has before after text h = (λ e. absurd cc, λ e. absurd cc)
-stopped script (Broken _) had has before after text h = (λ e. absurd cc, λ e. absurd cc)
+stopped script (Broken fault) had has before after text h = grind arith
 
 pub returns-in-Err : goal.returns-in-Err
 returns-in-Err g c =

@@ -1,5 +1,4 @@
-use Rattle.loops.proofs.Looped.{AreQuiet, Comes, Fits, Rest, ap, breaks_lines, breaks_none, ends_at, entries_view, inl, inr, opened, said_requests, setting}
-use Rattle.loops.proofs.Looped.{subst, turns_of, ℕ, ◌∙◌}
+use Rattle.loops.proofs.Looped.{AreQuiet, Comes, Fits, Rest, ap, breaks_lines, breaks_none, ends_at, entries_view, inl, inr, opened, said_requests, setting, subst, turns_of, ℕ, ◌∙◌}
 use Rattle.loops.proofs.loops.run_opened.Goals as goal
 
 pub returns-in-Err : goal.returns-in-Err
@@ -24,8 +23,6 @@ returns g c = λ r f none.
     let Came = λ (n : ℕ). Comes (opened r) n S c.args.ways.now.at c.run_lines.new.ways.at (turns_of S n r.ledger lines) c.run_lines.new.pair Now in
     let came = c.in-Ok-run_lines.ensures (opened r) c.args.ways.now.at o.found (o.comes _) in
     let k = rw (← c.ways.view_is) at (subst (λ (n : ℕ). Came n × AreQuiet S n r.ledger lines) o.number came) in
-    let p = c.put_entries.ensures in (
-      inr k.0.lives,
-      ends_at r S lines (g.O.Sink.taken c.put_entries.new.out) k (entries_view c.ledger.result.now)
-          (λ x e. c.ledger.ensures.lends ∙ c.engine.ensures ∙ ap (λ (z : Rest g.row.G.Denot). z.ledger) e) _ p.told p.front p.read p.written,
-    )
+    let p = c.put_entries.ensures in
+    ends_at r S lines (g.O.Sink.taken c.put_entries.new.out) k (entries_view c.ledger.result.now)
+    (λ x e. c.ledger.ensures.lends ∙ c.engine.ensures ∙ ap (λ (z : Rest g.row.G.Denot). z.ledger) e) _ p.told p.front p.read p.written

@@ -1,14 +1,11 @@
-use Rattle.loops.proofs.Looped.{Err, Fits, answer_to, ap, breaks_here, cause_of, grows_by, hears_so, inl, on_ok_weaker, outset, setting, sits_talk, source_after, turn_goes, ◌++◌, ◌≡◌}
+use Rattle.loops.proofs.Looped.{Fits, answer_to, breaks_here, broken_off, grows_by, hears_so, inl, arith, outset, setting, sits_talk, source_after, turn_goes, ◌++◌, ◌≡◌}
 use Rattle.loops.proofs.loops.turn.Goals as goal
 
 pub returns-in-Err-clause-goes : goal.returns-in-Err-clause-goes
 returns-in-Err-clause-goes g c = λ r start t sent after i parts m0.
     let m = rw (← c.ways.view_is) at m0 in
-    let k = c.in-Err.ensures in (
-      m.lives,
-      cause_of c.in-Err.fault _ _ (λ e. inl (source_after m.up (k.read (ap Err e)))) (λ e. inl (k.written (ap Err e))),
-      breaks_here t sent m (c.args.piece.now ++ after) parts,
-    )
+    let k = c.in-Err.ensures in
+    broken_off c.in-Err.fault m.lives (λ e. inl (source_after m.up (k.read e))) (λ e. inl (k.written e)) (breaks_here t sent m (c.args.piece.now ++ after) parts)
 
 pub returns-in-Err-give-clause-goes : goal.returns-in-Err-give-clause-goes
 returns-in-Err-give-clause-goes g c = λ r start t sent after i parts m0.
@@ -17,7 +14,7 @@ returns-in-Err-give-clause-goes g c = λ r start t sent after i parts m0.
     rw c.in-Err-give.ensures.fault (lives, tt, breaks_here t sent m (c.args.piece.now ++ after) parts)
 
 pub returns-clause-on : goal.returns-clause-on
-returns-clause-on g c = on_ok_weaker c.hand_over.result (λ near. (c.give.ensures.live, (near, c.in-Ok.ensures.lets))) c.hand_over.ensures.lets
+returns-clause-on g c = grind (arith, c.hand_over.ensures.lets, c.give.ensures.live, c.in-Ok.ensures.lets)
 
 pub returns-clause-goes : goal.returns-clause-goes
 returns-clause-goes g c = λ r start t sent after i parts m0.

@@ -1,5 +1,5 @@
-use Rattle.loops.proofs.Looped.{Appends-trans, [], all_done, ap, append-nil, append_assoc, arith, empty_nil, length, length-append, max_piece, more_front, passes_none, passes_then}
-use Rattle.loops.proofs.Looped.{place_after, place_more, reads_front, reads_none, refl, source_after, text_more, text_of, ◌++◌, ◌∙◌, ◌≡◌, ◌≤◌}
+use Rattle.loops.proofs.Looped.{Appends-trans, [], all_done, ap, append-nil, append_assoc, arith, empty_nil, length, length-append, max_piece, passes_none, passes_then, place_after, place_more}
+use Rattle.loops.proofs.Looped.{reads_front, reads_none, refl, source_after, text_more, text_of, ◌++◌, ◌∙◌, ◌≡◌, ◌≤◌}
 use Rattle.loops.proofs.passing.hand_over.Goals as goal
 
 pub loop-rest-init : goal.loop-rest-init
@@ -48,7 +48,7 @@ returns-in-Err-hear-clause-hears g c = λ o x after h.
     let all : (x ++ so.done) ++ (c.next_part.result.0.now ++ (c.next_part.result.1.now ++ after)) ≡ x ++ (c.args.bytes.now ++ after)
     = rw (← so.parts, ← c.next_part.ensures.parts) (simp append_assoc) in
     let few : length some.rest ≤ max_piece = omega (arith, c.next_part.ensures.short, ap length some.parts, length-append some.heard some.rest) in
-    reads_front k _ some.rest (more_front _ some) all (rw some.parts c.in-Ok.ensures.passes.gave) few
+    reads_front k _ _ some.rest some all (rw some.parts c.in-Ok.ensures.passes.gave) few
 
 pub returns-clause-hears : goal.returns-clause-hears
 returns-clause-hears g c = λ o x after h.

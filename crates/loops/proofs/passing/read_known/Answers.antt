@@ -1,12 +1,9 @@
-use Rattle.loops.proofs.Looped.{Consumes, Consumes-trans, List, ap, length, length-take-le, post_of, put_mid, rules, subst, sym, take, take-append-add}
-use Rattle.loops.proofs.Looped.{take-append-le, ℕ, ◌++◌, ◌+◌, ◌-◌, ◌∙◌, ◌≡◌, ◌≤◌}
+use Rattle.loops.proofs.Looped.{Consumes, Consumes-trans, List, length, length-take-le, post_of, put_mid, rules, subst, sym, take, take-append-add, take-append-le, ℕ, ◌++◌, ◌+◌, ◌-◌, ◌≡◌, ◌≤◌}
 use Rattle.loops.proofs.passing.read_known.Goals as goal
 
 -- bytes that were read into the rest of a buffer
 taken_more : (a k n : ℕ) (xs ys : List ℕ) → a ≤ length xs → n ≤ length ys → take (a + n) (put_mid a k xs ys) ≡ take a xs ++ take n ys
-taken_more a k n xs ys p q =
-    ap (λ m. take (m + n) (put_mid a k xs ys)) (sym (length-take-le a xs p)) ∙ take-append-add (take a xs) (ys ++ post_of a k xs) n
-    ∙ ap (λ z. take a xs ++ z) (take-append-le n ys (post_of a k xs) q)
+taken_more a k n xs ys p q = cc (take-append-add (take a xs) (ys ++ post_of a k xs) n, take-append-le n ys (post_of a k xs) q, length-take-le a xs p)
 
 pub loop-at-preserved : goal.loop-at-preserved
 loop-at-preserved g c =
