@@ -30,7 +30,8 @@ fn unsigned(wide: Width, bytes: &[u8]) -> u64
 }
 
 /// The same in two's complement.
-fn signed(wide: Width, bytes: &[u8]) -> i64
+#[inline]
+pub(crate) fn signed(wide: Width, bytes: &[u8]) -> i64
     requires { width wide ≤ length bytes.now }
     ensures { result ≡ twos_complement (width wide) (big_number (width wide) bytes.now) }
 {

@@ -2,16 +2,25 @@ use Rattle.packstream.proofs.Words.{◌≡◌, ◌-◌, ◌*◌, ◌+◌, [], tr
 use Rattle.packstream.proofs.decoder.+decoder.Given as goal
 
 abbrev pub decreases-value_of : goal.decreases-value_of
-decreases-value_of l = 2 * l.room + 1
+decreases-value_of l = 3 * l.room + 1
+
+abbrev pub decreases-list_of : goal.decreases-list_of
+decreases-list_of l = 3 * l.room
+
+abbrev pub decreases-dict_of : goal.decreases-dict_of
+decreases-dict_of l = 3 * l.room
+
+abbrev pub decreases-struct_of : goal.decreases-struct_of
+decreases-struct_of l = 3 * l.room
 
 abbrev pub decreases-members_of : goal.decreases-members_of
-decreases-members_of l = 2 * l.room + 2
+decreases-members_of l = 3 * l.room + 2
 
 abbrev pub decreases-many_pairs_of : goal.decreases-many_pairs_of
-decreases-many_pairs_of l = 2 * l.room + 2
+decreases-many_pairs_of l = 3 * l.room + 2
 
 abbrev pub decreases-pairs_of : goal.decreases-pairs_of
-decreases-pairs_of l = 2 * l.room + 2
+decreases-pairs_of l = 3 * l.room + 2
 
 abbrev pub invariant-members_of-loop-i : goal.invariant-members_of-loop-i
 invariant-members_of-loop-i l = items_at (layer (inner l.room)) (l.count - l.i) (trees l.members.items) l.rest ≡ items_at (layer (inner l.room)) l.count [] l.bytes
