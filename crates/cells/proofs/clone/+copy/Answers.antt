@@ -4,8 +4,8 @@ use Rattle.cells.specs.declared.cell.Cell.{the_lemmas}
 use Rattle.cells.proofs.Views.{same_node, same_unbound, same_relationship}
 use Rattle.cells.proofs.clone.+copy.Goals as goal
 
-pub copy-returns-in_ok-clone-in-Bytes : goal.copy-returns-in_ok-clone-in-Bytes
-copy-returns-in_ok-clone-in-Bytes t c = search (rules, the_lemmas, same_from_all_zip)
+pub copy_other-returns-in_ok-clone-in-Bytes : goal.copy_other-returns-in_ok-clone-in-Bytes
+copy_other-returns-in_ok-clone-in-Bytes t c = search (rules, the_lemmas, same_from_all_zip)
 
 pub copy_node-returns : goal.copy_node-returns
 copy_node-returns t c = same_node _ c.args.node.now (search rules) c.in_ok-labels.ensures c.in_ok-properties.ensures c.in_ok-element_id.ensures
