@@ -44,8 +44,9 @@ fn put_member(out: &mut Output, scope: Scope, member: &Cell) -> Spelled<()>
     }
 }
 
-/// Spells a list.
+/// Spells a list. It stands in `put_list`, so that a row that is flat is one loop.
 #[cycle(speller)]
+#[inline(always)]
 pub(crate) fn put_cells(out: &mut Output, scope: Scope, members: &[Cell]) -> Spelled<()>
     ensures spelled { Puts (Spells scope (list_of shape members.now)) out.old out.new result }
     ensures fine { OnOk result (IsPassed scope (list_of shape members.now)) }

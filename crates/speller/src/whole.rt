@@ -12,6 +12,7 @@ use wire::Version;
 /// Adds the shortest spelling of a list of these cells in the form of the version, which can be written there, is good and nests at most
 /// `room` deep.
 #[tactic(auto, using(crate::proofs::Sure::all_sure, cells::proofs::Fine::scan_fine))]
+#[inline(always)]
 pub fn put_list(out: &mut Output, version: Version, members: &[Cell], room: u8) -> Spelled<()>
     requires { room ≤ 32 }
     ensures before { out.new.before ≡ out.old.before }
