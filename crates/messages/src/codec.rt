@@ -28,6 +28,14 @@ fn request_in(alloc: Global, version: Version, bytes: &[u8]) -> Result<Request, 
     if let Ok(request) = scan_request(alloc, version, bytes) {
         return Ok(request);
     }
+    request_by_value(alloc, version, bytes)
+}
+
+/// The same by way of a value, which tells what is wrong.
+#[inline(always)]
+fn request_by_value(alloc: Global, version: Version, bytes: &[u8]) -> Result<Request, MsgFault>
+    ensures { TellsRequest result (contents_in version requests bytes.now) }
+{
     request_of_value(alloc, version, value_in(alloc, bytes)?.value())
 }
 

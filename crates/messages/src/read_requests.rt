@@ -141,14 +141,19 @@ fn scan_one(alloc: Global, version: Version, tag: u8, bytes: &[u8]) -> Result<Re
             let (mode, token) = transaction_in(alloc, version, bytes)?;
             Ok(Request::Begin { mode, token })
         }
-        tags::HELLO => {
-            let pairs = cells_of_extra(alloc, version, bytes)?;
-            Ok(hello_of(version, &pairs)?)
-        }
-        tags::LOGON if version.has_logon() => {
-            let pairs = cells_of_extra(alloc, version, bytes)?;
-            Ok(Request::Logon(auth_of(&pairs)?))
-        }
+        _ => scan_login(alloc, version, tag, bytes),
+    }
+}
+
+/// A HELLO or a LOGON, behind its head.
+#[inline(always)]
+fn scan_login(alloc: Global, version: Version, tag: u8, bytes: &[u8]) -> Result<Request, Unscanned>
+    ensures { IfOk result (λ r. Req version (request_view r) (0xB1 ∷ tag ∷ bytes.now)) }
+{
+    let pairs = cells_of_extra(alloc, version, bytes)?;
+    match tag {
+        tags::HELLO => Ok(hello_of(version, &pairs)?),
+        tags::LOGON if version.has_logon() => Ok(Request::Logon(auth_of(&pairs)?)),
         _ => Err(Unscanned),
     }
 }
