@@ -43,7 +43,8 @@ impl<E: Engine + Drop, S: Alter + Drop> Model for Lasting<E, S> {
 
     ghost view = { λ l. record { inner = l.inner; conn = l.conn; count = l.kept; is_stopped = l.is_stopped; opening = l.opening } };
 
-    ghost invariant = { λ l. IsTied E.entries S.Store (record { inner = l.inner; conn = l.conn; count = l.kept; is_stopped = l.is_stopped; opening = l.opening }) };
+    ghost invariant = { λ l. IsTied E.entries S.Store
+        (record { inner = l.inner; conn = l.conn; count = l.kept; is_stopped = l.is_stopped; opening = l.opening }) };
 }
 
 impl<E: Engine + Drop, S: Alter + Drop> Lasting<E, S> {
