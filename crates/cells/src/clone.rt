@@ -121,7 +121,10 @@ fn copy_members(members: &Vec<Cell>) -> Result<Vec<Cell>, AllocError>
 {
     let mut copies = Vec::with_capacity(*members.allocator(), members.len())?;
     for member in members {
-        copies.push(copy(member)?)?;
+        match member {
+            Cell::Int(n) => copies.push(Cell::Int(*n))?,
+            _ => copies.push(copy_other(member)?)?,
+        }
     }
     Ok(copies)
 }
