@@ -130,7 +130,7 @@ fn scan_plain(version: Version, tag: u8) -> Result<Request, Unscanned>
 }
 
 /// A request of one field, behind its head.
-#[tactic(auto, using(crate::proofs::Scanned::pull_means, crate::proofs::Scanned::discard_means, crate::proofs::Scanned::begin_means, crate::proofs::Scanned::hello_means, crate::proofs::Scanned::logon_means))]
+#[tactic(auto, using(crate::proofs::Scanned::pull_means, crate::proofs::Scanned::discard_means, crate::proofs::Scanned::begin_means))]
 fn scan_one(alloc: Global, version: Version, tag: u8, bytes: &[u8]) -> Result<Request, Unscanned>
     ensures { IfOk result (λ r. Req version (request_view r) (0xB1 ∷ tag ∷ bytes.now)) }
 {
@@ -146,14 +146,20 @@ fn scan_one(alloc: Global, version: Version, tag: u8, bytes: &[u8]) -> Result<Re
 }
 
 /// A HELLO or a LOGON, behind its head.
+#[tactic(auto, using(crate::proofs::Scanned::hello_means, crate::proofs::Scanned::logon_means))]
 #[inline(always)]
 fn scan_login(alloc: Global, version: Version, tag: u8, bytes: &[u8]) -> Result<Request, Unscanned>
     ensures { IfOk result (λ r. Req version (request_view r) (0xB1 ∷ tag ∷ bytes.now)) }
 {
-    let pairs = cells_of_extra(alloc, version, bytes)?;
     match tag {
-        tags::HELLO => Ok(hello_of(version, &pairs)?),
-        tags::LOGON if version.has_logon() => Ok(Request::Logon(auth_of(&pairs)?)),
+        tags::HELLO => {
+            let pairs = cells_of_extra(alloc, version, bytes)?;
+            Ok(hello_of(version, &pairs)?)
+        }
+        tags::LOGON if version.has_logon() => {
+            let pairs = cells_of_extra(alloc, version, bytes)?;
+            Ok(Request::Logon(auth_of(&pairs)?))
+        }
         _ => Err(Unscanned),
     }
 }

@@ -54,6 +54,7 @@ pub fn scan_int(bytes: &[u8]) -> Scanned<'_, i64>
 }
 
 /// The text that the front of the bytes spells, lent, and what follows it.
+#[inline(always)]
 pub fn scan_text(bytes: &[u8]) -> Scanned<'_, &str>
     ensures spelled { IfOk result (λ x. SpellsFront (text x.0.now) x.1.now bytes.now) }
     ensures good { IfOk result (λ x. IsGood (text x.0.now)) }

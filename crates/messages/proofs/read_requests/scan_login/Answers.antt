@@ -1,6 +1,6 @@
 use Rattle.messages.proofs.Words.{◌≡◌, true, rules, auth_view, request_view, has_logon}
 use Rattle.messages.proofs.Scanned.{hello_means, logon_means}
-use Rattle.messages.proofs.read_requests.scan_one.Goals as goal
+use Rattle.messages.proofs.read_requests.scan_login.Goals as goal
 
 pub returns-in_ok-hello_of-in-1 : goal.returns-in_ok-hello_of-in-1
 returns-in_ok-hello_of-in-1 c = rw c.in-1.is (hello_means c.args.version (request_view c.in_ok-hello_of-in-1.field-0) _ c.args.bytes.now c.in_ok-pairs-in-1.ensures (rw c.deref.ensures.value at c.in_ok-hello_of-in-1.ensures))
