@@ -50,6 +50,18 @@ def answers_whole(program, most):
     return set(behind) == {0, 3}
 
 
+def shows_rows(program, port, most):
+    """Whether the C example prints the row of a transaction that it tells as committed, or says that memory ran out, with all allocations of the library refused behind
+    a number, each number in turn; and that it does either."""
+    ways = set()
+    for after in range(most):
+        words = [*program, "127.0.0.1", str(port), "51", f"behind{after}"]
+        done = subprocess.run(words, env={**os.environ, "ODDS": "1", "AFTER": str(after)}, capture_output=True, text=True, timeout=60)
+        if "7: Committed" in done.stdout:
+            ways.add(("value: 1\n" in done.stdout, done.stderr))
+    return ways == {(True, ""), (False, "out of memory\n")}
+
+
 def python(port, folder, most=40):
     """Whether the Python example tells rightly what became of its COMMIT with allocations of the library refused, so many of them; and how many were."""
     words = [f"BOLT_SO={folder}/refusing/libbolt.so", sys.executable, "-B", str(HERE / "examples" / "commit.py"), "127.0.0.1", str(port)]

@@ -60,14 +60,16 @@ static int settle(void) {
     return !now.has_ended;
 }
 
-/* Prints the integers of a request's rows. */
+/* Prints the integers of a request's rows, and says so where memory ran out before the last of them. */
 static void show(uint64_t ordinal) {
     static uint8_t row[BOLT_MESSAGE];
     size_t length = 0;
+    uint32_t code;
     bolt_value value;
-    for (uint64_t i = 0; !bolt_row(&client, ordinal, i, row, sizeof row, &length); i++)
+    for (uint64_t i = 0; !(code = bolt_row(&client, ordinal, i, row, sizeof row, &length)); i++)
         for (size_t at = 0; !bolt_value_at(row, length, &at, &value);)
             if (value.kind == BOLT_INT) printf("value: %lld\n", (long long)value.integer);
+    if (code == BOLT_MEMORY) fprintf(stderr, "out of memory\n");
 }
 
 /* The number of a word, or -1 where it is none from 0 to `most`. */
