@@ -14,9 +14,9 @@
  *     size_t got = (size_t)recv(fd, buffer, sizeof buffer, 0) ..;      (at its end, or if it fails: bolt_lose)
  *     if (bolt_feed(&c, buffer, got, &used) != BOLT_OK) bolt_lose(&c);
  *     bolt_outcome(&c, asked.ordinal, &outcome);                       (BOLT_WAITS, BOLT_COMMITTED, ..)
- *     for (uint64_t i = 0; bolt_row(&c, ordinal, i, row, sizeof row, &n) == BOLT_OK; i++)
+ *     for (uint64_t i = 0; (code = bolt_row(&c, ordinal, i, row, sizeof row, &n)) == BOLT_OK; i++)
  *         for (size_t at = 0; bolt_value_at(row, n, &at, &value) == BOLT_OK;) ..;     (row has BOLT_MESSAGE bytes)
- *     bolt_drop_rows(&c, ordinal);                                     (if used < got, feed the rest now)
+ *     if (code == BOLT_MEMORY) ..; else bolt_drop_rows(&c, ordinal);   (if used < got, feed the rest now)
  *     bolt_close(&c);
  *
  * What the caller owes, and nothing checks: a handle is {0} before its first call, is given to one call at a time, is
@@ -90,7 +90,8 @@ typedef struct {
 
 /* Where a client stands. */
 typedef struct {
-    uint64_t first;      /* the ordinal of the first request that waits; if none does, that of the next */
+    uint64_t first;      /* the ordinal of the first request that waits; if none does, that of the next, and
+                          * behind bolt_lose that of the first that waited */
     uint32_t pending;    /* how many wait, at most 32 */
     uint32_t phase;      /* that of the last summary, BOLT_FRESH before one */
     uint32_t version;    /* 44, 50, 51, or 0 if none is known */
