@@ -41,7 +41,7 @@ def says_why(program, most):
             words = [*program, "127.0.0.1", str(server.port), "why"]
             done = subprocess.run(words, env={**os.environ, "ODDS": "1", "AFTER": str(after)}, stdout=subprocess.PIPE, text=True, timeout=60)
             said.add(done.stdout.partition("\n")[0])
-    return said == {"not sent (5)", "out of memory", f"{code}: no"}
+    return said == {"not sent (5)", "out of memory", f"refused: {code}: no"}
 
 
 def answers_whole(program, most):

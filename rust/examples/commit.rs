@@ -30,7 +30,9 @@ fn show(told: &Result<Vec<Request>, Error>) -> io::Result<()> {
     let requests = match told {
         Ok(requests) => requests.as_slice(),
         Err(error) => {
-            writeln!(out, "{}", escaped(&error.to_string()))?;
+            // (a refusal begins with the server's code, which begins no line)
+            let before = if matches!(error, Error::Refused { .. }) { "refused: " } else { "" };
+            writeln!(out, "{before}{}", escaped(&error.to_string()))?;
             error.requests()
         }
     };
