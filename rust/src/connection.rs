@@ -367,7 +367,8 @@ impl<S: Read + Write> Connection<S> {
     }
 
     /// Runs queries in one transaction, as one pipeline, under a token if there is one. Answers the rows of each. Refused where something was asked before and
-    /// isn't settled. Where it can't be asked as a whole, as of more than 15 queries, nothing of it goes out, and the session has ended.
+    /// isn't settled. Where it can't be asked as a whole, as of more than 15 queries, nothing of it goes out, and the session has ended, unless its BEGIN was
+    /// refused.
     pub fn transact(&mut self, token: Option<&str>, queries: &[Query]) -> Result<Vec<Answer>, Error> {
         self.alone()?;
         self.ask_begin(true, token)?;

@@ -242,6 +242,9 @@ fn an_answer_is_had_by_the_place_of_its_run() {
 fn of_a_transaction_that_cant_be_asked_nothing_goes_out() {
     // (there is room for its first 31 requests)
     let mut connection = Connection::open(answering(&[SUCCESS; 36]).unwrap(), &login()).unwrap();
+    // (where its BEGIN isn't taken nothing has changed)
+    let unbegun = connection.transact(Some(""), &[put("a")]);
+    assert!(matches!(unbegun, Err(Error::NotSent { code: 8, ref rule, .. }) if rule == "M5"), "{unbegun:?}");
     let unsent = connection.transact(None, &vec![put("a"); 16]);
     assert!(matches!(unsent, Err(Error::NotSent { code: 2, .. })), "{unsent:?}");
     let ended = connection.run(&put("b"));
