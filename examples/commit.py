@@ -31,7 +31,8 @@ def main(address: str, port: str, key: str) -> None:
         print(f"the connection broke: {broken.why}")
         requests = broken.requests
     except bolt.Refused as refused:
-        print(escaped(str(refused)))
+        # (a refusal begins with the server's code, which begins no line)
+        print(f"refused: {escaped(str(refused))}")
         requests = refused.requests
     except bolt.NotSent as unsent:
         print(unsent)
