@@ -610,6 +610,62 @@ def wakes(_):
             return [str(it) for it in waiting.end()] == ["RUN ONE: LOST, PULL of ONE: UNKNOWN (closed)"]
 
 
+class Pausing(Within):
+    """Has the thread that ends a connection wait at a line of that, in the place of an interrupt, until it may go on."""
+
+    def __init__(self, number):
+        super().__init__(number, ("_end", "_shut"))
+        self.is_there, self.may_go_on = threading.Event(), threading.Event()
+
+    def come(self):
+        sys.settrace(None)
+        self.raised = True
+        self.is_there.set()
+        self.may_go_on.wait(20)
+
+    def close(self, connection):
+        sys.settrace(self)
+        try:
+            connection.close()
+        finally:
+            sys.settrace(None)
+            self.is_there.set()
+
+
+def asked_meanwhile(port, key, number):
+    """What is said of a COMMIT just before it goes out, where another thread that closes the connection waits at a line of that, by number, and in the end; and whether
+    there is such a line."""
+    with bolt.Session("127.0.0.1", port, USER) as connection:
+        ask_all(connection, key)
+        pausing, client, told = Pausing(number), connection._client, []
+        closing = threading.Thread(target=pausing.close, args=(connection,), daemon=True)
+
+        def goes(count):
+            if not told:
+                closing.start()
+                pausing.is_there.wait(20)
+                told.append(connection.requests[-1].outcome)
+            bolt.library.Client.goes(client, count)
+
+        client.goes = goes
+        raised(connection.settle)
+        pausing.may_go_on.set()
+        closing.join(20)
+        return [*told, connection.requests[-1].outcome], pausing.raised
+
+
+def loses_nothing_that_goes(port):
+    """Whether, as a thread sends what another gives up, nobody who asks is told that it is lost where it stands."""
+    number, told, is_there = 1, [], True
+    while is_there:
+        outcomes, is_there = asked_meanwhile(port, f"goes{number}", number)
+        told.append(outcomes)
+        number += 1
+    with bolt.Session("127.0.0.1", port, USER) as connection:
+        stands = [connection.run("GET", {"key": f"goes{at}"}, write=False) == [[1]] for at in range(1, number)]
+    return number > 5 and all(is_right(last, it) and first in (None, last) for (first, last), it in zip(told, stands))
+
+
 FORKS = """
 import bolt, os, sys
 

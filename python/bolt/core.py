@@ -367,9 +367,11 @@ class Core:
         """Nothing is heard any more: the account has what became of each request. This may be broken off and done again."""
         if self._client and self._client.handle.at:
             self._why = self._why or why
+        # (first: of what another thread sends meanwhile nobody may be told that it is lost as long as it can go out)
+        self._shut()
+        if self._client:
             # (of one that another thread closes meanwhile nothing is left to lose)
             LIBRARY.bolt_lose(self._client.handle)
-        self._shut()
 
     def _lose(self, why: str) -> NoReturn:
         """The connection is gone, or given up: what became of each request is told."""
