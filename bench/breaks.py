@@ -688,16 +688,22 @@ with bolt.connect("127.0.0.1", int(sys.argv[1]), auth=("user", "pass")) as conne
         forked(tx.rollback)
         forked(lambda: connection.session.ask_reset())
     print(tx.outcome)
+    connection.session.ask_begin()
+    asked = connection.session.ask_commit()
+    forked(lambda: (connection.close(), print(asked.outcome, flush=True)))
+    connection.session.settle()
+    print(asked.outcome)
 """
 
 
 def forks(port):
-    """Whether the child of a fork neither ends nor goes on with what its parent has open: by a process of its own, which has one thread."""
+    """Whether the child of a fork neither ends nor goes on with what its parent has open, and isn't told that what that may send is lost: by a process of its own, which has
+    one thread."""
     environment = {**os.environ, "PYTHONPATH": os.path.dirname(os.path.dirname(bolt.__file__))}
     words = [sys.executable, "-B", "-c", FORKS, str(port)]
     told = subprocess.run(words, env=environment, stdout=subprocess.PIPE, text=True, timeout=60)
     refused = "the request isn't allowed here: another process has the connection\n"
-    return told.stdout == f"{refused * 3}{bolt.COMMITTED}\n"
+    return told.stdout == f"{refused * 3}{bolt.COMMITTED}\n{bolt.UNKNOWN}\n{bolt.COMMITTED}\n"
 
 
 def interrupt():

@@ -58,6 +58,7 @@ class Client:
     def __init__(self, versions: int, owner: object) -> None:
         self.handle, self._owner = Handle(), weakref.ref(owner)
         self._taken = self._gone = 0  # how many bytes were taken off, and how many may have gone out
+        self._process = os.getpid()
         self._buffer, self._length = ctypes.create_string_buffer(MESSAGE), ctypes.c_size_t()
         self._bytes = memoryview(self._buffer).cast("B")
         check(LIBRARY.bolt_open(self.handle, versions, ALL))
@@ -106,9 +107,13 @@ class Client:
             return None
         if told.value == WAITS:
             # (behind the end none waits: the library never took it)
-            return LOST if state.has_ended and not state.pending else None
+            return self._lost() if state.has_ended and not state.pending else None
         # (nothing was committed by what no byte of has gone out)
-        return LOST if OUTCOMES[told.value] == UNKNOWN and begins >= self._gone else OUTCOMES[told.value]
+        return self._lost() if OUTCOMES[told.value] == UNKNOWN and begins >= self._gone else OUTCOMES[told.value]
+
+    def _lost(self) -> str:
+        """What became of what this process hasn't sent. The parent of one that was forked meanwhile may send it."""
+        return LOST if self._process == os.getpid() else UNKNOWN
 
     def response(self, ordinal: int) -> list[Any]:
         """The fields of a request's summary."""
