@@ -914,6 +914,37 @@ def sends_plain(session):
     return bool(went)
 
 
+class Unwrapped(breaks.Closed):
+    """Closes a connection at a line of the sockets of TLS, in the midst of a call."""
+
+    def __call__(self, frame, event, _):
+        is_there = frame.f_code.co_filename == ssl.__file__
+        if is_there and event == "line":
+            self.passed += 1
+            if self.passed == self.number:
+                self.come()
+        return self if is_there else None
+
+
+def closes_encrypted(connect):
+    """Whether of a call whose connection is closed at each line of the sockets of TLS that is told as such."""
+    number = 1
+    while True:
+        with connect() as connection:
+            closing = Unwrapped(number, connection)
+            sys.settrace(closing)
+            try:
+                why = breaks.raised(lambda: in_one(connection, "closed"))
+            finally:
+                sys.settrace(None)
+        if not closing.has_come:
+            return number > 5
+        if not isinstance(why, bolt.Broken) or why.why != bolt.CLOSED_HERE:
+            print(f"closed at line {number} of a socket of TLS: {why!r}")
+            return False
+        number += 1
+
+
 def encrypts(port):
     """Whether a connection goes through TLS to a server whose certificate is known, and not to another, where there is an openssl to make one."""
     if not shutil.which("openssl"):
@@ -921,13 +952,15 @@ def encrypts(port):
     with tempfile.TemporaryDirectory() as folder:
         tunnel = Tunnel(port, folder)
         there = tunnel.listener.getsockname()[1]
-        with bolt.connect("localhost", there, auth=USER, tls=ssl.create_default_context(cafile=tunnel.certificate)) as connection:
+        connect = lambda: bolt.connect("localhost", there, auth=USER, tls=ssl.create_default_context(cafile=tunnel.certificate))
+        with connect() as connection:
             said = connection.run("ROWS", n=1024).values()
             is_plain = sends_plain(connection.session)
+        is_told = closes_encrypted(connect)
         stranger = breaks.raised(lambda: bolt.connect("localhost", there, auth=USER, tls=True))
         plain = breaks.raised(lambda: bolt.connect("localhost", there, auth=USER, timeout=2))
-    told = len(said), is_plain, type(stranger), type(stranger.__cause__), type(plain)
-    return told == (1024, False, bolt.Broken, ssl.SSLCertVerificationError, bolt.Broken)
+    told = len(said), is_plain, is_told, type(stranger), type(stranger.__cause__), type(plain)
+    return told == (1024, False, True, bolt.Broken, ssl.SSLCertVerificationError, bolt.Broken)
 
 
 UNREACHED = """

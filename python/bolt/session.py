@@ -5,10 +5,10 @@ import select
 import socket
 import ssl
 import time
-from typing import Any, Optional, Union
+from typing import Any, Callable, Optional, Union
 
 from .core import BEGIN, COMMIT, ROLLBACK, Answer, Core, Stepped, Steps, calls, context_of, ends, extra, host_of, is_from_elsewhere, login_of, own, port_of
-from .errors import TIMED_OUT, UNREACHED, Broken, NotSent, Request
+from .errors import CLOSED_HERE, TIMED_OUT, UNREACHED, Broken, NotSent, Request
 from .library import MESSAGE
 from .versions import NEWEST
 
@@ -94,6 +94,15 @@ class Session(Core):
         assert self._socket
         self._socket.settimeout(left if left is None else min(left, AT_ONCE))
 
+    def _whole(self, call: Callable[..., Answer], of: Any) -> Answer:
+        """What a call of the socket answers. One of TLS that is closed in the midst of it raises what isn't of the system, either."""
+        try:
+            return call(of)
+        except (AttributeError, ValueError) as why:
+            if not self._why or is_from_elsewhere(why):
+                raise
+            raise OSError(CLOSED_HERE) from None
+
     def _send(self) -> Optional[bytes]:
         """Sends what waits. Where the server takes no more before it is heard, what it says is answered; where it takes none, it may still be heard."""
         said = None
@@ -103,7 +112,7 @@ class Session(Core):
                 assert self._socket
                 self._give(0)
                 self._open.goes(len(piece))
-                self._open.sent(self._socket.send(piece))
+                self._open.sent(self._whole(self._socket.send, piece))
             except BLOCKED as why:
                 self._unsent(why)
                 said = self._overhear(left)
@@ -122,7 +131,7 @@ class Session(Core):
         """What has come where the socket takes nothing for now, none at the server's end; where nothing has, waits until either may be."""
         assert self._socket
         try:
-            return self._socket.recv(MESSAGE)
+            return self._whole(self._socket.recv, MESSAGE)
         except BLOCKED as why:
             own(why)
         except OSError as why:
@@ -150,7 +159,7 @@ class Session(Core):
                 self._is_late = left == 0
                 assert self._socket
                 self._give(left)
-                return self._socket.recv(LATE if left == 0 else MESSAGE)
+                return self._whole(self._socket.recv, LATE if left == 0 else MESSAGE)
             except OSError as why:
                 failed = own(why)
                 if left and left > AT_ONCE and isinstance(failed, TimeoutError):
