@@ -191,6 +191,25 @@ def goes_on(connection):
         return why.code in (bolt.library.CLOSED, bolt.library.NO_CLIENT)
 
 
+def in_block(connection, end):
+    """A transaction whose block is left half read."""
+    with connection.transaction() as tx:
+        end(tx)
+        yield
+
+
+def drops_its_own(port):
+    """Whether a block that is left half read, whose transaction has ended, ends nothing of another block's transaction."""
+    with connected(port) as connection:
+        for key, end in (("refused", lambda tx: breaks.raised(lambda: tx.run("NOPE"))), ("reset", lambda _: connection.reset())):
+            half = in_block(connection, end)
+            next(half)
+            with contextlib.suppress(bolt.NotSent), connection.transaction() as tx:
+                tx.run("PUT", key=f"behind a {key}", value=1)
+                half.close()
+    return [value_of(port, f"behind a {it}") for it in ("refused", "reset")] == [[1]] * 2
+
+
 def refused_within(connection):
     """A transaction whose block passes over a FAILURE."""
     with connection.transaction() as tx:
@@ -1011,5 +1030,5 @@ def installs(port):
 
 
 WORKS = (reads_rows, hears_another, bounds_the_handshake, loses_no_record, loses_no_records, tells_lost_records, bounds_what_is_left, leaves_nothing_open,
-         sends_nothing_twice, keeps_results_apart, transacts, ends_below, pipes_within_blocks, commits_nothing_by_itself, tells_what_it_heard, tells_what_was_passed_over,
+         sends_nothing_twice, keeps_results_apart, drops_its_own, transacts, ends_below, pipes_within_blocks, commits_nothing_by_itself, tells_what_it_heard, tells_what_was_passed_over,
          closes_meanwhile, breaks_off_connecting, pipes, keeps_moments, tells_errors, keeps_tokens, tells_fates, encrypts, installs)

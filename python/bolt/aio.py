@@ -271,7 +271,8 @@ class AsyncConnection(Queries[AsyncSession, AsyncResult]):
     async def _drop(self, found: AsyncTransaction) -> None:
         """Ends whatever is open: by a RESET, or with the connection where that can't be."""
         try:
-            await self.reset()
+            if not found._is_followed:
+                await self.reset()
         except BoltError as why:
             self.session._end(CLOSED_HERE)
             if is_from_elsewhere(why):

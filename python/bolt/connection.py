@@ -131,7 +131,8 @@ class Connection(Queries[Session, Result]):
     def _drop(self, found: Transaction) -> None:
         """Ends whatever is open: by a RESET, or with the connection where that can't be."""
         try:
-            self.reset()
+            if not found._is_followed:
+                self.reset()
         except BoltError as why:
             self.session._end(CLOSED_HERE)
             if is_from_elsewhere(why):

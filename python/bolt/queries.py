@@ -184,6 +184,12 @@ class Transacting:
         self._begun.has_block = is_it
 
     @property
+    def _is_followed(self) -> bool:
+        """Whether the transaction of another block is open since, which isn't dropped with this one, as where a generator with a block is left half read."""
+        begun = self._connection.session._begun
+        return begun is not self._begun and begun.is_open
+
+    @property
     def outcome(self) -> Optional[str]:
         """What became of its COMMIT or ROLLBACK; None as long as that isn't known, or neither was asked."""
         return self._begun.outcome
