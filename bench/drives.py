@@ -111,11 +111,20 @@ def loses_no_records(port):
     return all(held)
 
 
+class Between(breaks.Within):
+    """Interrupts before each step of the interpreter's, of which a line has several. (One of Python 3.12 tells of lines alone.)"""
+
+    def __call__(self, frame, event, word):
+        frame.f_trace_opcodes = True
+        told = "line" if sys.version_info[:2] == (3, 12) else "opcode"
+        return super().__call__(frame, "line" if event == told else None, word)
+
+
 def tells_lost_records(port):
-    """Whether, where an interrupt comes at a line of a PULL's end, no record is passed over as if the result had ended there."""
+    """Whether, where an interrupt comes at a step of a PULL's end, no record is passed over as if the result had ended there."""
     number = 1
     while True:
-        interrupt, rest = breaks.Within(number, ("_more", "_refill", "_settling", "_awaiting")), []
+        interrupt, rest = Between(number, ("_more", "_refill", "_settling", "_awaiting")), []
         with connected(port, fetch=2) as connection:
             records = connection.run("ROWS", n=3)
             read = [next(records)[0] for _ in range(2)]
@@ -130,7 +139,7 @@ def tells_lost_records(port):
         if not interrupt.raised:
             return number > 10
         if read + rest != [1, 2, 3] and not isinstance(why, bolt.BoltError):
-            print(f"an interrupt at line {number} of a PULL: {read + rest}, {why!r}")
+            print(f"an interrupt at step {number} of a PULL: {read + rest}, {why!r}")
             return False
         number += 1
 

@@ -129,7 +129,8 @@ class Pulled:
 
     @property
     def _is_read(self) -> bool:
-        return self._read == len(self._rows)
+        # (what breaks off the refill may leave fewer than were read)
+        return self._read >= len(self._rows)
 
     def _record(self, row: list[Any]) -> Record:
         return Record(self.keys(), [heard(it, self._session.version) for it in row])
