@@ -403,6 +403,33 @@ async def hears_before_a_reset(_):
     return (type(why), why.why, first.outcome, last.outcome) == (bolt.Broken, bolt.GONE, bolt.COMMITTED, bolt.UNKNOWN)
 
 
+class Idle(odd_servers.Server):
+    """Takes the login, and resets the connection."""
+
+    def answer(self, client):
+        with client, contextlib.suppress(OSError):
+            client.recv(20, socket.MSG_WAITALL)
+            client.sendall(odd_servers.V51)
+            client.recv(200)
+            client.sendall(odd_servers.told(odd_servers.DONE, odd_servers.DONE))
+            # (so that what was answered comes first, mostly)
+            time.sleep(0.2)
+            client.setsockopt(socket.SOL_SOCKET, socket.SO_LINGER, struct.pack("ii", 1, 0))
+
+
+async def sends_nothing_behind_a_reset(_):
+    """Whether of a query that is asked once a server has reset the connection it is told that it is lost, by loops too whose transports then refuse what is written."""
+    with Idle([]) as server:
+        async with await connected(server.port) as connection:
+            transport = connection.session._writer.transport
+            while not transport.is_closing():
+                await asyncio.sleep(0.01)
+            transport.write = lambda _: wrong.append(1)
+            wrong = []
+            why = await raised(connection.run("PUT", key="k", value=1))
+    return (type(why), why.why, why.outcome, wrong) == (bolt.Broken, bolt.GONE, bolt.LOST, [])
+
+
 async def tells_fates(port):
     """Whether a transaction is sent until it is known, through cuts of its first attempt, either way; and what is known of one that can't stand."""
     connect, now = lambda: connected(port), lambda _: 0
@@ -435,5 +462,5 @@ async def encrypts(port):
     return (len(said), type(stranger), type(stranger.__cause__)) == (1024, bolt.Broken, ssl.SSLCertVerificationError)
 
 
-DRIVES = (reads_rows, transacts, leaves_nothing_open, keeps_to_a_task, tells_errors, tells_failed_pulls, bounds_what_is_left, hears_before_a_reset, tells_fates, tells_what_it_heard, closes_meanwhile,
+DRIVES = (reads_rows, transacts, leaves_nothing_open, keeps_to_a_task, tells_errors, tells_failed_pulls, bounds_what_is_left, hears_before_a_reset, sends_nothing_behind_a_reset, tells_fates, tells_what_it_heard, closes_meanwhile,
           encrypts)

@@ -79,11 +79,12 @@ class AsyncSession(Core):
 
     def _send(self) -> None:
         """Hands on what waits, which goes out while answers are heard: what comes while nobody waits for it is forgotten where the connection is reset."""
-        while not self._cut and (piece := self._open.unsent()):
+        assert self._writer
+        # (what is handed to a transport that closes is dropped, or refused)
+        while not self._cut and not self._writer.transport.is_closing() and (piece := self._open.unsent()):
             try:
                 if self._is_late or self._left() == 0:
                     raise TimeoutError(TIMED_OUT)
-                assert self._writer
                 self._open.goes(len(piece))
                 self._writer.write(piece)
                 self._open.sent(len(piece))
