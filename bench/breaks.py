@@ -667,7 +667,8 @@ def loses_nothing_that_goes(port):
 
 
 FORKS = """
-import bolt, os, sys
+import asyncio, bolt, os, sys
+from bolt import aio
 
 def forked(call):
     child = os.fork()
@@ -693,6 +694,22 @@ with bolt.connect("127.0.0.1", int(sys.argv[1]), auth=("user", "pass")) as conne
     forked(lambda: (connection.close(), print(asked.outcome, flush=True)))
     connection.session.settle()
     print(asked.outcome)
+
+async def main():
+    async with await aio.connect("127.0.0.1", int(sys.argv[1]), auth=("user", "pass")) as connection:
+        connection.session.ask_begin()
+        asked, child = connection.session.ask_commit(), os.fork()
+        if child == 0:
+            try:
+                await connection.close()
+                print(asked.outcome, flush=True)
+            finally:
+                os._exit(0)
+        os.waitpid(child, 0)
+        await connection.session.settle()
+        print(asked.outcome)
+
+asyncio.run(main())
 """
 
 
@@ -703,7 +720,7 @@ def forks(port):
     words = [sys.executable, "-B", "-c", FORKS, str(port)]
     told = subprocess.run(words, env=environment, stdout=subprocess.PIPE, text=True, timeout=60)
     refused = "the request isn't allowed here: another process has the connection\n"
-    return told.stdout == f"{refused * 3}{bolt.COMMITTED}\n{bolt.UNKNOWN}\n{bolt.COMMITTED}\n"
+    return told.stdout == f"{refused * 3}{bolt.COMMITTED}\n" + f"{bolt.UNKNOWN}\n{bolt.COMMITTED}\n" * 2
 
 
 def interrupt():

@@ -403,6 +403,16 @@ async def hears_before_a_reset(_):
     return (type(why), why.why, first.outcome, last.outcome) == (bolt.Broken, bolt.GONE, bolt.COMMITTED, bolt.UNKNOWN)
 
 
+async def keeps_to_a_loop(port):
+    """Whether a call in another loop is refused and sends nothing, a connection goes on in its own behind that, and closes in another."""
+    connection = await connected(port)
+    elsewhere = lambda call: asyncio.to_thread(lambda: asyncio.run(raised(call)))
+    why = await elsewhere(connection.run("PUT", key="elsewhere", value=1))
+    seen = await (await connection.read("GET", key="elsewhere")).values()
+    closed = await elsewhere(connection.close())
+    return (type(why), getattr(why, "code", 0), seen, closed) == (bolt.NotSent, bolt.library.NOT_ALLOWED, [], None) and await code_of(connection.run("ONE")) == bolt.library.NO_CLIENT
+
+
 class Idle(odd_servers.Server):
     """Takes the login, and resets the connection."""
 
@@ -462,5 +472,5 @@ async def encrypts(port):
     return (len(said), type(stranger), type(stranger.__cause__)) == (1024, bolt.Broken, ssl.SSLCertVerificationError)
 
 
-DRIVES = (reads_rows, transacts, leaves_nothing_open, keeps_to_a_task, tells_errors, tells_failed_pulls, bounds_what_is_left, hears_before_a_reset, sends_nothing_behind_a_reset, tells_fates, tells_what_it_heard, closes_meanwhile,
+DRIVES = (reads_rows, transacts, leaves_nothing_open, keeps_to_a_task, keeps_to_a_loop, tells_errors, tells_failed_pulls, bounds_what_is_left, hears_before_a_reset, sends_nothing_behind_a_reset, tells_fates, tells_what_it_heard, closes_meanwhile,
           encrypts)

@@ -15,7 +15,7 @@ from typing import Any, AsyncIterator, Awaitable, Callable, Iterator, Optional, 
 
 from .core import Answer, Core, Stepped, Steps, basic, calls, context_of, host_of, is_from_elsewhere, login_of, own, port_of
 from .errors import CLOSED_HERE, INTERRUPTED, TIMED_OUT, UNREACHED, BoltError, Broken, NotSent, Request
-from .library import MESSAGE
+from .library import MESSAGE, NOT_ALLOWED
 from .queries import Pipeline, Queries, Transacting
 from .results import Pulled, Record, Summary, by_name, by_place, only
 from .retry import Known, Tries, pause
@@ -27,6 +27,7 @@ class AsyncSession(Core):
 
     _reader: Optional[asyncio.StreamReader] = None
     _writer: Optional[asyncio.StreamWriter] = None
+    _loop: Optional[asyncio.AbstractEventLoop] = None
     _is_late = False
 
     async def _open_at(self, host: str, port: int, tls: Optional[ssl.SSLContext], agent: str, login: dict[str, str]) -> None:
@@ -38,7 +39,8 @@ class AsyncSession(Core):
             raise
 
     async def _connect(self, host: str, port: int, tls: Optional[ssl.SSLContext]) -> None:
-        calls(asyncio.get_running_loop(), tls)
+        self._loop = asyncio.get_running_loop()
+        calls(self._loop, tls)
         opening = asyncio.ensure_future(asyncio.open_connection(host, port, limit=MESSAGE, ssl=tls, server_hostname=host if tls else None))
         opening.add_done_callback(self._connected)
         try:
@@ -54,6 +56,11 @@ class AsyncSession(Core):
             self._reader, self._writer = opening.result()
             if self._why:
                 self._shut()
+
+    def _is_of_loop(self) -> bool:
+        """Whether the loop that runs is that of the connection. In another what is sent would go out, and no answer could be awaited."""
+        # (a process that was forked has none that runs)
+        return self._is_ours() and asyncio.get_running_loop() is self._loop
 
     def _shut(self) -> None:
         # (the loop may be closed already)
@@ -125,6 +132,8 @@ class AsyncSession(Core):
         mine = object()
         try:
             self._begin(mine)
+            if not self._is_of_loop():
+                raise NotSent(NOT_ALLOWED, hint="another loop has the connection")
             self._until = until
             answer = await self._steps(steps)
             self._amid.clear()
@@ -146,7 +155,7 @@ class AsyncSession(Core):
         """Says goodbye where nothing waits, and frees the client. What was asked and isn't settled isn't sent any more. A second close does nothing."""
         try:
             self._until = self._by()
-            if self._writer and self._says_goodbye():
+            if self._writer and self._is_of_loop() and self._says_goodbye():
                 with self._in_time():
                     self._send()
                     self._writer.close()
