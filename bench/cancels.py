@@ -240,21 +240,24 @@ async def transacts(port):
 
 
 async def keeps_to_a_task(port):
-    """Whether a second task is told that the first has the connection, whose call goes on; and a connection that is dropped says so, with each outcome."""
+    """Whether a second task is told that the first has the connection, whose call goes on, and what is held as a whole; and a connection that is dropped says so, with
+    each outcome."""
     connection = await connected(port)
+    whole = await connection.run("ONE")
     first = asyncio.ensure_future(connection.run("ROWS", n=3))
     await asyncio.sleep(0)
     # (its frames hold the connection)
     second = (await raised(connection.run("ONE"))).with_traceback(None)
     third = getattr(breaks.raised(connection.session.ask_reset), "code", 0)
+    held = [(await whole.summary()).outcome, await whole.values()]
     rows = await (await first).values()
     # (the loop holds what it called last)
     await asyncio.sleep(0)
     asked = connection.session.ask_begin()
     with breaks.WARNINGS, warnings.catch_warnings(record=True) as told:
         warnings.simplefilter("always")
-        del connection, first
-    return ((type(second), second.code, third, rows, asked.outcome) == (bolt.NotSent, 1, 1, [[1], [2], [3]], bolt.LOST)
+        del connection, first, whole
+    return ((type(second), second.code, third, held, rows, asked.outcome) == (bolt.NotSent, 1, 1, [bolt.COMMITTED, [[1]]], [[1], [2], [3]], bolt.LOST)
             and any(it.category is ResourceWarning for it in told))
 
 

@@ -192,6 +192,16 @@ def bounds_what_is_left(port):
     return isinstance(why, bolt.Broken) and why.why == bolt.TIMED_OUT
 
 
+def tells_what_is_held(port):
+    """Whether a result that is held as a whole is told while another call has the connection, and one that isn't is refused, whose records stay."""
+    with connected(port, fetch=2) as connection:
+        put, *ones, part = connection.run("PUT", key="held", value=1), connection.run("ONE"), connection.run("ONE"), connection.run("ROWS", n=3)
+        # (what is left of it is pulled first, and isn't heard yet)
+        other = breaks.Waits(connection.session, lambda: connection.run("ONE"))
+        told = put.summary.outcome, ones[0].values(), list(ones[1]), breaks.code_of(lambda: part.summary)
+        return (*told, other.end(), part.values()) == (bolt.COMMITTED, [[1]], [[1]], bolt.library.NOT_ALLOWED, [None], [[1], [2], [3]])
+
+
 def goes_on(connection):
     """Whether what is run next is committed by itself, or the connection has ended."""
     try:
@@ -1038,6 +1048,6 @@ def installs(port):
     return bool(wanted) and said == "".join(f"{line.strip()}\n" for line in wanted.split("\n"))
 
 
-WORKS = (reads_rows, hears_another, bounds_the_handshake, loses_no_record, loses_no_records, tells_lost_records, bounds_what_is_left, leaves_nothing_open,
+WORKS = (reads_rows, hears_another, bounds_the_handshake, loses_no_record, loses_no_records, tells_lost_records, bounds_what_is_left, tells_what_is_held, leaves_nothing_open,
          sends_nothing_twice, keeps_results_apart, drops_its_own, transacts, ends_below, pipes_within_blocks, commits_nothing_by_itself, tells_what_it_heard, tells_what_was_passed_over,
          closes_meanwhile, breaks_off_connecting, pipes, keeps_moments, tells_errors, keeps_tokens, tells_fates, encrypts, installs)

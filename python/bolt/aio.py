@@ -178,7 +178,8 @@ class AsyncResult(Pulled):
 
     async def __anext__(self) -> Record:
         if self._is_read:
-            await self._session._call(self._refill())
+            if not self._is_whole:
+                await self._session._call(self._refill())
             if self._is_read:
                 raise StopAsyncIteration
         return self._next()
@@ -186,7 +187,7 @@ class AsyncResult(Pulled):
     async def _rest(self, of: Callable[[list[Record]], Answer]) -> Answer:
         """What is made of the records that weren't read yet, all in the time of one call."""
         until = self._session._by()
-        while await self._session._do(self._ahead(), until):
+        while not self._is_whole and await self._session._do(self._ahead(), until):
             pass
         return self._unread(of)
 
@@ -210,7 +211,8 @@ class AsyncResult(Pulled):
 
     async def summary(self) -> Summary:
         """How the result ended; what is left of it is pulled first, and kept."""
-        await self._session._call(self._finish())
+        if not self._is_whole:
+            await self._session._call(self._finish())
         return self._summary()
 
 

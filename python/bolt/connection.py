@@ -27,7 +27,8 @@ class Result(Pulled):
 
     def __next__(self) -> Record:
         if self._is_read:
-            self._session._call(self._refill())
+            if not self._is_whole:
+                self._session._call(self._refill())
             if self._is_read:
                 raise StopIteration
         return self._next()
@@ -35,7 +36,7 @@ class Result(Pulled):
     def _rest(self, of: Callable[[list[Record]], Answer]) -> Answer:
         """What is made of the records that weren't read yet, all in the time of one call."""
         until = self._session._by()
-        while self._session._do(self._ahead(), until):
+        while not self._is_whole and self._session._do(self._ahead(), until):
             pass
         return self._unread(of)
 
@@ -60,7 +61,8 @@ class Result(Pulled):
     @property
     def summary(self) -> Summary:
         """How the result ended; what is left of it is pulled first, and kept."""
-        self._session._call(self._finish())
+        if not self._is_whole:
+            self._session._call(self._finish())
         return self._summary()
 
 

@@ -85,6 +85,11 @@ class Pulled:
         # (whatever else it is ends the result, as the library has it)
         return self._last.metadata.get("has_more") is True
 
+    @property
+    def _is_whole(self) -> bool:
+        """Whether all of it is held, which is told without the connection: another call may have that, and what was committed would be told as not sent."""
+        return self._last is self._taken and self._last.outcome in (DONE, COMMITTED) and not self._has_more
+
     def _is_open(self) -> bool:
         """Whether nothing else was asked since: what is pulled then is its own."""
         return any(it is self._last for it in self._session.requests[-1:])
