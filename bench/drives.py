@@ -218,15 +218,26 @@ def in_block(connection, end):
 
 
 def drops_its_own(port):
-    """Whether a block that is left half read, whose transaction has ended, ends nothing of another block's transaction."""
+    """Whether a block that is left half read, whose transaction has ended, ends neither another block's transaction nor a call that goes on."""
+    def receive():
+        half.close()
+        return hear()
+
     with connected(port) as connection:
-        for key, end in (("refused", lambda tx: breaks.raised(lambda: tx.run("NOPE"))), ("reset", lambda _: connection.reset())):
+        told, hear = [], connection.session._receive
+        for end in (lambda tx: breaks.raised(lambda: tx.run("NOPE")), lambda _: connection.reset()):
             half = in_block(connection, end)
             next(half)
             with contextlib.suppress(bolt.NotSent), connection.transaction() as tx:
-                tx.run("PUT", key=f"behind a {key}", value=1)
+                tx.run("PUT", key="behind it", value=1)
                 half.close()
-    return [value_of(port, f"behind a {it}") for it in ("refused", "reset")] == [[1]] * 2
+            told.append(tx.outcome)
+            half = in_block(connection, end)
+            next(half)
+            connection.session._receive = receive
+            told.append(breaks.code_of(lambda: connection.run("PUT", key="amid", value=1)))
+            connection.session._receive = hear
+    return told == [bolt.COMMITTED, 0] * 2
 
 
 def refused_within(connection):

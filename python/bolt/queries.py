@@ -185,9 +185,11 @@ class Transacting:
 
     @property
     def _is_followed(self) -> bool:
-        """Whether the transaction of another block is open since, which isn't dropped with this one, as where a generator with a block is left half read."""
-        begun = self._connection.session._begun
-        return begun is not self._begun and begun.is_open
+        """Whether it has ended, and another call goes on or the transaction of another block is open, which don't end with its block, as where a generator with that is left
+        half read."""
+        session = self._connection.session
+        is_other = session._begun is not self._begun and session._begun.is_open
+        return (is_other or bool(session._amid)) and not is_current(session, self._begun)
 
     @property
     def outcome(self) -> Optional[str]:
