@@ -683,7 +683,7 @@ def tells_fates(port):
     connect = lambda: connected(port)
     made = bolt.until_known(connect, put("fates", 1))
     clash = bolt.until_known(connect, put("fates", 2), made.token)
-    again = bolt.until_known(connect, put("fates", 1), made.token)
+    again = bolt.until_known(connect, put("fates", 1), made.token, within=10 ** 400)
     refused = bolt.until_known(connect, lambda tx: tx.run("NOPE"), tries=3)
     absent = bolt.until_known(lambda: connected(1), put("fates", 3), tries=2, pause=lambda _: 0)
     late = bolt.until_known(lambda: connected(1), put("fates", 3), tries=9, within=0, pause=lambda _: 0.01)

@@ -10,6 +10,7 @@ import time
 from typing import Any, Callable, Iterator, Optional, Sequence
 
 from .connection import Connection, Transaction
+from .core import LONGEST
 from .errors import COMMITTED, DONE, UNKNOWN, BoltError, NotSent, Refused, Request, Told, committed
 from .queries import Transacting
 
@@ -55,7 +56,7 @@ class Tries:
         # (what is no number or no function is told before anything is sent)
         if not callable(pause):
             raise TypeError("pause is called with how many tries were made")
-        self._tries, self._pause, self._until = tries, pause, None if within is None else time.monotonic() + within
+        self._tries, self._pause, self._until = tries, pause, None if within is None else time.monotonic() + min(within, LONGEST)
         self._tried, self._is_doubtful, self._error = 0, False, None  # type: int, bool, Optional[Exception]
 
     def ends_by(self, why: BaseException) -> None:
