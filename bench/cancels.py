@@ -462,6 +462,25 @@ async def tells_fates(port):
             and set(fates) == {bolt.STANDS})
 
 
+async def keeps_the_token(port):
+    """Whether who awaits a transaction's task that is cancelled behind its commit has the token, under which it stands once more as it stood."""
+    async def stops(tx):
+        await put("stopped", 1)(tx)
+        await tx.commit()
+        stood.append(tx.bookmark)
+        sent.cancel()
+        await asyncio.sleep(60)
+
+    stood, connect = [], lambda: connected(port)
+    sent = asyncio.ensure_future(aio.until_known(connect, stops))
+    try:
+        await sent
+    except asyncio.CancelledError as why:
+        again = await aio.until_known(connect, put("stopped", 1), (why if sys.version_info >= (3, 11) else why.__context__).token)
+        return again.stands and [again.bookmark] == stood
+    return False
+
+
 async def encrypts(port):
     """Whether a connection goes through TLS to a server whose certificate is known, and not to another."""
     if not drives.shutil.which("openssl"):
@@ -475,5 +494,5 @@ async def encrypts(port):
     return (len(said), type(stranger), type(stranger.__cause__)) == (1024, bolt.Broken, ssl.SSLCertVerificationError)
 
 
-DRIVES = (reads_rows, transacts, leaves_nothing_open, keeps_to_a_task, keeps_to_a_loop, tells_errors, tells_failed_pulls, bounds_what_is_left, hears_before_a_reset, sends_nothing_behind_a_reset, tells_fates, tells_what_it_heard, closes_meanwhile,
+DRIVES = (reads_rows, transacts, leaves_nothing_open, keeps_to_a_task, keeps_to_a_loop, tells_errors, tells_failed_pulls, bounds_what_is_left, hears_before_a_reset, sends_nothing_behind_a_reset, tells_fates, keeps_the_token, tells_what_it_heard, closes_meanwhile,
           encrypts)
