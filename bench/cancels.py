@@ -381,15 +381,19 @@ async def bounds_what_is_left(port):
 
 
 class Resets(odd_servers.Server):
-    """Answers the first of many requests, takes no more of them, and resets the connection."""
+    """Takes the login, answers so many further pieces, takes no more, and resets the connection."""
+
+    def __init__(self, further):
+        self.further = further
+        super().__init__([])
 
     def answer(self, client):
         with client, contextlib.suppress(OSError):
             client.recv(20, socket.MSG_WAITALL)
-            for said in (odd_servers.V51, odd_servers.told(odd_servers.DONE, odd_servers.DONE)):
-                client.sendall(said)
+            client.sendall(odd_servers.V51)
+            for _ in range(1 + self.further):
                 client.recv(200)
-            client.sendall(odd_servers.told(odd_servers.DONE, odd_servers.DONE))
+                client.sendall(odd_servers.told(odd_servers.DONE, odd_servers.DONE))
             # (so that what was answered comes first, mostly)
             time.sleep(0.2)
             client.setsockopt(socket.SOL_SOCKET, socket.SO_LINGER, struct.pack("ii", 1, 0))
@@ -397,7 +401,7 @@ class Resets(odd_servers.Server):
 
 async def hears_before_a_reset(_):
     """Whether what a server answered counts, though it takes no more of what is sent, and resets the connection."""
-    with Resets([]) as server:
+    with Resets(1) as server:
         async with await connected(server.port) as connection:
             connection.session._writer.get_extra_info("socket").setsockopt(socket.SOL_SOCKET, socket.SO_SNDBUF, 4096)
             first = connection.session.ask_run("PUT", {"key": "k", "value": 1})
@@ -416,23 +420,9 @@ async def keeps_to_a_loop(port):
     return (type(why), getattr(why, "code", 0), seen, closed) == (bolt.NotSent, bolt.library.NOT_ALLOWED, [], None) and await code_of(connection.run("ONE")) == bolt.library.NO_CLIENT
 
 
-class Idle(odd_servers.Server):
-    """Takes the login, and resets the connection."""
-
-    def answer(self, client):
-        with client, contextlib.suppress(OSError):
-            client.recv(20, socket.MSG_WAITALL)
-            client.sendall(odd_servers.V51)
-            client.recv(200)
-            client.sendall(odd_servers.told(odd_servers.DONE, odd_servers.DONE))
-            # (so that what was answered comes first, mostly)
-            time.sleep(0.2)
-            client.setsockopt(socket.SOL_SOCKET, socket.SO_LINGER, struct.pack("ii", 1, 0))
-
-
 async def sends_nothing_behind_a_reset(_):
     """Whether of a query that is asked once a server has reset the connection it is told that it is lost, by loops too whose transports then refuse what is written."""
-    with Idle([]) as server:
+    with Resets(0) as server:
         async with await connected(server.port) as connection:
             transport = connection.session._writer.transport
             while not transport.is_closing():
