@@ -14,8 +14,8 @@ use speller::Output;
 use std::alloc::{AllocError, Global};
 use wire::{Version, choose};
 
-/// The most room that is kept if nothing waits to go, and of what a step writes.
-pub(crate) const MAX_KEPT: usize = 8192;
+/// The most room in bytes that is kept if nothing waits to go: a longest message in its chunks, and as much again.
+const MAX_OUT_KEPT: usize = 131_084;
 
 /// A conversation with a client: what waits, how it stands, what is open, and what waits to go.
 #[derive(Drop)]
@@ -104,7 +104,7 @@ impl Session {
             return;
         }
         self.out.clear();
-        if self.out.capacity() > MAX_KEPT {
+        if self.out.capacity() > MAX_OUT_KEPT {
             self.out = Output::new(self.alloc);
         }
     }

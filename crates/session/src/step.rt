@@ -17,7 +17,7 @@ use crate::commit::leave;
 use crate::fault::Fault;
 use crate::kinds::{Cause, Worked};
 use crate::rows::{put_first, spell_first};
-use crate::session::{MAX_KEPT, Session};
+use crate::session::Session;
 use crate::spelling::{Unwritten, put_summary};
 use crate::summary::Summary;
 use crate::words::is_interruptible;
@@ -26,6 +26,9 @@ use engine::{Engine, EntryId, Gate};
 use machine::{Kind, State, Verdict, is_goodbye, kind, row};
 use messages::put_run;
 use std::alloc::AllocError;
+
+/// The most room in bytes that is kept of what a step writes.
+const MAX_BODY_KEPT: usize = 8192;
 
 impl Session {
     /// One step of the connection with this number: nothing, a row, a summary or an end. An `Err` is want of memory, and changes nothing,
@@ -60,7 +63,7 @@ impl Session {
             }
             Turn::Serves => {
                 let worked = self.serve(conn, engine, gate);
-                if self.body.capacity() > MAX_KEPT {
+                if self.body.capacity() > MAX_BODY_KEPT {
                     self.free_body();
                 }
                 worked
