@@ -760,7 +760,7 @@ MISTAKEN = (
     (51, lambda c: bolt.Session("127.0.0.1", c.port, USER, timeout=float("nan")), "a time-out is a number of seconds, or None"),
     (51, lambda c: bolt.Session("127.0.0.1", c.port, USER, tls="yes"), "tls is True or False, or a context of ssl"),
     (51, lambda c: setattr(c, "timeout", float("nan")), "a time-out is a number of seconds, or None"),
-    *((51, lambda c, it=it: bolt.unpack(it), "not one value of PackStream") for it in (b"\x85text"[:-1], b"\x01\x02")),
+    *((51, lambda c, it=it: bolt.unpack(it), "not one value of PackStream") for it in (b"\x85text"[:-1], memoryview(b"\x84text")[:-1], b"\x01\x02")),
     *((51, lambda c, it=it: bolt.unpack(it), "no value of PackStream")
       for it in (b"", b"\xC9\x01", b"\xC4", b"\xEC\x00", b"\xB1\x7F\x01", b"\xB2\x44\x01\x02", b"\xA1\x90\x01", b"\xA1\x01\x02", b"\xA2\x81a\x01\x81a\x02",
                  b"\x91" * 100_000)),

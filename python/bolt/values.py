@@ -263,12 +263,12 @@ class Unpacked:
 
 def unpack(data: bytes) -> Any:
     """The value that these bytes spell; ValueError where they spell none, or more than one."""
-    whole = Unpacked(data)
     try:
+        whole = Unpacked(bytes(memoryview(data)))
         value = whole.value()
     except (struct.error, LookupError, TypeError, RecursionError) as why:
         raise ValueError("no value of PackStream") from why
-    if whole.at != len(data):
+    if whole.at != len(whole.data):
         raise ValueError("not one value of PackStream")
     return value
 
