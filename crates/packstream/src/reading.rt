@@ -119,7 +119,7 @@ pub fn text_of(left: usize, size: Size, bytes: &[u8]) -> Got<'_, &str>
 }
 
 /// A key that none of these pairs has.
-#[inline]
+#[inline(always)]
 pub fn key_of<'a, T>(pairs: Pairs<T>, bytes: &'a [u8]) -> Got<'a, &'a str>
     ensures { Gives (λ x. (x.0.now, x.1.now)) result
         (key_at (names pairs.now) bytes.now) }
