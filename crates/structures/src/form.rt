@@ -72,7 +72,10 @@ fn fit_members(scope: Scope, members: &mut Vec<Cell>) -> Made<()>
     ensures { IfOk result (λ _. AreEach (fitted scope.version) (shapes members.old.items) (shapes members.new.items)) }
 {
     for i in 0..members.len() {
-        fit_cell(scope, &mut members[i])?;
+        match &mut members[i] {
+            Cell::Int(_) => {}
+            member => fit_cell(scope, member)?,
+        }
     }
     Ok(())
 }
