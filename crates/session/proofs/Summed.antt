@@ -30,18 +30,22 @@ pub small_head : (tiny m n : ℕ) → n ≤ 15 → head tiny m n ≡ (tiny + n) 
 unfolding head
 small_head tiny m n h = let e : nat_lt n 16 ≡ true = grind (arith, nat_tests) in rw e refl
 
--- a bookmark of few digits, and what follows it
-pub marked : (n : ℕ) (digits last old a b new : List ℕ) → length digits ≤ 12 → old ≡ []
-    → a ≡ old ++ 0 ∷ 0 ∷ 0xB1 ∷ 0x70 ∷ n ∷ 0x88 ∷ (codes "bookmark" ++ (0x80 + (3 + length digits)) ∷ codes "bk:") → b ≡ a ++ digits → new ≡ b ++ last
-    → new ≡ 0 ∷ 0 ∷ 0xB1 ∷ 0x70 ∷ n ∷ (text_bytes (codes "bookmark") ++ (text_bytes (codes "bk:" ++ digits) ++ last))
+-- the text of a bookmark of few digits
+pub marked : (digits a b new : List ℕ) → length digits ≤ 12 → b ≡ a ++ (0x80 + (3 + length digits)) ∷ codes "bk:" → new ≡ b ++ digits → new ≡ a ++ text_bytes (codes "bk:" ++ digits)
 unfolding head
-marked n digits last old a b new few o p q r =
-    let front : List ℕ = 0 ∷ 0 ∷ 0xB1 ∷ 0x70 ∷ n ∷ 0x88 ∷ (codes "bookmark" ++ (0x80 + (3 + length digits)) ∷ codes "bk:") in
+marked digits a b new few p q =
+    let front : List ℕ = (0x80 + (3 + length digits)) ∷ codes "bk:" in
     let m : ℕ = length (codes "bk:" ++ digits) in
     let same : m ≡ 3 + length digits = omega arith in
     let e : head 0x80 0xD0 m ≡ (0x80 + (3 + length digits)) ∷ [] = small_head 0x80 0xD0 m (omega (arith, few, same)) ∙ ap (λ x. (0x80 + x) ∷ []) same in
-    r ∙ ap (λ x. x ++ last) (q ∙ ap (λ x. x ++ digits) (p ∙ ap (λ x. x ++ front) o))
-    ∙ ap (λ x. 0 ∷ 0 ∷ 0xB1 ∷ 0x70 ∷ n ∷ (text_bytes (codes "bookmark") ++ ((x ++ (codes "bk:" ++ digits)) ++ last))) (sym e)
+    q ∙ ap (λ x. x ++ digits) p ∙ append_assoc a front digits ∙ ap (λ x. a ++ (x ++ (codes "bk:" ++ digits))) (sym e)
+
+-- a SUCCESS up to its bookmark, that, and what follows it
+pub bookmarked : (n : ℕ) (mark last old a b new : List ℕ) → old ≡ [] → a ≡ old ++ 0 ∷ 0 ∷ 0xB1 ∷ 0x70 ∷ n ∷ 0x88 ∷ codes "bookmark" → b ≡ a ++ mark → new ≡ b ++ last
+    → new ≡ 0 ∷ 0 ∷ 0xB1 ∷ 0x70 ∷ n ∷ (text_bytes (codes "bookmark") ++ (mark ++ last))
+unfolding head
+bookmarked n mark last old a b new o p q r =
+    r ∙ ap (λ x. x ++ last) (q ∙ ap (λ x. x ++ mark) (p ∙ ap (λ x. x ++ 0 ∷ 0 ∷ 0xB1 ∷ 0x70 ∷ n ∷ 0x88 ∷ codes "bookmark") o))
 
 -- the run of its text is the summary's
 pub summary_run : (v : Version) (s : Summary) (run : List ℕ) → IsShort s → run ≡ written_run (canon (form_of s)) → IsRun v (response_of_summary s) run

@@ -144,63 +144,33 @@ fn put_greeting(out: &mut Output, agent: &str, conn: u64) -> Result<(), AllocErr
     Ok(())
 }
 
-/// A place for a header, and a SUCCESS up to the digits of a bookmark, of which there are so many. Its dictionary begins with this byte.
-fn front_of(head: u8, count: usize) -> [u8; 18]
-    requires { count ≤ 12 }
-    ensures { result ≡ 0 ∷ 0 ∷ 0xB1 ∷ 0x70 ∷ head ∷ 0x88
-        ∷ (codes "bookmark" ++ (0x80 + (3 + count)) ∷ codes "bk:") }
-{
-    let mut front = *b"\0\0\xB1\x70\xA1\x88bookmark\x83bk:";
-    front[4] = head;
-    front[14] = 0x80 + (3 + count as u8);
-    front
-}
-
-/// A place for a header, and a SUCCESS of a bookmark and of the entries behind it. Its dictionary begins with this byte.
-fn put_marked(out: &mut Output, head: u8, place: u64, last: &[u8]) -> Result<(), AllocError>
-    requires { out.old.more ≡ [] }
+/// The text of a bookmark.
+fn put_bookmark(out: &mut Output, place: u64) -> Result<(), AllocError>
     ensures before { out.new.before ≡ out.old.before }
-    ensures ok { OnOk result (out.new.more ≡ 0 ∷ 0 ∷ 0xB1 ∷ 0x70 ∷ head
-        ∷ (text_bytes (codes "bookmark") ++ (text_bytes (codes "bk:" ++ decimal place) ++ last.now))) }
+    ensures ok { OnOk result (out.new.more
+        ≡ out.old.more ++ text_bytes (codes "bk:" ++ decimal place)) }
 {
     let mut buffer = Buffer::new();
-    put_digits(out, head, buffer.format(place), last)
+    put_digits(out, buffer.format(place))
 }
 
-/// The same of the bookmark with these digits.
-fn put_digits(out: &mut Output, head: u8, digits: &str, last: &[u8]) -> Result<(), AllocError>
-    requires empty { out.old.more ≡ [] }
-    requires digits { length digits.now ≤ 40 }
+/// The text of the bookmark with these digits.
+fn put_digits(out: &mut Output, digits: &str) -> Result<(), AllocError>
+    requires { length digits.now ≤ 40 }
     ensures before { out.new.before ≡ out.old.before }
-    ensures ok { OnOk result (out.new.more ≡ 0 ∷ 0 ∷ 0xB1 ∷ 0x70 ∷ head
-        ∷ (text_bytes (codes "bookmark") ++ (text_bytes (codes "bk:" ++ digits.now) ++ last.now))) }
+    ensures ok { OnOk result (out.new.more
+        ≡ out.old.more ++ text_bytes (codes "bk:" ++ digits.now)) }
 {
     if digits.len() > 12 {
-        return put_many_digits(out, head, digits, last);
+        return put_parts(out, "bk:", digits);
     }
-    out.extend_from_slice(&front_of(head, digits.len()))?;
-    out.extend_from_slice(digits.as_bytes())?;
-    out.extend_from_slice(last)
-}
-
-/// The same, however many they are.
-#[tactic(auto, using(crate::proofs::Summed::added), unfolding(packstream::specs::Canon::head))]
-fn put_many_digits(out: &mut Output, head: u8, digits: &str, last: &[u8]) -> Result<(), AllocError>
-    requires empty { out.old.more ≡ [] }
-    requires digits { length digits.now ≤ 40 }
-    ensures before { out.new.before ≡ out.old.before }
-    ensures ok { OnOk result (out.new.more ≡ 0 ∷ 0 ∷ 0xB1 ∷ 0x70 ∷ head
-        ∷ (text_bytes (codes "bookmark") ++ (text_bytes (codes "bk:" ++ digits.now) ++ last.now))) }
-{
-    out.extend_from_slice(&[0, 0, 0xB1, 0x70, head])?;
-    put_short_text(out, "bookmark")?;
-    put_parts(out, "bk:", digits)?;
-    out.extend_from_slice(last)
+    out.push_and_extend(0x80 + (3 + digits.len() as u8), b"bk:")?;
+    out.extend_from_slice(digits.as_bytes())
 }
 
 /// The entries of the last SUCCESS of a result.
 #[tactic(auto, unfolding(packstream::specs::Canon::head, packstream::specs::Canon::int_bytes))]
-fn ending_of(mode: Mode) -> &'static [u8]
+fn ending_of(mode: Mode) -> &'static [u8; 15]
     ensures { result.now ≡ canon_entries (entries_of (ending mode)) }
 {
     match mode {
@@ -215,7 +185,9 @@ fn put_last_at(out: &mut Output, place: u64, mode: Mode) -> Result<(), AllocErro
     ensures spelled { OnOk result (out.new.more ≡ 0 ∷ 0 ∷ canon (form_of (Closing (Some place) mode))) }
     ensures short { IsShort (Closing (Some place) mode) }
 {
-    put_marked(out, 0xA3, place, ending_of(mode))
+    out.extend_from_slice(b"\0\0\xB1\x70\xA3\x88bookmark")?;
+    put_bookmark(out, place)?;
+    out.extend_from_slice(ending_of(mode))
 }
 
 fn put_committed(out: &mut Output, place: u64) -> Result<(), AllocError>
@@ -224,7 +196,8 @@ fn put_committed(out: &mut Output, place: u64) -> Result<(), AllocError>
     ensures spelled { OnOk result (out.new.more ≡ 0 ∷ 0 ∷ canon (form_of (Committed place))) }
     ensures short { IsShort (Committed place) }
 {
-    put_marked(out, 0xA1, place, &[])
+    out.extend_from_slice(b"\0\0\xB1\x70\xA1\x88bookmark")?;
+    put_bookmark(out, place)
 }
 
 #[tactic(auto, using(crate::proofs::Summed::added), unfolding(packstream::specs::Canon::head))]
