@@ -142,11 +142,31 @@ impl Session {
             &mut self.out,
         ) {
             Ok(()) => self.take(rows, write, mode, kind),
-            Err(why) => {
-                drop_answer(fields, rows, write);
-                self.refuse_run(why, kind)
-            }
+            Err(why) => self.refuse_answer(fields, rows, write, why, kind),
         }
+    }
+
+    /// Answers the first request, a RUN whose answer is dropped, by a FAILURE, unless it is memory that is wanted.
+    #[inline(always)]
+    fn refuse_answer(
+        &mut self,
+        fields: Names,
+        rows: Rows,
+        write: Option<Write>,
+        why: Unwritten,
+        kind: Kind,
+    ) -> Result<(), AllocError>
+        requires some { 0 < length self.old.queue.waiting.items }
+        ensures ok { let k = kept_of self.old in
+            (reply : Reply) → FailsBy why reply
+            → (q : RequestView) (later : List Arrival) → k.waiting ≡ Asked q ∷ later
+            → kind ≡ kind_of q → (conn : ℕ) (ledger : List EntryView)
+            → OnOk result (Answers (replies ledger k q later reply) conn k.first (kind_of q) None
+            (kept_of self.new) ledger ledger) }
+        ensures err { OnErr result (kept_of self.new ≡ kept_of self.old) }
+    {
+        drop_answer(fields, rows, write);
+        self.refuse_run(why, kind)
     }
 
     /// Answers the first request by a FAILURE, unless it is memory that is wanted.
@@ -198,7 +218,7 @@ impl Session {
         ) {
             Ok(()) => {
                 let token = self.finish(state, Verdict::Success, kind);
-                if !is_in_transaction(state) {
+                if !is_in_transaction(state) && token.is_some() {
                     self.result.token = token;
                 }
                 Ok(())

@@ -1,5 +1,5 @@
 //! What a query's answer opens.
-ghost use Rattle.std.specs.Prelude.{◌≡◌, ◌+◌, ◌≤◌, ◌∷◌, [], ◌++◌, true, false, if◌then◌else◌, length, codes, map, option_map, option_to_list, None, IfOk, OnOk, OnErr, IfErr, All, IsUtf8};
+ghost use Rattle.std.specs.Prelude.{◌≡◌, ◌+◌, ◌≤◌, ◌∷◌, [], ◌++◌, true, false, if◌then◌else◌, length, map, option_map, option_to_list, None, Some, IsErr, IfOk, OnOk, OnErr, IfErr, All, IsUtf8};
 ghost use Rattle.messages.specs.View.{response_view};
 ghost use Rattle.cells.specs.Shape.{shapes};
 ghost use Rattle.packstream.specs.Writing.{whole};
@@ -100,19 +100,11 @@ fn add_fields(fields: &Names, out: &mut Output) -> Result<(), Unspelled>
         ++ canon (dict (entries_of (fields_told (names_view fields.now))))) }
     ensures texts { OnOk result (All IsUtf8 (names_view fields.now)) }
 {
-    out.extend_from_slice(&success_of(head_of(fields.count())))?;
+    out.extend_from_slice(b"\0\0\xB1\x70\xA2\x86fields")?;
+    out.push(head_of(fields.count()))?;
     put_names(fields, out)?;
     out.extend_from_slice(b"\x87t_first\x00")?;
     Ok(())
-}
-
-/// A place for a header, and a SUCCESS up to the list of its fields, which begins with this byte.
-fn success_of(head: u8) -> [u8; 13]
-    ensures { result ≡ 0 ∷ 0 ∷ 0xB1 ∷ 0x70 ∷ 0xA2 ∷ 0x86 ∷ (codes "fields" ++ head ∷ []) }
-{
-    let mut front = *b"\0\0\xB1\x70\xA2\x86fields\0";
-    front[12] = head;
-    front
 }
 
 /// The byte before a list of few members.
@@ -181,10 +173,7 @@ pub(crate) fn open_result(
 {
     let rows = match Remaining::fitted(alloc, version, rows) {
         Ok(rows) => rows,
-        Err(AllocError) => {
-            drop_write(write);
-            return Err(AllocError);
-        }
+        Err(AllocError) => return give_up(write),
     };
     let mode = result_mode(mode);
     let writes = if is_in_transaction(state) {
@@ -203,6 +192,15 @@ pub(crate) fn open_result(
         written: 0,
     };
     Ok(())
+}
+
+/// Drops the write of a result that isn't opened, for want of memory.
+#[inline(always)]
+fn give_up(write: Option<Write>) -> Result<(), AllocError>
+    ensures { IsErr result }
+{
+    drop_write(write);
+    Err(AllocError)
 }
 
 /// Drops the write of a result. It is a call, so that a result that is opened doesn't pay for the locals of a drop.
@@ -232,10 +230,17 @@ fn writes_of(alloc: Global, write: Option<Write>) -> Result<Vec<Write>, AllocErr
 {
     match write {
         None => Ok(Vec::new(alloc)),
-        Some(write) => {
-            let mut writes = Vec::with_capacity(alloc, 1)?;
-            writes.push(write)?;
-            Ok(writes)
-        }
+        Some(write) => only_write(alloc, write),
     }
+}
+
+/// The write of a result. It is a call, so that a result without one doesn't pay for its locals.
+#[inline(never)]
+fn only_write(alloc: Global, write: Write) -> Result<Vec<Write>, AllocError>
+    ensures first { IfOk result (λ ws. first_of (writes_view ws.items) ≡ Some (write_view write)) }
+    ensures one { IfOk result (λ ws. length ws.items ≤ 1) }
+{
+    let mut writes = Vec::with_capacity(alloc, 1)?;
+    writes.push(write)?;
+    Ok(writes)
 }

@@ -59,7 +59,7 @@ impl Remaining {
             width,
             count,
         } = rows;
-        if are_plain(cells.as_slice()) {
+        if are_plain(&cells) {
             return Ok(Remaining {
                 cells,
                 width,
@@ -130,10 +130,20 @@ fn fit_list(alloc: Global, version: Version, cells: Vec<Cell>) -> Result<Vec<Cel
 }
 
 /// Whether each cell has one form in all versions, as one has that holds no other.
-fn are_plain(row: &[Cell]) -> bool
-    ensures { result ≡ true → (v : AnyVersion) → map (fitted v) (shapes row.now) ≡ shapes row.now }
+fn are_plain(cells: &Cells) -> bool
+    ensures { result ≡ true
+        → (v : AnyVersion) → map (fitted v) (shapes (cells_in cells.now)) ≡ shapes (cells_in cells.now) }
 {
-    for cell in row {
+    match cells {
+        Cells::One(cell) => is_plain(cell),
+        Cells::Many(cells) => are_all_plain(cells),
+    }
+}
+
+fn are_all_plain(cells: &[Cell]) -> bool
+    ensures { result ≡ true → (v : AnyVersion) → map (fitted v) (shapes cells.now) ≡ shapes cells.now }
+{
+    for cell in cells {
         if !is_plain(cell) {
             return false;
         }

@@ -9,4 +9,4 @@ use Rattle.session.proofs.remaining.Remaining.fitted.Goals as goal
 pub returns-then-are_plain-clause-rows : goal.returns-then-are_plain-clause-rows
 returns-then-are_plain-clause-rows c =
     let rows = c.args.rows in
-    ap (λ (ts : List Tree). rows_in rows.width rows.count ts) (sym (rw c.as_slice.ensures at c.are_plain.ensures c.if-are_plain.true c.args.version)) ∙ rows_in_fitted c.args.version rows.width rows.count (shapes (cells_in rows.cells))
+    ap (λ (ts : List Tree). rows_in rows.width rows.count ts) (sym (c.are_plain.ensures c.if-are_plain.true c.args.version)) ∙ rows_in_fitted c.args.version rows.width rows.count (shapes (cells_in rows.cells))

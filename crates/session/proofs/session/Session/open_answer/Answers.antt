@@ -18,5 +18,5 @@ returns-in-Err-clause-ok c = λ q later waits same conn ledger.
     let a = answer_by (names_view c.args.fields) c.args.rows c.args.write c.args.mode in
     let told = reply_to_run (version_of k) k.state k.tx (token_of q) (Ok a) in
     let fails = subst (λ (v : Version). FailsBy c.in-Err.why (reply_to_run v k.state k.tx (token_of q) (Ok a))) c.version.ensures (c.in-Err.ensures.refused c.args.rows c.args.mode (token_of q)) in
-    subst (λ (x : Kept). OnOk c.refuse_run.result (Answers (replies ledger x q later told) conn x.first (kind_of q) None (kept_of c.refuse_run.new.self) ledger ledger)) (ap (λ (x : List ℕ). record k { unsent = x }) c.in-Err.ensures.kept)
-    (c.refuse_run.ensures.ok told fails q later waits same conn ledger)
+    subst (λ (x : Kept). OnOk c.refuse_answer.result (Answers (replies ledger x q later told) conn x.first (kind_of q) None (kept_of c.refuse_answer.new.self) ledger ledger)) (ap (λ (x : List ℕ). record k { unsent = x }) c.in-Err.ensures.kept)
+    (c.refuse_answer.ensures.ok told fails q later waits same conn ledger)
