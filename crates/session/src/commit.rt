@@ -42,13 +42,13 @@ pub(crate) fn leave<E: Engine>(
 {
     match after {
         After::Nothing => {
-            *left = OpenResult::closed(alloc);
+            left.close(alloc);
             tx.close(alloc);
             Ok(None)
         }
         After::Begun(mode) => {
-            *left = OpenResult::closed(alloc);
-            *tx = Transaction::begun(alloc, mode);
+            left.close(alloc);
+            tx.begin(alloc, mode);
             Ok(None)
         }
         After::Rest(count) => {
@@ -56,7 +56,7 @@ pub(crate) fn leave<E: Engine>(
             Ok(None)
         }
         After::Transaction => {
-            *left = OpenResult::closed(alloc);
+            left.close(alloc);
             Ok(None)
         }
         After::CommitsResult => {
@@ -66,8 +66,8 @@ pub(crate) fn leave<E: Engine>(
         }
         After::CommitsTransaction => {
             let len = commit_writes(alloc, &mut tx.writes, &mut tx.token, id, engine)?;
-            *left = OpenResult::closed(alloc);
-            *tx = Transaction::none(alloc);
+            left.close(alloc);
+            tx.close(alloc);
             Ok(Some(len))
         }
     }
@@ -101,7 +101,7 @@ fn commit_result<E: Engine>(
         × (E.entries engine.new ≡ E.entries engine.old)) }
 {
     let len = commit_writes(alloc, &mut left.writes, &mut left.token, id, engine)?;
-    *left = OpenResult::closed(alloc);
+    left.close(alloc);
     Ok(len)
 }
 

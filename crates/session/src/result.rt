@@ -48,6 +48,14 @@ impl OpenResult {
         }
     }
 
+    /// None is open any more.
+    #[inline(always)]
+    pub(crate) fn close(&mut self, alloc: Global)
+        ensures { open_of self.new ≡ no_result }
+    {
+        *self = OpenResult::closed(alloc);
+    }
+
     /// The first row has been written.
     pub(crate) fn pass(&mut self)
         requires { 0 < self.old.rows.count }
@@ -101,14 +109,15 @@ impl Transaction {
         }
     }
 
-    /// One of a mode, without a token and without writes.
-    pub(crate) fn begun(alloc: Global, mode: Mode) -> Transaction
-        ensures { tx_of result ≡ record { mode = mode; writes = []; token = None } }
+    /// One of a mode is open, without a token and without writes.
+    #[inline(always)]
+    pub(crate) fn begin(&mut self, alloc: Global, mode: Mode)
+        ensures { tx_of self.new ≡ record { mode = mode; writes = []; token = None } }
     {
-        Transaction {
+        *self = Transaction {
             mode,
             token: None,
             writes: Vec::new(alloc),
-        }
+        };
     }
 }
