@@ -26,6 +26,10 @@ heard_later vs i v bytes l e = ap (λ us. heard_among us bytes) (drop_more vs i 
 pub held-length : (o : Opening) → length o.bytes ≡ 4 → o.len ≤ 4 → length (held_bytes o) ≡ o.len
 held-length o four most = omega (arith, length-take o.len o.bytes)
 
+-- all of the answer has come
+pub all_held : (o : Opening) → length o.bytes ≡ 4 → o.len ≤ 4 → 4 ≤ o.len → 4 ≤ length (held_bytes o)
+all_held o four most least = omega (arith, held-length o four most)
+
 -- chunks want room
 pub chunks_want : (o : Opening) (u : Unfinished) (piece : List ℕ) → 4 ≤ length (held_bytes o) → ChunksWant u piece → WantsRoom (come 4 (held_bytes o) u) piece
 chunks_want o u piece all w = subst (λ (x : Opened). WantsRoom x piece) (sym (come_open 4 (held_bytes o) u piece all)) (record { good = w.good; some = w.some })

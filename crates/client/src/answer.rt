@@ -1,11 +1,12 @@
 //! What a client makes of what it hears.
 
-ghost use Rattle.std.specs.Prelude.{◌≡◌, true, map, drop, Err};
+ghost use Rattle.std.specs.Prelude.{◌≡◌, List, true, map, drop, Err};
+ghost use Rattle.packstream.specs.Tree.{Tree};
 ghost use Rattle.cells.specs.Shape.{shapes};
 ghost use Rattle.messages.specs.View.{request_view, response_view, ResponseView};
 ghost use Rattle.messages.specs.Arrivals.{Heard as AnyHeard};
 ghost use Rattle.client.specs.Verdicts.{resets};
-ghost use Rattle.client.specs.Rest.{judgement_of, hears_version, hears_row, hears_response, hears_summary, hears_item};
+ghost use Rattle.client.specs.Rest.{judgement_of, hears_version, hears_row, row_heard, hears_response, hears_summary, hears_item};
 ghost use Rattle.client.specs.Hearings.{Hears, came_as};
 ghost use Rattle.client.specs.Fits.{knowledge_of};
 
@@ -21,12 +22,21 @@ use wire::{Version, Wish};
 
 impl Pipeline {
     /// A bad answer ends the client.
+    #[inline(always)]
+    pub fn end(&mut self) -> ClientFault
+        ensures result { result ≡ ClientFault.BadPeer }
+        ensures over { knowledge_of self.new ≡ record (knowledge_of self.old) { over = true } }
+    {
+        self.over = true;
+        ClientFault::BadPeer
+    }
+
+    /// The same, as what is heard.
     fn spoil(&mut self) -> Result<Heard, ClientFault>
         ensures result { result ≡ Err ClientFault.BadPeer }
         ensures over { knowledge_of self.new ≡ record (knowledge_of self.old) { over = true } }
     {
-        self.over = true;
-        Err(ClientFault::BadPeer)
+        Err(self.end())
     }
 
     /// The version that the server took, or that it took none.
@@ -68,13 +78,26 @@ impl Pipeline {
     }
 
     /// A response.
-    fn hear_response(&mut self, response: Response) -> Result<Heard, ClientFault>
+    #[inline(always)]
+    pub fn hear_response(&mut self, response: Response) -> Result<Heard, ClientFault>
         ensures { Hears (hears_response (knowledge_of self.old) (response_view response))
             (AnyHeard.Told (response_view response)) result (knowledge_of self.new) }
     {
         match response {
             Response::Record(cells) => self.hear_row(cells),
             summary => self.hear_summary(summary),
+        }
+    }
+
+    /// Whether the first waiting request is a PULL: a row is of no other.
+    #[inline(always)]
+    pub fn awaits_row(&self) -> bool
+        ensures { (cells : List Tree) → hears_row (knowledge_of self.now) cells
+            (knowledge_of self.now).waiting ≡ row_heard (knowledge_of self.now) cells result }
+    {
+        match self.waiting.front() {
+            Some(Request::Pull(_)) => true,
+            _ => false,
         }
     }
 

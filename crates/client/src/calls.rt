@@ -25,7 +25,7 @@ use crate::version_answer::Opening;
 use bytes::{Bytes, BytesMut};
 use inbox::Inbox;
 use machine::{MAX_WAITING, Phase, PhaseSet};
-use messages::Request;
+use messages::{MsgFault, Request, Response, read_response};
 use packstream::writing::Output;
 use reader::Reader;
 use std::alloc::Global;
@@ -161,9 +161,57 @@ impl Client {
     {
         match self.stream.take_data(piece) {
             Ok(true) => used_up(piece.len()),
-            Ok(false) => self.feed_item(piece),
+            Ok(false) => self.feed_end(piece),
             Err(fault) => Err(fault),
         }
+    }
+
+    /// Tells what ends with the last byte that is used. A row is put where the caller reads it, and isn't moved there.
+    #[inline(never)]
+    fn feed_end(&mut self, piece: &[u8]) -> Result<(usize, Heard), ClientFault>
+        requires { self.old.pipeline.over ≡ false }
+        ensures feeds { Feeds (rest_of self.new) (rest_of self.old) (fed_open (rest_of self.old)
+            (takes at_client (rest_of self.old).item piece.now)) result }
+        ensures room { IsErrOf result ClientFault.Memory
+            → WantsRoom (rest_of self.old).item piece.now }
+        ensures within { IfOk result (λ t. t.0 ≤ length piece.now) }
+        ensures goes_on { 0 < length piece.now → IfOk result (λ t. 0 < t.0) }
+    {
+        let Some(at) = self.pipeline.version else {
+            return self.feed_other(piece);
+        };
+        let Some(message) = self.stream.message_in(piece) else {
+            return self.feed_other(piece);
+        };
+        let used = message.len() + 4;
+        match read_response(self.alloc, at, message) {
+            Ok(Response::Record(cells)) => {
+                if self.pipeline.awaits_row() {
+                    return Ok((used, Heard::Row(cells)));
+                }
+                return Err(self.pipeline.end());
+            }
+            Ok(summary) => match self.pipeline.hear_response(summary) {
+                Ok(heard) => return Ok((used, heard)),
+                Err(fault) => return Err(fault),
+            },
+            Err(MsgFault::Memory) => return Err(ClientFault::Memory),
+            Err(_) => return Err(self.pipeline.end()),
+        }
+    }
+
+    /// A piece that begins with no whole message. It stands in its caller, so that its result isn't in the way of those of other pieces.
+    #[inline(always)]
+    fn feed_other(&mut self, piece: &[u8]) -> Result<(usize, Heard), ClientFault>
+        requires { self.old.pipeline.over ≡ false }
+        ensures feeds { Feeds (rest_of self.new) (rest_of self.old) (fed_open (rest_of self.old)
+            (takes at_client (rest_of self.old).item piece.now)) result }
+        ensures room { IsErrOf result ClientFault.Memory
+            → WantsRoom (rest_of self.old).item piece.now }
+        ensures within { IfOk result (λ t. t.0 ≤ length piece.now) }
+        ensures goes_on { 0 < length piece.now → IfOk result (λ t. 0 < t.0) }
+    {
+        self.feed_item(piece)
     }
 
     /// Tells what ends with the last byte that is used.

@@ -1,8 +1,8 @@
 //! What comes of the pieces of a server's bytes.
 
-ghost use Rattle.std.specs.Prelude.{◌≡◌, Option, Some, unwrap_or, IfOk};
+ghost use Rattle.std.specs.Prelude.{◌≡◌, Option, unwrap_or};
 ghost use Rattle.wire.specs.declared.Version.TheVariants.{V51};
-ghost use Rattle.wire.specs.Framing.{Item, Message};
+ghost use Rattle.wire.specs.Framing.{Item};
 ghost use Rattle.messages.specs.View.{response_view};
 ghost use Rattle.messages.specs.Reading.{Answers};
 ghost use Rattle.messages.specs.Messages.{response_of};
@@ -13,8 +13,7 @@ ghost use Rattle.client.specs.Hearings.{came_as, came_in};
 
 use crate::version_answer::Opening;
 use inbox::Brought;
-use messages::{MsgFault, Response, read_response};
-use std::alloc::{AllocError, Global};
+use messages::Response;
 use wire::Version;
 
 /// What ended with the last byte that was used.
@@ -33,24 +32,6 @@ pub(crate) enum Came {
 pub(crate) struct Taken {
     pub used: usize,
     pub came: Came,
-}
-
-/// What a whole message says. Before a version is known it says nothing.
-pub(crate) fn came_whole(
-    alloc: Global,
-    version: Option<Version>,
-    message: &[u8],
-) -> Result<Came, AllocError>
-    ensures { IfOk result (λ came. came_as came ≡ came_in version (Some (Message message.now))) }
-{
-    let Some(at) = version else {
-        return Ok(Came::Bad);
-    };
-    match read_response(alloc, at, message) {
-        Ok(response) => Ok(Came::Response(response)),
-        Err(MsgFault::Memory) => Err(AllocError),
-        Err(_) => Ok(Came::Bad),
-    }
 }
 
 /// What a piece of chunks brought, by the version that is known.

@@ -3,7 +3,7 @@
 ghost use Rattle.std.specs.Prelude.{◌≡◌, ◌<◌, ◌≤◌};
 ghost use Rattle.wire.specs.Unfinished.{fresh};
 
-use crate::data::{Came, Taken, answer_of, came_of, came_whole};
+use crate::data::{Came, Taken, answer_of, came_of};
 use crate::faults::ClientFault;
 use crate::version_answer::{LENGTH, Opening};
 use inbox::Inbox;
@@ -23,12 +23,12 @@ pub(crate) struct Stream {
 }
 
 impl Stream {
-    ghost use Rattle.std.specs.Prelude.{length, true, false, Option, Ok, IfOk, IfErr, OnErr};
+    ghost use Rattle.std.specs.Prelude.{◌+◌, length, true, false, Option, Ok, IfOk, IfSome, IfErr, OnErr};
     ghost use Rattle.wire.specs.declared.Version.{Version};
     ghost use Rattle.wire.specs.Framing.{at_client};
     ghost use Rattle.wire.specs.Reader.{takes};
     ghost use Rattle.client.specs.Held.{item_of, WantsRoom};
-    ghost use Rattle.client.specs.Taking.{Comes, all_of};
+    ghost use Rattle.client.specs.Taking.{Comes, all_of, whole_message};
 
     /// Takes a piece that is data alone, and answers whether it is; else, and for want of memory, nothing changes.
     pub fn take_data(&mut self, piece: &[u8]) -> Result<bool, ClientFault>
@@ -46,6 +46,23 @@ impl Stream {
         match self.inbox.take_data(piece) {
             Ok(is_data) => Ok(is_data),
             Err(_) => Err(ClientFault::Memory),
+        }
+    }
+
+    /// Lends the message that the piece begins with, if no item is begun and it is there whole, in one chunk. Nothing is taken.
+    #[inline(always)]
+    pub fn message_in<'a>(&self, piece: &'a [u8]) -> Option<&'a [u8]>
+        ensures takes { IfSome result (λ m. takes at_client (item_of self.now) piece.now
+            ≡ whole_message m.now (item_of self.now)) }
+        ensures room { IfSome result (λ _. WantsRoom (item_of self.now) piece.now) }
+        ensures within { IfSome result (λ m. length m.now + 4 ≤ length piece.now) }
+    {
+        if self.opening.len < LENGTH {
+            return None;
+        }
+        match self.inbox.message_in(piece) {
+            Some(message) => Some(message),
+            None => None,
         }
     }
 
@@ -67,7 +84,7 @@ impl Stream {
         if self.opening.len < LENGTH {
             Ok(self.take_answer(piece))
         } else {
-            self.take_chunks(alloc, version, piece)
+            self.take_parts(alloc, version, piece)
         }
     }
 
@@ -94,34 +111,6 @@ impl Stream {
     }
 
     /// Then come chunks.
-    fn take_chunks(
-        &mut self,
-        alloc: Global,
-        version: Option<Version>,
-        piece: &[u8],
-    ) -> Result<Taken, ClientFault>
-        requires { 4 ≤ self.old.opening.len }
-        ensures ok { IfOk result (λ t. Comes version (takes at_client (item_of self.old) piece.now) t
-            (item_of self.new)) }
-        ensures within { IfOk result (λ t. t.used ≤ length piece.now) }
-        ensures some { 0 < length piece.now → IfOk result (λ t. 0 < t.used) }
-        ensures fault { IfErr result (λ e. e ≡ ClientFault.Memory) }
-        ensures err { OnErr result ((item_of self.new ≡ item_of self.old)
-            × WantsRoom (item_of self.old) piece.now) }
-    {
-        if let Some(message) = self.inbox.message_in(piece) {
-            let Ok(came) = came_whole(alloc, version, message) else {
-                return Err(ClientFault::Memory);
-            };
-            return Ok(Taken {
-                used: message.len() + 4,
-                came,
-            });
-        }
-        self.take_parts(alloc, version, piece)
-    }
-
-    /// Takes a piece of chunks that doesn't begin with a whole message.
     fn take_parts(
         &mut self,
         alloc: Global,
