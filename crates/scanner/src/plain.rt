@@ -24,6 +24,7 @@ pub(crate) fn marker_in(bytes: &[u8]) -> Scanned<'_, Marker>
 
 /// An integer.
 #[tactic(auto, unfolding(packstream::specs::Reading::form_at))]
+#[inline(always)]
 pub(crate) fn int_in(bytes: &[u8]) -> Scanned<'_, i64>
     ensures { (room : ℕ) → IfOk result (λ x. IsRead room (int x.0) bytes.now x.1.now) }
 {
