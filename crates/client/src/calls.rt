@@ -272,7 +272,7 @@ impl Client {
         self.pipeline.waiting.len()
     }
 
-    /// The ordinal of the first request that waits; if none does, that of the next. Takes no memory.
+    /// The ordinal of the first request that waits, behind `lost` of the first that waited; if none does, that of the next. Takes no memory.
     pub fn first_waiting(&self) -> u64
         ensures { result ≡ (rest_of self.now).knows.first }
     {
