@@ -313,10 +313,11 @@ impl<S: Read + Write> Connection<S> {
     }
 
     /// Sends what was asked, and hears all answers. The first FAILURE is an error, after a RESET where the session still ignores what it is asked. Answers the
-    /// requests asked since all was settled, none where there are none.
+    /// requests asked since all was settled, none where there are none. Where the connection has ended and that was told, the error is `Broken`.
     pub fn settle(&mut self) -> Result<&[Request], Error> {
-        if self.is_settled && self.why.is_none() {
-            return Ok(&[]);
+        if self.is_settled {
+            let Some(why) = self.why else { return Ok(&[]) };
+            return Err(Error::Broken { why, error: None, requests: self.requests.clone() });
         }
         self.await_all()?;
         let state = self.client.state();

@@ -339,6 +339,25 @@ fn nothing_is_asked_of_a_stream_that_takes_no_more() {
 }
 
 #[test]
+fn behind_a_reset_that_fails_the_refusal_isnt_told_again() {
+    let refused = failure("Neo.ClientError.Statement.SyntaxError");
+    let ignored: &[u8] = &[0xB0, 0x7E];
+    // (the stream ends, the RESET is refused, and what nobody asked for)
+    for reset in [[].as_slice(), &[refused.as_slice()], &[SUCCESS; 2]] {
+        let mut stream = answering(&[&refused, ignored]).unwrap();
+        stream.0.extend(answering(reset).unwrap().0.into_iter().skip(2).filter(|it| !it.is_empty()));
+        let mut connection = Connection::open(stream, &login()).unwrap();
+        let told = connection.run(&put("a"));
+        assert!(matches!(told, Err(Error::Refused { .. })), "{told:?}");
+        for _ in 0..2 {
+            let again = connection.settle().map(<[_]>::len);
+            assert!(matches!(&again, Err(Error::Broken { requests, .. }) if *requests == connection.requests()), "{again:?}");
+        }
+        assert_eq!(outcomes(&connection), [Some(Outcome::Refused), Some(Outcome::Ignored)]);
+    }
+}
+
+#[test]
 fn a_flush_that_is_interrupted_is_done_again() {
     let mut connection = Unflushed::answering(&[SUCCESS; 4]);
     connection.stream().fails.set(Some(io::ErrorKind::Interrupted));
