@@ -334,11 +334,13 @@ impl<S: Read + Write> Connection<S> {
         };
         let requests = self.requests.clone();
         if state.has_ended == 0 && state.phase == HALTED {
+            // (it is none of those that were asked, also where the stream panics)
+            let asked = self.ask_reset();
+            self.requests.truncate(requests.len());
             // (where the session doesn't live on, all that was asked is answered nonetheless)
-            if self.ask_reset().and_then(|_| self.await_all()).is_err() {
+            if asked.and_then(|_| self.await_all()).is_err() {
                 self.end("out of memory");
             }
-            self.requests.clone_from(&requests);
         }
         self.is_settled = true;
         let told = |key| requests[refused].metadata.get(key).and_then(Value::as_text).unwrap_or_default().to_owned();
@@ -361,7 +363,7 @@ impl<S: Read + Write> Connection<S> {
 
     /// The rows of a query that was asked, by the place of its RUN among the requests; None where no RUN stands there, or it wasn't answered whole.
     pub fn answer(&self, run: usize) -> Option<Answer> {
-        match self.requests.get(run..self.told.min(self.requests.len()))? {
+        match self.requests.get(run..self.told)? {
             [run, pull, ..] if run.text.starts_with("RUN ") && matches!(pull.outcome, Some(Outcome::Done | Outcome::Committed)) => Some(answer_of(run, pull)),
             _ => None,
         }

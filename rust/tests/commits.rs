@@ -374,6 +374,7 @@ enum Panic {
     BehindRead,
     /// It says that it read more than it could.
     PastRead,
+    AtReset,
 }
 
 /// A stream that keeps what is written, and panics where it is to.
@@ -402,6 +403,9 @@ impl Write for Panics {
         self.panic(Panic::BeforeWrite);
         self.written.extend(bytes);
         self.panic(Panic::BehindWrite);
+        if bytes == [0, 2, 0xB0, 0x0F, 0, 0] {
+            self.panic(Panic::AtReset);
+        }
         Ok(bytes.len())
     }
 
@@ -427,6 +431,14 @@ fn behind_a_panic_of_the_stream_nothing_is_sent_or_heard() {
         let commit = [0, 2, 0xB0, 0x12, 0, 0];
         assert_eq!(connection.stream().written.windows(commit.len()).filter(|it| *it == commit).count(), times, "{due:?}");
     }
+    // (a RESET of its own is none of what was asked)
+    let (refused, ignored): (_, &[u8]) = (failure("Neo.ClientError.Statement.SyntaxError"), &[0xB0, 0x7E]);
+    let stream = Panics { answers: answering(&[&refused, ignored]).unwrap(), written: Vec::new(), due: Cell::default() };
+    let mut connection = Connection::open(stream, &login()).unwrap();
+    connection.ask_run(&put("a"), true, None).unwrap();
+    connection.stream().due.set(Panic::AtReset);
+    assert!(catch_unwind(AssertUnwindSafe(|| connection.settle().is_ok())).is_err());
+    assert_eq!(outcomes(&connection), [Some(Outcome::Refused), Some(Outcome::Ignored)]);
 }
 
 /// A server at the other end of sockets that hold so many bytes each way: it takes what it is asked, and answers each PULL with a long row, until as many answers wait.
