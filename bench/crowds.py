@@ -66,6 +66,14 @@ class Server:
     def state(self):
         return self.fields()[0]
 
+    def comes_to(self, state):
+        """Waits until the system says this state of it."""
+        until = time.monotonic() + LONGEST
+        while (now := self.state()) != state:
+            if time.monotonic() > until:
+                raise TimeoutError(f"the server's state is {now}")
+            time.sleep(0.01)
+
     def ticks(self):
         fields = self.fields()
         return int(fields[11]) + int(fields[12])
