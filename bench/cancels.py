@@ -6,6 +6,7 @@ import ssl
 import struct
 import sys
 import tempfile
+import threading
 import time
 import warnings
 
@@ -420,6 +421,40 @@ async def keeps_to_a_loop(port):
     return (type(why), getattr(why, "code", 0), seen, closed) == (bolt.NotSent, bolt.library.NOT_ALLOWED, [], None) and await code_of(connection.run("ONE")) == bolt.library.NO_CLIENT
 
 
+async def wakes(port):
+    """Whether a call that waits without a bound hears that another thread closes its connection, and nothing goes out behind that which is told as lost."""
+    def closing(connection):
+        thread = threading.Thread(target=lambda: asyncio.run(connection.close()))
+        thread.start()
+        return thread
+
+    told, loop = [], asyncio.get_running_loop()
+    # (a loop that is debugged refuses what comes from another thread)
+    for is_debugged in (False, True):
+        loop.set_debug(is_debugged)
+        with odd_servers.Server([drives.BEFORE[:2]], ends=False) as server:
+            connection = await connected(server.port, timeout=None)
+            waiting = asyncio.ensure_future(raised(connection.run("ONE")))
+            await asyncio.sleep(0.1)
+            began = closing(connection), time.monotonic()
+            await asyncio.wait({waiting}, timeout=20)
+            told.append(time.monotonic() - began[1] < 10 and str(await waiting))
+            began[0].join()
+    loop.set_debug(False)
+
+    def goes(count):
+        closing(connection).join()
+        told.append(asked.outcome)
+        bolt.library.Client.goes(client, count)
+
+    connection = await connected(port)
+    asked, client = connection.session.ask_run("PUT", {"key": "waking", "value": 1}), connection.session._client
+    client.goes = goes
+    told.append(type(await raised(connection.session.settle())))
+    told.append(await asyncio.to_thread(drives.value_of, port, "waking"))
+    return told == [f"RUN ONE: LOST, PULL of ONE: UNKNOWN ({bolt.CLOSED_HERE})"] * 2 + [bolt.LOST, bolt.Broken, []]
+
+
 async def sends_nothing_behind_a_reset(_):
     """Whether of a query that is asked once a server has reset the connection it is told that it is lost, by loops too whose transports then refuse what is written."""
     with Resets(0) as server:
@@ -484,5 +519,5 @@ async def encrypts(port):
     return (len(said), type(stranger), type(stranger.__cause__)) == (1024, bolt.Broken, ssl.SSLCertVerificationError)
 
 
-DRIVES = (reads_rows, transacts, leaves_nothing_open, keeps_to_a_task, keeps_to_a_loop, tells_errors, tells_failed_pulls, bounds_what_is_left, hears_before_a_reset, sends_nothing_behind_a_reset, tells_fates, keeps_the_token, tells_what_it_heard, closes_meanwhile,
+DRIVES = (reads_rows, transacts, leaves_nothing_open, keeps_to_a_task, keeps_to_a_loop, wakes, tells_errors, tells_failed_pulls, bounds_what_is_left, hears_before_a_reset, sends_nothing_behind_a_reset, tells_fates, keeps_the_token, tells_what_it_heard, closes_meanwhile,
           encrypts)

@@ -66,8 +66,10 @@ class AsyncSession(Core):
         # (the loop may be closed already)
         with contextlib.suppress(RuntimeError):
             # (a process that was forked shares what the loop waits with)
-            if self._writer and self._is_ours():
-                self._writer.transport.abort()
+            if self._loop and self._writer and self._is_ours():
+                # (another thread's, too: what waits in that hears the end by this)
+                is_here, abort = asyncio._get_running_loop() is self._loop, self._writer.transport.abort
+                abort() if is_here else self._loop.call_soon_threadsafe(abort)
 
     def _give_up(self) -> None:
         self._is_late = True
@@ -93,6 +95,9 @@ class AsyncSession(Core):
                 if self._is_late or self._left() == 0:
                     raise TimeoutError(TIMED_OUT)
                 self._open.goes(len(piece))
+                # (asked behind that, so that of what goes out nobody is told by another thread that it is lost)
+                if self._why:
+                    return
                 self._writer.write(piece)
                 self._open.sent(len(piece))
             except OSError as why:
