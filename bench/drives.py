@@ -178,6 +178,11 @@ def keeps_results_apart(port):
         with odd_servers.Server([(*begun[:2], odd_servers.told(*ends))]) as server, connected(server.port) as connection:
             only = connection.run("ROWS").single()
         is_apart = is_apart and (only.values(), breaks.raised(only.data), only.keys()) == ([1], None, [])
+    # (nor is there a column of which a row has no cell)
+    names = bytes.fromhex("B170A1") + odd_servers.text("fields") + b"\x92" + odd_servers.text("a") + odd_servers.text("b")
+    with odd_servers.Server([(*begun[:2], odd_servers.told(names, row, DONE))]) as server, connected(server.port) as connection:
+        short = connection.run("ROWS").single()
+    is_apart = is_apart and (short["a"], short.get("b", 7), short.data(), type(breaks.raised(lambda: short["b"]))) == (1, 7, {"a": 1}, KeyError)
     broken, refused = f"PULL of ROWS: UNKNOWN ({bolt.GONE})", f"{odd_servers.REFUSED}: no"
     return is_apart and said == [1, *[broken] * 3, bolt.UNKNOWN, 1, *[refused] * 3, bolt.REFUSED]
 

@@ -16,7 +16,8 @@ class Record(Sequence[Any]):
     __slots__ = ("_names", "_cells")
 
     def __init__(self, names: Sequence[str], cells: Sequence[Any]) -> None:
-        self._names, self._cells = tuple(names), tuple(cells)
+        # (of a row with fewer cells than there are names the last have none)
+        self._names, self._cells = tuple(names)[:len(cells)], tuple(cells)
 
     def __getitem__(self, place: Union[int, str, slice]) -> Any:
         if not isinstance(place, str):
