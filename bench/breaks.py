@@ -458,6 +458,27 @@ def hears_without_poll(_):
         bolt.session.select = there
 
 
+class Wrapped:
+    """A socket as some other package has it, as eventlet: each has its methods, and not their class."""
+
+    def __init__(self, *kind):
+        self.below = socket.socket(*kind)
+
+    def __getattr__(self, name):
+        return getattr(self.below, name)
+
+
+def ends_what_is_wrapped(_):
+    """Whether a server's end is told as such by sockets of another package. (Others that connect meanwhile have them, too.)"""
+    there, bolt.session.socket = bolt.session.socket, types.SimpleNamespace(**{**vars(socket), "socket": Wrapped})
+    try:
+        with odd_servers.Server([(odd_servers.V51, odd_servers.told(*[odd_servers.DONE] * 2))]) as server:
+            with bolt.Session("127.0.0.1", server.port, USER) as connection:
+                return str(raised(connection.begin)) == f"BEGIN: LOST ({bolt.GONE})"
+    finally:
+        bolt.session.socket = there
+
+
 def tells_what_went(_):
     """Whether of a pipeline that a server takes no more of, what no byte of has gone out is told as lost, and what stands before it as unknown."""
     def takes_some():

@@ -72,8 +72,11 @@ class Session(Core):
         try:
             # (a call of another thread that waits hears the end by this)
             if self._socket and self._amid and self._is_ours():
-                # (of TLS too what goes below it: else what that call still sends would go out as it is)
-                socket.socket.shutdown(self._socket, socket.SHUT_RDWR)
+                if isinstance(self._socket, ssl.SSLSocket):
+                    # (what goes below TLS: else what that call still sends would go out as it is)
+                    super(ssl.SSLSocket, self._socket).shutdown(socket.SHUT_RDWR)
+                else:
+                    self._socket.shutdown(socket.SHUT_RDWR)
         except OSError as why:
             own(why)
         try:
