@@ -6,6 +6,8 @@
 mod answers;
 mod asking;
 mod batches;
+#[cfg(test)]
+mod calls_tests;
 mod codec;
 mod growth;
 mod link;

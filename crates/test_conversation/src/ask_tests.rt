@@ -7,7 +7,7 @@ use client::{Client, Outcome};
 use machine::Phase;
 use std::alloc::Global;
 use std::test::*;
-use streams::StreamFault;
+use streams::{History, StreamFault};
 use wire::{Version, Wish};
 
 /// The answer to an offer, and SUCCESS in one chunk.
@@ -199,6 +199,8 @@ fn asks(alloc: Global, client: &mut Client, case: &Case) -> bool {
         step: case.step,
         reads: case.reads,
         failed: false,
+        ended: false,
+        moved: History::new(),
     };
     let mut sink = Drip {
         bytes: Vec::new(alloc),

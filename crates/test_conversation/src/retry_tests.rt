@@ -7,7 +7,7 @@ use engine::Engine;
 use messages::{Request, Response};
 use std::alloc::Global;
 use std::test::*;
-use streams::{Buffer, Sink, Source};
+use streams::{Buffer, History, Sink, Source};
 use wire::{Version, Wish};
 
 /// What is known of a transaction under a token.
@@ -285,5 +285,7 @@ fn trickle(bytes: &[u8]) -> Trickle<'_> {
         step: 1,
         reads: MANY,
         failed: false,
+        ended: false,
+        moved: History::new(),
     }
 }

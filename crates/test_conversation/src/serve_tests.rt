@@ -3,7 +3,7 @@ use crate::streams_of::{Drip, MANY, Trickle, served};
 use server::Cause;
 use std::alloc::Global;
 use std::test::Fail;
-use streams::StreamFault;
+use streams::{History, StreamFault};
 
 /// A handshake for 4.4 and a HELLO that logs on, RUN of ROWS with three rows, and PULL of all.
 const TALK: &[u8] = &[
@@ -52,6 +52,8 @@ fn is_served(
         step: 5,
         reads,
         failed: false,
+        ended: false,
+        moved: History::new(),
     };
     let mut sink = Drip {
         bytes: Vec::new(alloc),
@@ -93,6 +95,8 @@ fn writes_a_result_at_once(rt: HostRuntime) -> Result<(), Fail> {
         step: MANY,
         reads: MANY,
         failed: false,
+        ended: false,
+        moved: History::new(),
     };
     let mut sink = Drip {
         bytes: Vec::new(rt.alloc()),

@@ -8,7 +8,7 @@ use client::Losses;
 use server::{Cause, Worked};
 use std::alloc::Global;
 use std::test::Fail;
-use streams::StreamFault;
+use streams::{History, StreamFault};
 
 /// What is asked, what is answered, and where in the answer each summary begins that commits.
 #[derive(Drop)]
@@ -97,6 +97,8 @@ fn streams_of(alloc: Global, bytes: &[u8], reads: usize, writes: usize) -> (Tric
         step: 5,
         reads,
         failed: false,
+        ended: false,
+        moved: History::new(),
     };
     let sink = Drip {
         bytes: Vec::new(alloc),

@@ -9,7 +9,7 @@ use server::{Cause, Server};
 use serves::serve_one;
 use std::alloc::Global;
 use std::test::Fail;
-use streams::{Failed, Sink, Source, StreamFault};
+use streams::{Failed, History, Sink, Source, StreamFault};
 
 /// A server over an empty table and the gate of `user` with `pass`.
 pub type Table = Server<FixedTable, OneUser>;
@@ -24,12 +24,18 @@ pub struct Trickle<'a> {
     pub step: usize,
     pub reads: usize,
     pub failed: bool,
+    pub ended: bool,
+    pub moved: History,
 }
 
 impl Source for Trickle<'_> {
     ghost use Rattle.std.specs.Prelude.{None};
 
     ghost left = { λ _. None };
+
+    ghost given = { λ s. s.moved.bytes };
+
+    ghost has_ended = { λ s. s.ended };
 
     ghost has_failed = { λ s. s.failed };
 
@@ -45,6 +51,8 @@ impl Source for Trickle<'_> {
         let (front, after) = self.rest.split_at(n);
         buffer[..n].copy_from_slice(front);
         self.rest = after;
+        self.ended = n == 0;
+        self.moved.add(front);
         Ok(n)
     }
 }
@@ -63,6 +71,8 @@ impl Sink for Drip {
     ghost use Rattle.std.specs.Prelude.{None};
 
     ghost taken = { λ _. None };
+
+    ghost put = { λ s. s.bytes.items };
 
     ghost has_failed = { λ s. s.failed };
 

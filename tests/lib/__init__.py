@@ -1,0 +1,1 @@
+"""Helpers of the tests: built programs, servers, proxies, Bolt's bytes."""
