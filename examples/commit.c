@@ -1,6 +1,9 @@
-/* commit ADDRESS PORT VERSION KEY: puts a key in a transaction and reads it there, all of it in one pipeline, and prints the value and what became of each request.
- * VERSION is 44, 50 or 51, or 0 for the newest that the server takes.
- * cc -I include examples/commit.c LIBRARY -o commit, where LIBRARY is the libbolt.a that bench/build_c makes. */
+/* commit ADDRESS PORT VERSION KEY: puts a key in a transaction and reads it there. It prints the value and the outcome
+ * of each request. All requests go out in one pipeline. VERSION is 44, 50 or 51, or 0 for the newest that the server
+ * takes.
+ *
+ *     scripts/build_unproved bolt_c        (or scripts/build_libbolt out/proved, which proves it first)
+ *     cc -I include examples/commit.c out/unproved/libbolt.a -o commit */
 #include "bolt.h"
 #include <arpa/inet.h>
 #include <errno.h>
@@ -30,7 +33,7 @@ static void ask(const char *message, size_t length) {
 }
 #define ASK(text) ask(text, sizeof text - 1)
 
-/* What a signal interrupts is done again, as a wait of a socket that has a time, where the process is stopped and goes on. */
+/* Makes a call again if a signal interrupts it. A stop of the process interrupts its wait at a socket too. */
 #define AGAIN(count, call) do count = call; while (count < 0 && errno == EINTR)
 
 static int send_all(void) {
@@ -45,7 +48,7 @@ static int send_all(void) {
     return 1;
 }
 
-/* Hears answers until none is to come, or none can come, also for want of memory: 0 then. */
+/* Reads answers until none is to come. Returns 0 if the connection ends first, or memory runs out. */
 static int settle(void) {
     uint8_t bytes[4096];
     while (!bolt_state(&client, &now) && now.awaits) {
@@ -60,7 +63,7 @@ static int settle(void) {
     return !now.has_ended;
 }
 
-/* Prints the integers of a request's rows, and says so where memory ran out before the last of them. */
+/* Prints the integers of a request's rows, and says so if memory runs out before the last of them. */
 static void show(uint64_t ordinal) {
     static uint8_t row[BOLT_MESSAGE];
     size_t length = 0;
@@ -72,14 +75,15 @@ static void show(uint64_t ordinal) {
     if (code == BOLT_MEMORY) fprintf(stderr, "out of memory\n");
 }
 
-/* The number of a word, or -1 where it is none from 0 to `most`. */
+/* Returns the number that a word is, or -1 if it is none from 0 to `most`. */
 static long number(const char *word, long most) {
     char *end;
     long it = strtol(word, &end, 10);
     return *word && !*end && it >= 0 && it <= most ? it : -1;
 }
 
-/* A socket that waits for ten seconds at most. A standard stream that was closed has a descriptor that is free, and it isn't taken for that one. */
+/* Returns a socket that waits for ten seconds at most. If a standard stream was closed, its descriptor is free, and the
+ * socket must not get it. */
 static int open_socket(void) {
     struct timeval longest = {.tv_sec = 10};
     int it = socket(AF_INET, SOCK_STREAM, 0), behind = fcntl(it, F_DUPFD, STDERR_FILENO + 1);
@@ -88,7 +92,8 @@ static int open_socket(void) {
     return close(it), behind;
 }
 
-/* A connection to an address, or -1. One that a signal interrupts isn't to be had any more, and is asked for anew. */
+/* Returns a socket that is connected to an address, or -1. After an interrupted connect the socket can't be used, so it
+ * takes a new one. */
 static int connect_to(const struct sockaddr_in *at) {
     for (;;) {
         int it = open_socket();
@@ -105,16 +110,19 @@ int main(int argc, char **argv) {
     char put[64], get[64], tiny = (char)(0x80 + strlen(argv[4]));
     int put_length = snprintf(put, sizeof put, "\xb3\x10\x83PUT\xa2\x83key%c%s\x85value\x01\xa0", tiny, argv[4]);
     int get_length = snprintf(get, sizeof get, "\xb3\x10\x83GET\xa1\x83key%c%s\xa0", tiny, argv[4]);
-    if (inet_pton(AF_INET, argv[1], &at.sin_addr) != 1 || (fd = connect_to(&at)) < 0) return fprintf(stderr, "no server\n"), 2;
+    int is_address = inet_pton(AF_INET, argv[1], &at.sin_addr) == 1;
+    if (!is_address || (fd = connect_to(&at)) < 0) return fprintf(stderr, "no server\n"), 2;
     if (bolt_open(&client, (uint32_t)version, 1000)) stop("no client");
     if (!settle()) stop("no version was taken");
     if (now.version == BOLT_5_1) {
         ASK("\xb1\x01\xa1\x8auser_agent\x88" "commit/1");
         ASK("\xb1\x6a\xa3\x86scheme\x85" "basic\x89principal\x84user\x8b" "credentials\x84pass");
     } else {
-        ASK("\xb1\x01\xa4\x8auser_agent\x88" "commit/1\x86scheme\x85" "basic\x89principal\x84user\x8b" "credentials\x84pass");
+        ASK("\xb1\x01\xa4\x8auser_agent\x88" "commit/1\x86scheme\x85" "basic\x89principal\x84user\x8b"
+            "credentials\x84pass");
     }
-    ASK("\xb1\x11\xa0"), ask(put, (size_t)put_length), ASK("\xb1\x2f\xa1\x81n\xff"), ask(get, (size_t)get_length), ASK("\xb1\x3f\xa1\x81n\xff");
+    ASK("\xb1\x11\xa0"), ask(put, (size_t)put_length), ASK("\xb1\x2f\xa1\x81n\xff");
+    ask(get, (size_t)get_length), ASK("\xb1\x3f\xa1\x81n\xff");
     pull = last.ordinal;
     ASK("\xb0\x12");
     if (!settle()) bolt_lose(&client);

@@ -1,7 +1,9 @@
-"""commit.py ADDRESS PORT KEY: puts a key in a transaction, all of it in one pipeline, and prints what became of each of its requests, and where the connection
-broke, why.
+"""commit.py ADDRESS PORT KEY: puts a key in a transaction, and prints the outcome of each of its requests.
 
-It finds the package in ../python, or where it is installed; bench/build_c makes its libbolt.so, which may lie elsewhere, where BOLT_SO says.
+All requests go out in one pipeline. If the connection breaks, the first line says why.
+
+The package is that of ../python, else the installed one. It loads python/bolt/libbolt.so, which scripts/build_libbolt
+makes, or the library that the variable BOLT_SO names, as out/unproved/libbolt.so.
 """
 import os
 import sys
@@ -20,7 +22,7 @@ def commit(address: str, port: int, key: str) -> list[bolt.Request]:
 
 
 def escaped(text: str) -> str:
-    """A text on one line, whatever a server says in it."""
+    """Returns a server's text on one line: what isn't printable is escaped."""
     return "".join(it if it.isprintable() else ascii(it)[1:-1] for it in text)
 
 
@@ -31,7 +33,7 @@ def main(address: str, port: str, key: str) -> None:
         print(f"the connection broke: {broken.why}")
         requests = broken.requests
     except bolt.Refused as refused:
-        # (a refusal begins with the server's code, which begins no line)
+        # The server chooses the code. After "refused: " it can't look like a line of an outcome.
         print(f"refused: {escaped(str(refused))}")
         requests = refused.requests
     except bolt.NotSent as unsent:

@@ -1,33 +1,37 @@
-"""A driver of Bolt 4.4, 5.0 and 5.1: the proved driver of libbolt.so keeps the protocol and the account, this package has the socket and the values.
+"""A driver of Bolt 4.4, 5.0 and 5.1: the proved driver of libbolt.so keeps the protocol and the account of requests.
 
-    with bolt.connect("127.0.0.1", 7687, auth=("user", "pass")) as connection:
+    connect = lambda: bolt.connect("127.0.0.1", 7687, auth=("user", "pass"))
+    with connect() as connection:
         for record in connection.run("ROWS", n=3): print(record["i"])
 
-    known = bolt.until_known(lambda: bolt.connect("127.0.0.1", 7687, auth=("user", "pass")), lambda tx: tx.run("PUT", key="a", value=1))
+    known = bolt.until_known(connect, lambda tx: tx.run("PUT", key="a", value=1))
     assert known.stands
 
-If a connection breaks, `Broken` tells what became of each request that was asked since the last time all was settled: what it was told, else LOST
-(the server can't have committed by it) or UNKNOWN (it may have). Under a token a transaction may be sent again until it is known.
+If a connection breaks, `Broken` has the outcome of each request that was asked since all were settled. If no answer
+came, that is LOST (the server can't have committed by it) or UNKNOWN (it may have). Under a token a transaction may be
+sent again until its fate is known, to a server that keeps tokens.
 
-An exception from elsewhere in the midst of a call, as KeyboardInterrupt or that of a signal handler, ends the connection, and `session.requests` has what
-became of each request; one that comes between two calls changes nothing. Once the connection is closed each has its outcome.
+An exception from elsewhere during a call, as KeyboardInterrupt or that of a signal's handler, ends the connection, and
+`session.requests` has the outcome of each request. Between two calls it changes nothing.
 
 `bolt.aio` has the calls for asyncio.
 """
 from .connection import Connection, Deferred, Pipeline, Result, Transaction, connect
-from .errors import (BAD_ANSWER, CLOSED_HERE, COMMITTED, DONE, FAILED, GONE, IGNORED, INTERRUPTED, LOST, NO_MEMORY, NO_VERSION, NOT_BOLT, OUTCOMES, REFUSED, TIMED_OUT, UNKNOWN,
-                     UNREACHED, BoltError, Broken, NotSent, Refused, Request)
+from .errors import (BAD_ANSWER, CLOSED_HERE, COMMITTED, DONE, FAILED, GONE, IGNORED, INTERRUPTED, LOST, NO_MEMORY,
+                     NO_VERSION, NOT_BOLT, OUTCOMES, REFUSED, TIMED_OUT, TOO_LARGE, UNKNOWN, UNREACHED, BoltError,
+                     Broken, NotSent, Refused, Request)
 from .results import Record, Summary
 from .retry import ABSENT, CLASH, OPEN, STANDS, Known, until_known
 from .session import Session
-from .values import (Date, DateTime, Duration, LocalDateTime, LocalTime, Node, Path, Point2D, Point3D, Relationship, Structure, Time, UnboundRelationship,
-                     ZonedLocal, ZonedUtc, pack, unpack)
+from .values import (Date, DateTime, Duration, LocalDateTime, LocalTime, Node, Path, Point2D, Point3D, Relationship,
+                     Structure, Time, UnboundRelationship, ZonedLocal, ZonedUtc, pack, unpack)
 from .versions import NEWEST, V4_4, V5_0, V5_1
 
 __version__ = "1.0"
-__all__ = ["connect", "Connection", "Transaction", "Pipeline", "Deferred", "Result", "Record", "Summary", "until_known", "Known",
-           "STANDS", "CLASH", "OPEN", "ABSENT", "Session", "Request", "BoltError", "NotSent", "Refused", "Broken", "NEWEST", "V4_4", "V5_0", "V5_1",
-           "OUTCOMES", "DONE", "COMMITTED", "REFUSED", "IGNORED", "LOST", "UNKNOWN",
-           "NO_VERSION", "NOT_BOLT", "TIMED_OUT", "GONE", "FAILED", "UNREACHED", "BAD_ANSWER", "NO_MEMORY", "INTERRUPTED", "CLOSED_HERE",
-           "Structure", "Node", "Relationship", "UnboundRelationship", "Path", "Date", "Time", "LocalTime", "LocalDateTime", "DateTime", "ZonedLocal", "ZonedUtc",
-           "Duration", "Point2D", "Point3D", "pack", "unpack"]
+__all__ = ["connect", "Connection", "Transaction", "Pipeline", "Deferred", "Result", "Record", "Summary", "until_known",
+           "Known", "STANDS", "CLASH", "OPEN", "ABSENT", "Session", "Request", "BoltError", "NotSent", "Refused",
+           "Broken", "NEWEST", "V4_4", "V5_0", "V5_1", "OUTCOMES", "DONE", "COMMITTED", "REFUSED", "IGNORED", "LOST",
+           "UNKNOWN", "NO_VERSION", "NOT_BOLT", "TIMED_OUT", "GONE", "FAILED", "UNREACHED", "BAD_ANSWER", "TOO_LARGE",
+           "NO_MEMORY", "INTERRUPTED", "CLOSED_HERE", "Structure", "Node", "Relationship", "UnboundRelationship",
+           "Path", "Date", "Time", "LocalTime", "LocalDateTime", "DateTime", "ZonedLocal", "ZonedUtc", "Duration",
+           "Point2D", "Point3D", "pack", "unpack"]

@@ -3,34 +3,36 @@
     async with await aio.connect("127.0.0.1", 7687, auth=("user", "pass")) as connection:
         async for record in await connection.run("ROWS", n=3): print(record["i"])
 
-A cancellation in the midst of a call is as an interrupt: it ends the connection, and `session.requests` has what became of each request. One task at a time has
-a connection.
+A cancellation during a call is as an interrupt: it ends the connection, and `session.requests` has what became of each
+request. One task at a time has a connection.
 """
 from __future__ import annotations
 
 import asyncio
 import contextlib
 import ssl
-from typing import Any, AsyncIterator, Awaitable, Callable, Iterator, Optional, Union
+from typing import Any, AsyncIterator, Awaitable, Callable, Coroutine, Iterator, Optional, Type, Union
 
-from .core import Answer, Core, Stepped, Steps, basic, calls, context_of, host_of, is_from_elsewhere, login_of, own, port_of
-from .errors import CLOSED_HERE, INTERRUPTED, TIMED_OUT, UNREACHED, BoltError, Broken, NotSent, Request
+from .core import (Answer, Core, Stepped, Steps, basic, calls, context_of, host_of, is_from_elsewhere, login_of, own,
+                   port_of)
+from .errors import CLOSED_HERE, INTERRUPTED, TIMED_OUT, BoltError, NotSent, Request, unreached
 from .library import MESSAGE, NOT_ALLOWED
 from .queries import Pipeline, Queries, Transacting
 from .results import Pulled, Record, Summary, by_name, by_place, only
-from .retry import Known, Tries, pause
+from .retry import Known, Tries, eager, pause
 from .versions import NEWEST
 
 
 class AsyncSession(Core):
-    """A session of a server over streams of asyncio. Requests are asked, and go out as one pipeline when they are settled."""
+    """A session of a server over streams of asyncio: requests are asked, and go out as one pipeline."""
 
     _reader: Optional[asyncio.StreamReader] = None
     _writer: Optional[asyncio.StreamWriter] = None
     _loop: Optional[asyncio.AbstractEventLoop] = None
     _is_late = False
 
-    async def _open_at(self, host: str, port: int, tls: Optional[ssl.SSLContext], agent: str, login: dict[str, str]) -> None:
+    async def _open_at(self, host: str, port: int, tls: Optional[ssl.SSLContext], agent: str,
+                       login: dict[str, str]) -> None:
         try:
             await self._connect(host, port, tls)
             await self._do(self._opening(agent, login), self._until)
@@ -41,15 +43,21 @@ class AsyncSession(Core):
     async def _connect(self, host: str, port: int, tls: Optional[ssl.SSLContext]) -> None:
         self._loop = asyncio.get_running_loop()
         calls(self._loop, tls)
-        opening = asyncio.ensure_future(asyncio.open_connection(host, port, limit=MESSAGE, ssl=tls, server_hostname=host if tls else None))
+        name = host if tls else None
+        connecting = asyncio.open_connection(host, port, limit=MESSAGE, ssl=tls, server_hostname=name)
+        opening = asyncio.ensure_future(connecting)
         opening.add_done_callback(self._connected)
         try:
-            # (unlike wait_for, this can't take a cancellation for an answer)
+            # Unlike wait_for, this can't take a cancellation for an answer.
             await asyncio.wait({opening}, timeout=self._left())
         finally:
             opening.cancel()
         if not self._writer:
-            raise (not opening.cancelled() and opening.done() and opening.exception()) or TimeoutError(TIMED_OUT)
+            failed = not opening.cancelled() and opening.done() and opening.exception() or TimeoutError(TIMED_OUT)
+            if not isinstance(failed, OSError):
+                raise failed
+            failed = own(failed)
+            raise unreached(failed) from failed
 
     def _connected(self, opening: asyncio.Future[tuple[asyncio.StreamReader, asyncio.StreamWriter]]) -> None:
         if not opening.cancelled() and not opening.exception():
@@ -58,16 +66,18 @@ class AsyncSession(Core):
                 self._shut()
 
     def _is_of_loop(self) -> bool:
-        """Whether the loop that runs is that of the connection. In another what is sent would go out, and no answer could be awaited."""
-        # (a process that was forked has none that runs)
+        """Returns true if the loop that runs is that of the connection.
+
+        In another loop requests would go out, and no answer could be awaited."""
+        # A process that was forked has no loop that runs.
         return self._is_ours() and asyncio.get_running_loop() is self._loop
 
     def _shut(self) -> None:
-        # (the loop may be closed already)
+        # The loop may be closed already.
         with contextlib.suppress(RuntimeError):
-            # (a process that was forked shares what the loop waits with)
+            # A process that was forked shares what the loop waits with.
             if self._loop and self._writer and self._is_ours():
-                # (another thread's, too: what waits in that hears the end by this)
+                # The loop of another thread sees the end by this, too.
                 is_here, abort = asyncio._get_running_loop() is self._loop, self._writer.transport.abort
                 abort() if is_here else self._loop.call_soon_threadsafe(abort)
 
@@ -77,7 +87,7 @@ class AsyncSession(Core):
 
     @contextlib.contextmanager
     def _in_time(self) -> Iterator[None]:
-        """At the end of the call's time the socket is closed, and what has come till then is still heard."""
+        """Closes the socket at the end of the call's time. What has come until then is still read."""
         left, self._is_late = self._left(), False
         timer = None if left is None else asyncio.get_running_loop().call_later(left, self._give_up)
         try:
@@ -87,24 +97,28 @@ class AsyncSession(Core):
                 timer.cancel()
 
     def _send(self) -> None:
-        """Hands on what waits, which goes out while answers are heard: what comes while nobody waits for it is forgotten where the connection is reset."""
+        """Hands on what waits. It goes out while answers are read.
+
+        If the connection is reset, what came while nobody waited for it is forgotten."""
         assert self._writer
-        # (what is handed to a transport that closes is dropped, or refused)
+        # A transport that closes drops what it is handed, or refuses it.
         while not self._cut and not self._writer.transport.is_closing() and (piece := self._open.unsent()):
+            if self._is_late or self._left() == 0:
+                self._cut = TimeoutError(TIMED_OUT)
+                return
+            self._open.goes(len(piece))
+            # This is looked at after `goes`: no other thread may report bytes as lost that go out.
+            if self._why:
+                return
             try:
-                if self._is_late or self._left() == 0:
-                    raise TimeoutError(TIMED_OUT)
-                self._open.goes(len(piece))
-                # (asked behind that, so that of what goes out nobody is told by another thread that it is lost)
-                if self._why:
-                    return
                 self._writer.write(piece)
-                self._open.sent(len(piece))
             except OSError as why:
                 self._cut = self._failed(why)
+                return
+            self._open.sent(len(piece))
 
     async def _receive(self) -> bytes:
-        """The next bytes of the server, none where no more come."""
+        """Returns the next bytes of the server, none if no more come."""
         try:
             assert self._reader
             piece = await self._reader.read(MESSAGE)
@@ -132,8 +146,9 @@ class AsyncSession(Core):
             return call.answer
 
     async def _do(self, steps: Steps[Answer], until: Optional[float]) -> Answer:
-        """Does a call step by step, which has to be done by then; where that is broken off, as by a cancellation, the client ends. Where that is broken
-        off too, nobody has it any more."""
+        """Does a call step by step. It has to be done by then.
+
+        If it is broken off, as by a cancellation, the client ends. If that is broken off too, no call can begin."""
         mine = object()
         try:
             self._begin(mine)
@@ -152,19 +167,29 @@ class AsyncSession(Core):
         return await self._do(steps, self._by())
 
     async def settle(self) -> list[Request]:
-        """Sends what was asked and hears all answers, and answers the requests asked since all was settled. The first FAILURE is raised, after a
-        RESET where the session still ignores what it is asked."""
+        """Sends what was asked, reads all answers, and returns the requests asked since all were settled.
+
+        The first FAILURE is raised, after a RESET if the session still ignores requests."""
         return await self._call(self._settling())
 
+    async def _closed(self, writer: asyncio.StreamWriter) -> None:
+        """Closes the socket after what was sent. If that fails, the answers that came before are known all the same."""
+        try:
+            writer.close()
+            await writer.wait_closed()
+        except OSError as why:
+            own(why)
+
     async def close(self) -> None:
-        """Says goodbye where nothing waits, and frees the client. What was asked and isn't settled isn't sent any more. A second close does nothing."""
+        """Says goodbye if nothing waits, and frees the client. A second close does nothing.
+
+        What was asked and isn't settled isn't sent any more."""
         try:
             self._until = self._by()
             if self._writer and self._is_of_loop() and self._says_goodbye():
                 with self._in_time():
                     self._send()
-                    self._writer.close()
-                    await self._writer.wait_closed()
+                    await self._closed(self._writer)
         except (NotSent, OSError) as why:
             if is_from_elsewhere(why):
                 raise
@@ -173,8 +198,9 @@ class AsyncSession(Core):
 
 
 class AsyncResult(Pulled):
-    """The records of a query, pulled from the server as they are read, so many at once as `AsyncConnection.fetch` says. What is left of them is pulled
-    when something else is asked of the connection, and kept."""
+    """The records of a query, pulled from the server as they are read, so many at once as `AsyncConnection.fetch` says.
+
+    The rest of them is pulled when something else is asked of the connection, and kept."""
 
     _session: AsyncSession
 
@@ -190,32 +216,32 @@ class AsyncResult(Pulled):
         return self._next()
 
     async def _rest(self, of: Callable[[list[Record]], Answer]) -> Answer:
-        """What is made of the records that weren't read yet, all in the time of one call."""
+        """Returns what is made of the records that weren't read yet, all in the time of one call."""
         until = self._session._by()
         while not self._is_whole and await self._session._do(self._ahead(), until):
             pass
         return self._unread(of)
 
     async def data(self) -> list[dict[str, Any]]:
-        """The records that weren't read yet, each by name."""
+        """Returns the records that weren't read yet, each by name."""
         return await self._rest(by_name)
 
     async def values(self) -> list[list[Any]]:
-        """The records that weren't read yet, each as a list."""
+        """Returns the records that weren't read yet, each as a list."""
         return await self._rest(by_place)
 
     async def single(self) -> Record:
-        """The only record; ValueError if there are none or several."""
+        """Returns the only record. It is a ValueError if there are none or several."""
         return await self._rest(only)
 
     async def consume(self) -> Summary:
-        """Passes over what is left, and tells how the result ended."""
+        """Passes over what is left, and returns how the result ended."""
         found = await self.summary()
         self._read = len(self._rows)
         return found
 
     async def summary(self) -> Summary:
-        """How the result ended; what is left of it is pulled first, and kept."""
+        """How the result ended. What is left of it is pulled first, and kept."""
         if not self._is_whole:
             await self._session._call(self._finish())
         return self._summary()
@@ -226,13 +252,20 @@ class AsyncTransaction(Transacting):
 
     _connection: AsyncConnection
 
-    async def run(self, text: str, /, **parameters: Any) -> AsyncResult:
-        """Runs a query in the transaction."""
+    def run(self, text: str, /, **parameters: Any) -> Coroutine[Any, Any, AsyncResult]:
+        """Runs a query in the transaction, once it is awaited."""
+        self._begun.unawaited += 1
+        return self._run(text, parameters)
+
+    async def _run(self, text: str, parameters: dict[str, Any]) -> AsyncResult:
+        self._begun.unawaited -= 1
         found: AsyncResult = await self._connection.session._call(self._running(text, parameters))
         return found
 
     async def commit(self) -> None:
-        """Commits. `Broken` tells by its `outcome` whether that can have been done; `Refused` says that nothing was committed."""
+        """Commits. The `outcome` of `Broken` says if that may have been done.
+
+        `Refused` says that nothing was committed, if the server keeps tokens. Another may have committed."""
         await self._connection.session._call(self._committing())
 
     async def rollback(self) -> None:
@@ -242,23 +275,39 @@ class AsyncTransaction(Transacting):
 class AsyncConnection(Queries[AsyncSession, AsyncResult]):
     """A connection. `timeout` bounds each call as a whole, in seconds; `fetch` is how many records are pulled at once.
 
-    `session` is what stands below: requests that are asked and settled, and what became of each."""
+    `session` is below it: single requests, and what became of each."""
 
     _results = AsyncResult
 
     async def __aenter__(self) -> AsyncConnection:
         return self
 
-    async def __aexit__(self, *_: object) -> None:
-        await self.close()
+    async def __aexit__(self, kind: Optional[Type[BaseException]], *_: object) -> None:
+        await self._close(finishes=kind is None)
 
     async def close(self) -> None:
-        """Says goodbye, and frees what is held. A second close does nothing."""
-        self._open_result = None
-        await self.session.close()
+        """Says goodbye, and frees what is held. A second close does nothing.
+
+        If the result of `run` wasn't read to its end, the server first passes over the rest, which commits it."""
+        await self._close(finishes=True)
+
+    async def _close(self, finishes: bool) -> None:
+        left = self._unread()
+        try:
+            if left and finishes:
+                await self.session._call(left._discarding())
+        except BoltError as why:
+            if is_from_elsewhere(why):
+                raise
+        finally:
+            try:
+                await self.session.close()
+            finally:
+                if left:
+                    left._lose()
 
     async def run(self, text: str, /, **parameters: Any) -> AsyncResult:
-        """Runs a query of its own, which is committed with its last record."""
+        """Runs a query of its own. It is committed with its last record."""
         return await self.session._call(self._own(text, parameters))
 
     async def read(self, text: str, /, **parameters: Any) -> AsyncResult:
@@ -267,7 +316,9 @@ class AsyncConnection(Queries[AsyncSession, AsyncResult]):
 
     @contextlib.asynccontextmanager
     async def transaction(self, write: bool = True, token: Optional[str] = None) -> AsyncIterator[AsyncTransaction]:
-        """A transaction, under the token if there is one. It is committed when the block ends, and rolled back when an exception ends it."""
+        """A transaction, under the token if there is one.
+
+        It is committed when the block ends, and rolled back when an exception ends it."""
         found = AsyncTransaction(self, token)
         try:
             try:
@@ -280,13 +331,13 @@ class AsyncConnection(Queries[AsyncSession, AsyncResult]):
                     await self._drop(found)
                 raise
         except BaseException:
-            # (another came as that left the block)
+            # Another exception came as that one left the block.
             if found.is_open:
                 self.session._end(INTERRUPTED)
             raise
 
     async def _drop(self, found: AsyncTransaction) -> None:
-        """Ends whatever is open: by a RESET, or with the connection where that can't be."""
+        """Ends what is open: by a RESET, or with the connection if that can't be."""
         try:
             if not found._is_followed:
                 await self.reset()
@@ -298,8 +349,9 @@ class AsyncConnection(Queries[AsyncSession, AsyncResult]):
 
     @contextlib.asynccontextmanager
     async def pipeline(self) -> AsyncIterator[Pipeline[AsyncResult]]:
-        """Requests that go out at once when the block ends, before an answer is read. An exception in the block closes the connection, and none goes
-        out."""
+        """Requests that go out at once when the block ends, before an answer is read.
+
+        An exception in the block closes the connection, and none of them goes out."""
         found = Pipeline(self)
         await self.session._call(self._piping(found))
         try:
@@ -313,38 +365,43 @@ class AsyncConnection(Queries[AsyncSession, AsyncResult]):
         found._fill()
 
     async def reset(self) -> None:
-        """Ends whatever is open: a result, and a transaction, which is dropped."""
+        """Ends what is open: a result, and a transaction, which is dropped."""
         session = self.session
         await session._call(session._at_once(session._submit, *session._packed("RESET", 0x0F)))
         self._open_result = None
 
 
-async def connect(host: str, port: int = 7687, *, auth: Optional[tuple[str, str]] = None, tls: Union[None, bool, ssl.SSLContext] = None,
-                  timeout: Optional[float] = 10, agent: str = "bolt.py/1", versions: int = NEWEST, fetch: int = 1000) -> AsyncConnection:
+async def connect(host: str, port: int = 7687, *, auth: Optional[tuple[str, str]] = None,
+                  tls: Union[None, bool, ssl.SSLContext] = None, timeout: Optional[float] = 10,
+                  agent: str = "bolt.py/1", versions: int = NEWEST, fetch: int = 1000) -> AsyncConnection:
     """Connects and logs in, as `bolt.connect` does."""
     login, host, port = login_of(basic(auth)), host_of(host), port_of(port)
     context, session = context_of(tls), AsyncSession(versions, timeout)
-    try:
-        await session._open_at(host, port, context, agent, login)
-    except OSError as why:
-        raise Broken([], UNREACHED) from own(why)
+    await session._open_at(host, port, context, agent, login)
     return AsyncConnection(session, fetch)
 
 
-async def until_known(connect: Callable[[], Awaitable[AsyncConnection]], work: Callable[[AsyncTransaction], Awaitable[Any]], token: Optional[str] = None, *,
-                      tries: int = 10, within: Optional[float] = None, pause: Callable[[int], float] = pause) -> Known:
-    """Does the work in a transaction under the token until it is known whether it stands, as `bolt.until_known` does. A cancellation ends all; under
-    its `token` the transaction may be sent again later."""
-    sent = Tries(token, tries, within, pause)
+async def until_known(connect: Callable[[], Awaitable[AsyncConnection]],
+                      work: Callable[[AsyncTransaction], Awaitable[Any]], token: Optional[str] = None, *,
+                      tries: int = 10, within: Optional[float] = None,
+                      pause: Callable[[int], float] = pause, in_doubt: bool = False,
+                      keeps_tokens: Optional[bool] = None) -> Known:
+    """Does the work in a transaction under the token until it is known what became of it, as `bolt.until_known` does.
+
+    A cancellation ends all, and has the `token` and what is `known` so far."""
+    sent = Tries(token, tries, within, pause, in_doubt, keeps_tokens)
     try:
+        sent.begin()
         while (seconds := sent.pause()) is not None:
             await asyncio.sleep(seconds)
             if sent.is_late:
                 break
             with sent.attempt():
-                async with await connect() as connection, connection.transaction(token=sent.token) as found:
-                    sent.found = found
-                    sent.value = await work(found)
+                async with await connect() as connection:
+                    if sent.may_send(connection.keeps_tokens):
+                        async with connection.transaction(token=sent.token) as found:
+                            sent.sends(found)
+                            sent.value = eager(await work(found), found)
             if sent.known:
                 return sent.known
         return sent.over()

@@ -1,10 +1,10 @@
-"""A connection to a server, for who runs queries: results, transactions and pipelines."""
+"""A connection to a server, with results, transactions and pipelines."""
 from __future__ import annotations
 
 import contextlib
 import logging
 import ssl
-from typing import Any, Callable, Iterator, Optional, Union
+from typing import Any, Callable, Iterator, Optional, Type, Union
 
 from .core import Answer, basic, is_from_elsewhere
 from .errors import CLOSED_HERE, INTERRUPTED, BoltError
@@ -17,8 +17,9 @@ LOG = logging.getLogger("bolt")
 
 
 class Result(Pulled):
-    """The records of a query, pulled from the server as they are read, so many at once as `Connection.fetch` says. What is left of them is pulled
-    when something else is asked of the connection, and kept."""
+    """The records of a query, pulled from the server as they are read, so many at once as `Connection.fetch` says.
+
+    The rest of them is pulled when something else is asked of the connection, and kept."""
 
     _session: Session
 
@@ -34,33 +35,33 @@ class Result(Pulled):
         return self._next()
 
     def _rest(self, of: Callable[[list[Record]], Answer]) -> Answer:
-        """What is made of the records that weren't read yet, all in the time of one call."""
+        """Returns what is made of the records that weren't read yet, all in the time of one call."""
         until = self._session._by()
         while not self._is_whole and self._session._do(self._ahead(), until):
             pass
         return self._unread(of)
 
     def data(self) -> list[dict[str, Any]]:
-        """The records that weren't read yet, each by name."""
+        """Returns the records that weren't read yet, each by name."""
         return self._rest(by_name)
 
     def values(self) -> list[list[Any]]:
-        """The records that weren't read yet, each as a list."""
+        """Returns the records that weren't read yet, each as a list."""
         return self._rest(by_place)
 
     def single(self) -> Record:
-        """The only record; ValueError if there are none or several."""
+        """Returns the only record. It is a ValueError if there are none or several."""
         return self._rest(only)
 
     def consume(self) -> Summary:
-        """Passes over what is left, and tells how the result ended."""
+        """Passes over what is left, and returns how the result ended."""
         found = self.summary
         self._read = len(self._rows)
         return found
 
     @property
     def summary(self) -> Summary:
-        """How the result ended; what is left of it is pulled first, and kept."""
+        """How the result ended. What is left of it is pulled first, and kept."""
         if not self._is_whole:
             self._session._call(self._finish())
         return self._summary()
@@ -77,7 +78,9 @@ class Transaction(Transacting):
         return found
 
     def commit(self) -> None:
-        """Commits. `Broken` tells by its `outcome` whether that can have been done; `Refused` says that nothing was committed."""
+        """Commits. The `outcome` of `Broken` says if that may have been done.
+
+        `Refused` says that nothing was committed, if the server keeps tokens. Another may have committed."""
         self._connection.session._call(self._committing())
 
     def rollback(self) -> None:
@@ -87,23 +90,39 @@ class Transaction(Transacting):
 class Connection(Queries[Session, Result]):
     """A connection. `timeout` bounds each call as a whole, in seconds; `fetch` is how many records are pulled at once.
 
-    `session` is what stands below: one request at a time, and what became of each."""
+    `session` is below it: single requests, and what became of each."""
 
     _results = Result
 
     def __enter__(self) -> Connection:
         return self
 
-    def __exit__(self, *_: object) -> None:
-        self.close()
+    def __exit__(self, kind: Optional[Type[BaseException]], *_: object) -> None:
+        self._close(finishes=kind is None)
 
     def close(self) -> None:
-        """Says goodbye, and frees what is held. A second close does nothing."""
-        self._open_result = None
-        self.session.close()
+        """Says goodbye, and frees what is held. A second close does nothing.
+
+        If the result of `run` wasn't read to its end, the server first passes over the rest, which commits it."""
+        self._close(finishes=True)
+
+    def _close(self, finishes: bool) -> None:
+        left = self._unread()
+        try:
+            if left and finishes:
+                self.session._call(left._discarding())
+        except BoltError as why:
+            if is_from_elsewhere(why):
+                raise
+        finally:
+            try:
+                self.session.close()
+            finally:
+                if left:
+                    left._lose()
 
     def run(self, text: str, /, **parameters: Any) -> Result:
-        """Runs a query of its own, which is committed with its last record."""
+        """Runs a query of its own. It is committed with its last record."""
         return self.session._call(self._own(text, parameters))
 
     def read(self, text: str, /, **parameters: Any) -> Result:
@@ -112,7 +131,9 @@ class Connection(Queries[Session, Result]):
 
     @contextlib.contextmanager
     def transaction(self, write: bool = True, token: Optional[str] = None) -> Iterator[Transaction]:
-        """A transaction, under the token if there is one. It is committed when the block ends, and rolled back when an exception ends it."""
+        """A transaction, under the token if there is one.
+
+        It is committed when the block ends, and rolled back when an exception ends it."""
         found = Transaction(self, token)
         try:
             try:
@@ -125,13 +146,13 @@ class Connection(Queries[Session, Result]):
                     self._drop(found)
                 raise
         except BaseException:
-            # (another came as that left the block)
+            # Another exception came as that one left the block.
             if found.is_open:
                 self.session._end(INTERRUPTED)
             raise
 
     def _drop(self, found: Transaction) -> None:
-        """Ends whatever is open: by a RESET, or with the connection where that can't be."""
+        """Ends what is open: by a RESET, or with the connection if that can't be."""
         try:
             if not found._is_followed:
                 self.reset()
@@ -143,8 +164,9 @@ class Connection(Queries[Session, Result]):
 
     @contextlib.contextmanager
     def pipeline(self) -> Iterator[Pipeline[Result]]:
-        """Requests that go out at once when the block ends, before an answer is read. An exception in the block closes the connection, and none goes
-        out."""
+        """Requests that go out at once when the block ends, before an answer is read.
+
+        An exception in the block closes the connection, and none of them goes out."""
         found = Pipeline(self)
         self.session._call(self._piping(found))
         try:
@@ -158,16 +180,17 @@ class Connection(Queries[Session, Result]):
         found._fill()
 
     def reset(self) -> None:
-        """Ends whatever is open: a result, and a transaction, which is dropped."""
+        """Ends what is open: a result, and a transaction, which is dropped."""
         self.session.reset()
         self._open_result = None
 
 
-def connect(host: str, port: int = 7687, *, auth: Optional[tuple[str, str]] = None, tls: Union[None, bool, ssl.SSLContext] = None,
-            timeout: Optional[float] = 10, agent: str = "bolt.py/1", versions: int = NEWEST, fetch: int = 1000) -> Connection:
-    """Connects and logs in: `auth` is a name and a password. `tls` is True, for the system's certificates, or a context of `ssl`.
+def connect(host: str, port: int = 7687, *, auth: Optional[tuple[str, str]] = None,
+            tls: Union[None, bool, ssl.SSLContext] = None, timeout: Optional[float] = 10,
+            agent: str = "bolt.py/1", versions: int = NEWEST, fetch: int = 1000) -> Connection:
+    """Connects and logs in. `auth` is a name and a password. `tls` is True, or a context of `ssl`.
 
-    `Broken` if the server can't be reached, isn't one of Bolt, or goes away; `Refused` if it doesn't take the login."""
+    It raises `Broken` if the server can't be reached, isn't one of Bolt, or goes away, `Refused` if the login is."""
     login = basic(auth)
     try:
         session = Session(host, port, login, agent, versions, timeout, tls)

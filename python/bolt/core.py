@@ -1,10 +1,12 @@
-"""A session without a socket: requests are asked, and what has to be exchanged until they are settled is told step by step. The proved driver of libbolt.so
-keeps the protocol and the account; `session` and `aio` have the sockets."""
+"""A session without a socket: requests are asked, and each call says step by step what is to be exchanged.
+
+The proved driver of libbolt.so keeps the protocol and the account. `session` and `aio` have the sockets."""
 from __future__ import annotations
 
 import functools
 import operator
 import os
+import signal
 import socket
 import ssl
 import time
@@ -12,52 +14,79 @@ import traceback
 import warnings
 from typing import Any, Callable, Generator, Generic, Iterator, NoReturn, Optional, TypeVar, Union
 
-from .errors import (BAD_ANSWER, CLOSED_HERE, COMMITTED, DONE, ENDED, FAILED, GONE, INTERRUPTED, NO_MEMORY, NO_VERSION, NOT_BOLT, REFUSED, TIMED_OUT,
-                     BoltError, Broken, NotSent, Refused, Request)
-from .library import CLOSED, FULL, LIBRARY, MEMORY, NO_CLIENT, NOT_ALLOWED, OK, PIPELINE, Asked, Client, Standing, check
+from .errors import (BAD_ANSWER, CLOSED_HERE, COMMITTED, DONE, ENDED, FAILED, GONE, INTERRUPTED, NO_MEMORY, NO_VERSION,
+                     NOT_BOLT, REFUSED, TIMED_OUT, TOO_LARGE, BoltError, Broken, NotSent, Refused, Request)
+from .library import (CLOSED, FULL, LARGE, LIBRARY, MEMORY, NO_CLIENT, NOT_ALLOWED, OK, PIPELINE, Asked, Client,
+                      Standing, check)
 from .values import pack_structure
 from .versions import V5_1, VERSIONS
 
-# The most seconds of a time-out: what is longer has no end that anybody sees.
+# The most seconds of a time-out. A longer one counts as this.
 LONGEST = 1e9
 PHASES = ("FRESH", "UNAUTH", "READY", "STREAMING", "TX_READY", "TX_STREAMING", "HALTED", "DEFUNCT")
-GOODBYE, BEGIN, COMMIT, ROLLBACK = 0x02, 0x11, 0x12, 0x13
+GOODBYE, RUN, BEGIN, COMMIT, ROLLBACK, DISCARD = 0x02, 0x10, 0x11, 0x12, 0x13, 0x2F
+# The name of a server that keeps tokens begins so, or this hint in its answer to HELLO is true.
+KEEPS_TOKENS, TOKENS_HINT = "BoltTable/", "bolt.tokens"
+# Why no COMMIT is asked for a work of `until_known`.
+LAZY = ("the work has to run its queries before it returns, and to await them: this one asked none, or it left some to "
+        "a generator, an iterator or a coroutine")
+# Why a connection is given up, by the code of bolt_feed. Any other is a bad answer.
+WHY = {MEMORY: NO_MEMORY, LARGE: TOO_LARGE}
 Answer = TypeVar("Answer")
-# What a call does, step by step: behind each, what waits is to be sent, and a piece of the server's bytes to be heard.
+# A call, step by step. After each step the caller sends what waits, and feeds a piece of the server's bytes.
 Steps = Generator[None, None, Answer]
-# Whose frames an error has that a call of this package meets: its own, and those of what it calls, by modules and what is below them.
+# The modules whose frames an error of this package may have: its own, and those that it calls, with what is below them.
 CALLED = {__name__.rpartition(".")[0], "asyncio", "concurrent", "contextlib", "socket", "ssl"}
 
 
 def calls(*called: object) -> None:
-    """Counts the package of sockets among what is called, which may be another, as gevent, and the modules of the classes of a loop, as that of uvloop, and of a context
-    of TLS: not their packages, which may be that of who calls, and of a signal's handler."""
-    CALLED.update({socket.socket.__module__.partition(".")[0], *(kind.__module__ for it in called for kind in type(it).__mro__)} - {"__main__"})
+    """Counts the package of sockets among what is called, which may be another, as gevent.
+
+    So are the modules of a loop's classes, as that of uvloop, and of a context of TLS. Their packages aren't:
+    the caller, or the handler of a signal, may be in the same package."""
+    kinds = {kind.__module__ for it in called for kind in type(it).__mro__}
+    CALLED.update({socket.socket.__module__.partition(".")[0], *kinds} - {"__main__"})
 
 
 def is_called(module: str) -> bool:
-    """Whether a module, or one that it is below, is among what is called."""
+    """Returns true if a module, or one that it is below, is among what is called."""
     parts = module.split(".")
     return any(".".join(parts[:it]) in CALLED for it in range(1, len(parts) + 1))
 
 
 def is_from_elsewhere(why: BaseException) -> bool:
-    """Whether what is raised in the midst of a call comes from elsewhere, as from the handler of a signal, which has frames of its own."""
-    # (by modules: what a file was called where it was compiled needn't be what it is called here)
+    """Returns true if an exception comes from elsewhere, as from the handler of a signal. It has frames of its own."""
+    # It goes by modules: a file may have had another name when it was compiled.
     return not all(is_called(str(frame.f_globals.get("__name__"))) for frame, _ in traceback.walk_tb(why.__traceback__))
 
 
+def is_of_handler(why: BaseException) -> bool:
+    """Returns true if the handler of a signal raised this."""
+    handlers = [getattr(it, "func", it) for it in map(signal.getsignal, signal.valid_signals())]
+    codes = [getattr(it, "__code__", getattr(type(it).__call__, "__code__", None)) for it in handlers if callable(it)]
+    return any(frame.f_code in codes for frame, _ in traceback.walk_tb(why.__traceback__))
+
+
 def own(failed: OSError) -> OSError:
-    """The error of a socket's call, without its frames. One that comes from elsewhere is raised."""
-    # (what a context of TLS or a look-up of names calls may be another's)
-    if not isinstance(failed, (ssl.SSLError, socket.gaierror)) and is_from_elsewhere(failed):
+    """Returns the error that a call of a socket raised, without its frames, whatever package the socket is of.
+
+    An error that the handler of a signal raised during the call isn't the socket's. It is raised as it is."""
+    if is_of_handler(failed):
         raise failed
-    # (a time out has a class of its own before Python 3.10)
+    # Before Python 3.10 a time-out has its own class.
     return TimeoutError(*failed.args) if isinstance(failed, socket.timeout) else failed.with_traceback(None)
 
 
+def tried(call: Callable[..., Answer], *words: Any) -> Union[Answer, OSError]:
+    """Returns what a call of the system returns, or the error that it raises."""
+    try:
+        return call(*words)
+    except OSError as why:
+        return own(why)
+
+
 class Stepped(Generic[Answer]):
-    """A call, step by step, and its answer behind the last."""
+    """A call, step by step, and after the last step what it returns."""
 
     answer: Answer
 
@@ -68,39 +97,57 @@ class Stepped(Generic[Answer]):
         self.answer = yield from self._steps
 
 
+def keeps_tokens(hello: dict[str, Any]) -> bool:
+    """Returns true if a server says, by its name or a hint in its answer to HELLO, that it keeps tokens."""
+    name, hints = hello.get("server"), hello.get("hints")
+    by_name = isinstance(name, str) and name.startswith(KEEPS_TOKENS)
+    return by_name or isinstance(hints, dict) and hints.get(TOKENS_HINT) is True
+
+
 class Begun:
-    """A transaction that was asked for, the COMMIT or ROLLBACK of it, if one was asked, and whether it has a block."""
+    """A transaction that was asked for, its COMMIT or ROLLBACK if one was asked, and whether it has a block."""
 
     end: Optional[Request] = None
+    is_commit = False  # whether its end is a COMMIT
     has_block = False
+    queries = 0  # how many were asked in it
+    unawaited = 0  # how many calls of asyncio for a query weren't awaited so far
+    has_to_ask = False  # whether a COMMIT without a query is a mistake of the caller
+
+    @property
+    def is_unasked(self) -> bool:
+        """True if no query was asked in it so far, or if one waits to be awaited."""
+        return self.queries == 0 or self.unawaited > 0
 
     @property
     def outcome(self) -> Optional[str]:
-        """What became of its COMMIT or ROLLBACK; None as long as that isn't known, or neither was asked."""
+        """The outcome of its COMMIT or ROLLBACK. None if that isn't known, or neither was asked."""
         return self.end.outcome if self.end else None
 
     @property
     def is_open(self) -> bool:
-        """Whether its block has to end it. A pipeline in the block may have."""
+        """True if its block has to end it. A pipeline in the block may have ended it already."""
         return self.has_block and self.outcome not in (COMMITTED, DONE)
 
 
 def extra(write: bool, token: Optional[str]) -> dict[str, Any]:
-    """The entries of a BEGIN or a RUN beside its text: the mode where that is to read, and the token where there is one."""
+    """Returns the entries of a BEGIN or a RUN beside its text: the mode if it reads, and the token if there is one."""
     if not isinstance(write, bool):
         raise TypeError("write is True or False")
     return {**({} if write else {"mode": "r"}), **({} if token is None else {"tx_metadata": {"token": token}})}
 
 
 def fault_of(code: int, asked: Asked) -> NotSent:
-    """The fault of a request: which rule of the message was broken, and where."""
+    """Returns the fault of a request: the rule of the message that is broken, and its place."""
     rule = asked.rule.to_bytes(2, "big").decode() if asked.rule else ""
     return NotSent(code, rule, asked.place if rule[:1] in ("P", "S") else None)
 
 
 def ends(call: Callable[..., Answer]) -> Callable[..., Answer]:
-    """A call that has the client alone, and ends it where it is broken off, as by an interrupt: bytes are gone then, and no answer may be taken for another's.
-    Where that is broken off too, no call goes on, so that nothing is sent twice."""
+    """Makes a call that has the client alone, and that ends the client if it is broken off, as by an interrupt.
+
+    Bytes are gone then, and no answer may be taken for that of another request. If the end is broken off too, no other
+    call can begin: nothing is sent twice."""
     @functools.wraps(call)
     def whole(self: Core, *words: Any) -> Answer:
         mine = object()
@@ -116,31 +163,40 @@ def ends(call: Callable[..., Answer]) -> Callable[..., Answer]:
 
 
 def basic(auth: Optional[tuple[str, str]]) -> tuple[str, str, str]:
-    """The login by a name and a password, and that of nobody."""
+    """Returns the login by a name and a password, and that of nobody."""
     if auth is None:
         return "none", "", ""
-    # (two letters of a text are neither)
+    # A text of two letters isn't a name and a password.
     if not isinstance(auth, (tuple, list)):
         raise TypeError("auth is a name and a password")
     return ("basic", *auth)
 
 
 def login_of(auth: tuple[str, ...]) -> dict[str, str]:
-    """What a client logs in by: the scheme, the principal and the credentials."""
+    """Returns the words of a login: the scheme, the principal and the credentials."""
     if not isinstance(auth, (tuple, list)) or len(auth) != 3:
         raise ValueError("auth is the scheme, the principal and the credentials")
     return dict(zip(("scheme", "principal", "credentials"), auth))
 
 
-def host_of(host: str) -> str:
-    """A host, by its name or its address. Of None the system would make this machine."""
+def host_of(host: Any) -> Any:
+    """Returns a host, which is a name or an address. A URI, or a host with its port, is refused with what to write."""
+    # The system would take None for this machine.
     if not isinstance(host, (str, bytes)):
         raise TypeError("a host is a text")
+    text = host.decode("ascii", "replace") if isinstance(host, bytes) else host
+    address, colon, port = text.rpartition("://")[2].rstrip("/").rpartition(":")
+    # An address of IPv6 has several colons. With a port it is in brackets.
+    has_port = bool(colon) and port.isdigit() and (":" not in address or address.endswith("]"))
+    name = (address if has_port else text.rpartition("://")[2].rstrip("/")).strip("[]")
+    if "://" in text or has_port or text.startswith("["):
+        wanted = f"{name!r}, {int(port) if has_port else 7687}"
+        raise ValueError(f"a host is a name or an address: write {wanted} for {text!r}")
     return host
 
 
 def port_of(port: int) -> int:
-    """A port, as a number or its text, either of which the system would take modulo 65,536."""
+    """Returns a port, from a number or its text. The system would take either modulo 65,536."""
     number = int(port) if isinstance(port, (str, bytes)) else operator.index(port)
     if not 0 <= number < 1 << 16:
         raise ValueError("a port is 0 to 65535")
@@ -148,22 +204,26 @@ def port_of(port: int) -> int:
 
 
 def context_of(tls: Union[None, bool, ssl.SSLContext]) -> Optional[ssl.SSLContext]:
-    """What a connection is encrypted by, None where it isn't."""
+    """Returns what encrypts a connection, None if nothing does."""
     if tls is True:
         return ssl.create_default_context()
-    # (a context of another package needn't be of the class)
+    # A context of another package may have another class.
     if not (tls is None or tls is False or hasattr(tls, "wrap_socket")):
         raise TypeError("tls is True or False, or a context of ssl")
     return tls or None
 
 
 class Core:
-    """A session without its socket. `timeout` is that of each call as a whole, in seconds; None for none. What isn't settled when it has passed is told by
-    `Broken`, and the connection is gone.
+    """A session without its socket.
 
-    `requests` are those asked since all was settled, in order; they stay until the next is asked."""
+    `timeout` bounds each call as a whole, in seconds; None is no bound.
+    If something isn't settled by then, the call raises `Broken` with the outcomes, and the connection is gone.
+
+    `requests` are those asked since all were settled, in order. They stay until the next one is asked."""
 
     _client: Optional[Client] = None
+    server = ""  # the server's name, from its answer to HELLO
+    keeps_tokens = False  # whether that answer says that the server keeps tokens
 
     def __init__(self, versions: int, timeout: Optional[float]) -> None:
         if type(versions) is not int or versions not in VERSIONS:
@@ -173,7 +233,7 @@ class Core:
         self._process = os.getpid()
         self.requests: list[Request] = []
         self._told = 0  # how many of them have what their summary holds
-        self._settled = True  # whether all of them are, and were told
+        self._settled = True  # whether all of them are, and were reported
         self._begun = Begun()  # the transaction that was asked for last
         self._cut: Optional[OSError] = None  # why nothing more is sent
         self._why: Optional[str] = None  # why the client has ended
@@ -186,17 +246,17 @@ class Core:
 
     @timeout.setter
     def timeout(self, seconds: Optional[float]) -> None:
-        # (of what is no number neither holds)
+        # Neither holds of NaN.
         if seconds is not None and not (seconds >= 0 or seconds < 0):
             raise ValueError("a time-out is a number of seconds, or None")
         self._timeout = seconds
 
     def _by(self) -> Optional[float]:
-        """By when a call has to be done that begins now."""
+        """Returns the time by which a call that begins now has to be done."""
         return None if self.timeout is None else time.monotonic() + float(max(0, min(self.timeout, LONGEST)))
 
     def _left(self) -> Optional[float]:
-        """The seconds that are left for the call, None where it has no end."""
+        """Returns the seconds that are left for the call, None if it has no bound."""
         return None if self._until is None else max(0, self._until - time.monotonic())
 
     def __del__(self) -> None:
@@ -204,11 +264,11 @@ class Core:
             try:
                 warnings.warn("a connection was dropped that wasn't closed", ResourceWarning, source=self)
             finally:
-                # (also where warnings are raised)
+                # This is done also if warnings are raised.
                 self._free()
 
     def __reduce__(self) -> NoReturn:
-        # (two of one client would each free it)
+        # Two sessions of one client would each free it.
         raise TypeError("a session can't be copied or pickled")
 
     @property
@@ -221,40 +281,55 @@ class Core:
         return self._open.state()
 
     def _shut(self) -> None:
-        """Closes the socket, where there is one."""
+        """Closes the socket, if there is one."""
         raise NotImplementedError
 
     def _is_ours(self) -> bool:
-        """Whether this process made the connection. One that was forked meanwhile sends nothing, and ends nothing of its parent's."""
+        """Returns true if this process made the connection.
+
+        A process that was forked sends nothing, and ends nothing of its parent's."""
         return self._process == os.getpid()
 
     def _begin(self, mine: object) -> None:
-        """A call begins, unless one has that hasn't ended: that of another thread or task, or one that was broken off."""
-        # (in one step of the interpreter's, so that one of two threads has it)
+        """Begins a call. It is refused if another one goes on, as that of another thread or task, or was broken off."""
+        # This is one step of the interpreter, so one of two threads has the connection.
         if self._amid.setdefault("call", mine) is not mine:
             raise NotSent(NOT_ALLOWED, hint="another call has the connection, or was broken off")
         if not self._is_ours():
             raise NotSent(NOT_ALLOWED, hint="another process has the connection")
 
     def _broken_off(self, mine: object, why: BaseException) -> None:
-        """A call ends by what was raised."""
+        """Ends a call by the exception that it raised."""
         if self._amid.get("call") is mine:
             if not isinstance(why, BoltError) or is_from_elsewhere(why):
                 self._end(INTERRUPTED)
             self._amid.clear()
 
+    def _unallowed(self, hint: str) -> BoltError:
+        """Returns the exception of a call that isn't allowed. After the end of the connection that is how it ended."""
+        return self._over() if self._why else NotSent(NOT_ALLOWED, hint=hint)
+
+    def _over(self) -> BoltError:
+        """Returns the exception of a call after the connection's end: how it ended, with all outcomes."""
+        if self._client is None or not self._client.handle.at:
+            return NotSent(NO_CLIENT)
+        over = Broken(self._all(), self._why or ENDED)
+        over.__cause__ = self._cut
+        return over
+
     def _closed_meanwhile(self, why: NotSent) -> NoReturn:
-        """A call finds its client closed, as by a signal handler or another task: what became of each request is told."""
+        """Raises what became of each request. Another task, or a signal's handler, closed the client meanwhile."""
         if is_from_elsewhere(why):
             raise why
         self._lose(CLOSED_HERE)
 
-    # What is asked.
+    # Asking requests.
 
     def ask(self, text: str, tag: int, *fields: Any) -> Request:
-        """Asks a request, by its tag and its fields, and answers it: it goes out when it is settled, and not before. `text` is what it is called
-        where it is told of."""
-        # (it has no answer, and nothing may be asked behind it)
+        """Asks a request, by its tag and its fields, and returns it. It goes out when it is settled, and not before.
+
+        `text` is its name in reports."""
+        # It has no answer, and nothing may be asked after it.
         if tag == GOODBYE:
             raise ValueError("close says goodbye")
         return self._asking(self._submit, *self._packed(text, tag, *fields))
@@ -267,32 +342,37 @@ class Core:
         return text, pack_structure(tag, fields, self.version)
 
     def _forget(self) -> None:
-        """The account begins anew: what it had of the requests before, they have."""
+        """Lets the account forget the requests before. They keep their outcomes."""
         self._all()
         check(LIBRARY.bolt_settle(self._open.handle))
         self.requests, self._told, self._settled = [], 0, False
 
     def _submit(self, text: str, message: bytes) -> Request:
+        if message[1] == COMMIT and self._begun.has_to_ask and self._begun.is_unasked:
+            raise TypeError(LAZY)
         client, asked, before = self._open, Asked(), self.requests
         state, begins = client.state(), client.end()
         if self._settled and not state.has_ended:
             self._forget()
-        # (noted before the library has it: an exception may come between any two steps)
-        self.requests.append(request := Request(text, account=client, ordinal=state.first + state.pending, begins=begins))
+        # It is noted before the library has it: an exception may come between any two steps.
+        ordinal = state.first + state.pending
+        self.requests.append(request := Request(text, account=client, ordinal=ordinal, begins=begins))
         code = LIBRARY.bolt_ask(client.handle, message, len(message), asked)
         if code:
             self.requests.pop()
             if self.requests is not before:
                 self.requests, self._told, self._settled = before, len(before), True
-            raise fault_of(code, asked) if code != CLOSED else NotSent(code, hint=self._why or "")
-        if message[1] == BEGIN:
+            raise self._over() if code == CLOSED else fault_of(code, asked)
+        if message[1] == RUN:
+            self._begun.queries += 1
+        elif message[1] == BEGIN:
             self._begun = Begun()
         elif message[1] in (COMMIT, ROLLBACK):
-            self._begun.end = request
+            self._begun.end, self._begun.is_commit = request, message[1] == COMMIT
         return request
 
     def ask_begin(self, write: bool = True, token: Optional[str] = None) -> Request:
-        """A BEGIN: of a transaction to write unless `write` is False, under the token if there is one."""
+        """Asks a BEGIN: to write unless `write` is False, and under the token if there is one."""
         return self.ask("BEGIN", BEGIN, extra(write, token))
 
     def _submit_both(self, text: str, run: bytes, pull: bytes) -> Request:
@@ -304,21 +384,25 @@ class Core:
         except NotSent as why:
             if is_from_elsewhere(why):
                 raise
-            # (memory ran out between the two)
+            # Memory ran out between the two.
             self._lose(NO_MEMORY)
 
-    def ask_run(self, text: str, parameters: Optional[dict[str, Any]] = None, write: bool = True, token: Optional[str] = None, count: int = -1) -> Request:
-        """A RUN and a PULL of so many of its rows, of all with -1, both or neither: the latter, which has the rows and the outcome."""
+    def ask_run(self, text: str, parameters: Optional[dict[str, Any]] = None, write: bool = True,
+                token: Optional[str] = None, count: int = -1) -> Request:
+        """Asks a RUN and a PULL of so many of its rows, of all with -1. Both are asked, or neither.
+
+        It returns the PULL, which has the rows and the outcome."""
         return self._asking(self._submit_both, *self._run(text, parameters, write, token, count))
 
-    def _run(self, text: str, parameters: Optional[dict[str, Any]], write: bool, token: Optional[str], count: int = -1) -> tuple[str, bytes, bytes]:
+    def _run(self, text: str, parameters: Optional[dict[str, Any]], write: bool, token: Optional[str],
+             count: int = -1) -> tuple[str, bytes, bytes]:
         if type(count) is not int or count < 1 and count != -1:
             raise ValueError("so many rows are pulled as are at least 1, or all by -1")
-        run = pack_structure(0x10, (text, {} if parameters is None else parameters, extra(write, token)), self.version)
+        run = pack_structure(RUN, (text, {} if parameters is None else parameters, extra(write, token)), self.version)
         return text, run, pack_structure(0x3F, ({"n": count},), self.version)
 
     def ask_pull(self, text: str, count: int = -1) -> Request:
-        """A PULL of so many more rows of the result that is open, of all with -1."""
+        """Asks a PULL of so many more rows of the result that is open, of all with -1."""
         return self._asking(self._submit, *self._pull(text, count))
 
     def _pull(self, text: str, count: int) -> tuple[str, bytes]:
@@ -333,10 +417,10 @@ class Core:
     def ask_reset(self) -> Request:
         return self.ask("RESET", 0x0F)
 
-    # What is heard.
+    # Reading answers.
 
     def _take(self) -> None:
-        """Takes what was told of the requests since: their rows, and what their summaries hold."""
+        """Takes what came of the requests since: their rows, and what their summaries hold."""
         while self._told < len(self.requests):
             request = self.requests[self._told]
             request.rows += self._open.take_rows(request.ordinal)
@@ -346,8 +430,9 @@ class Core:
             self._told += 1
 
     def _hear(self, piece: bytes) -> None:
-        """Feeds a piece of the server's bytes, none where no more come. At a bad answer, at one that can't be told, and where memory ran out, the connection is
-        given up."""
+        """Feeds a piece of the server's bytes, none if no more come.
+
+        After a bad answer, one that can't be reported, or if memory ran out, the connection is given up."""
         if not piece:
             self._lose(reason(self._cut))
         code = self._open.feed(piece)
@@ -359,34 +444,36 @@ class Core:
             code = why.code if code in (OK, CLOSED) else code
         state = self._state()
         if code not in (OK, CLOSED):
-            self._lose(NO_MEMORY if code == MEMORY else BAD_ANSWER if state.version else NOT_BOLT)
+            self._lose(WHY.get(code, BAD_ANSWER) if state.version else NOT_BOLT if code != MEMORY else NO_MEMORY)
         if state.has_ended and not state.version:
             self._lose(NO_VERSION)
 
     def _end(self, why: str) -> None:
-        """Nothing is heard any more: the account has what became of each request. This may be broken off and done again."""
+        """Ends the client: nothing is read any more, and the account has the outcome of each request.
+
+        This may be broken off and done again."""
         if self._client and self._client.handle.at:
             self._why = self._why or why
-        # (first: of what another thread sends meanwhile nobody may be told that it is lost as long as it can go out)
+        # The socket is closed first: what another thread sends isn't reported as lost while it can still go out.
         self._shut()
         if self._client:
-            # (of one that another thread closes meanwhile nothing is left to lose)
+            # If another thread closes it meanwhile, nothing is left to lose.
             LIBRARY.bolt_lose(self._client.handle)
 
     def _lose(self, why: str) -> NoReturn:
-        """The connection is gone, or given up: what became of each request is told."""
+        """Ends the connection, which is gone or given up, and raises what became of each request."""
         self._end(why)
         self._settled = True
         raise Broken(self._all(), self._why or why) from self._cut
 
     def _all(self) -> list[Request]:
-        """The requests, each of which has its outcome for itself where it is known."""
+        """Returns the requests. Each one has read its outcome, if that is known."""
         for it in self.requests:
             _ = it.outcome
         return list(self.requests)
 
     def _says_goodbye(self) -> bool:
-        """Whether a GOODBYE is asked, which is where nothing waits."""
+        """Asks a GOODBYE if nothing waits, and returns true then."""
         state, (_, message) = self._state(), self._packed("GOODBYE", GOODBYE)
         if state.has_ended or state.pending or not self._is_ours():
             return False
@@ -409,11 +496,13 @@ class Core:
         self._submit(*self._packed("HELLO", 0x01, {"user_agent": agent, **({} if self.version >= V5_1 else login)}))
         if self.version >= V5_1:
             self._submit(*self._packed("LOGON", 0x6A, login))
-        yield from self._settling()
+        hello = (yield from self._settling())[0]
+        self.server, self.keeps_tokens = str(hello.metadata.get("server", "")), keeps_tokens(hello.metadata)
 
     def _awaiting(self) -> Steps[Standing]:
-        """Goes on until no answer is to come, and answers where the client stands then. Of one that was closed meanwhile, as by a signal handler, what became
-        of each request is told."""
+        """Goes on until no answer is to come, and returns the state of the client then.
+
+        If it was closed meanwhile, as by a signal's handler, this raises what became of each request."""
         try:
             while (state := self._state()).awaits:
                 yield
@@ -424,6 +513,8 @@ class Core:
         return state
 
     def _settling(self) -> Steps[list[Request]]:
+        if self._settled and self._why:
+            raise self._over()
         state = yield from self._awaiting()
         if state.has_ended:
             self._end(ENDED)
@@ -440,23 +531,23 @@ class Core:
         return requests
 
     def _going_on(self) -> Steps[None]:
-        """Resets the session; where that can't be, the connection is gone."""
+        """Resets the session. If that can't be, the connection is gone."""
         try:
             self._submit(*self._packed("RESET", 0x0F))
         except NotSent as why:
             if is_from_elsewhere(why):
                 raise
-            # (memory ran out)
+            # Memory ran out.
             self._lose(NO_MEMORY)
         yield from self._awaiting()
 
     def _alone(self) -> None:
-        """Refused where something was asked before and isn't settled, which would go out too."""
+        """Refuses a call if something was asked before and isn't settled: that would go out too."""
         if any(it.outcome is None for it in self.requests):
             raise NotSent(NOT_ALLOWED, hint="what was asked before isn't settled")
 
     def _at_once(self, submit: Callable[..., Request], *packed: Any) -> Steps[Request]:
-        """Asks what is packed and settles it."""
+        """Asks what is packed, and settles it."""
         self._alone()
         request = submit(*packed)
         yield from self._settling()
@@ -464,7 +555,7 @@ class Core:
 
 
 def reason(failed: Optional[OSError]) -> str:
-    """Why a connection is gone whose socket failed so, or came to its end where that is None."""
+    """Returns why a connection is gone whose socket failed so. None means that the server ended it."""
     if failed is None or isinstance(failed, ConnectionError):
         return GONE
     return TIMED_OUT if isinstance(failed, TimeoutError) else FAILED

@@ -1,9 +1,10 @@
-"""What became of a request, why a connection is gone, and what this package raises: one tree under `BoltError`."""
+"""Outcomes of requests, reasons why a connection is gone, and the exceptions: one tree under `BoltError`."""
 from __future__ import annotations
 
 from typing import Any, Optional, Protocol, Sequence
 
-DONE, COMMITTED, REFUSED, IGNORED, LOST, UNKNOWN = OUTCOMES = ("DONE", "COMMITTED", "REFUSED", "IGNORED", "LOST", "UNKNOWN")
+OUTCOMES = ("DONE", "COMMITTED", "REFUSED", "IGNORED", "LOST", "UNKNOWN")
+DONE, COMMITTED, REFUSED, IGNORED, LOST, UNKNOWN = OUTCOMES
 
 # Why a connection is gone.
 NO_VERSION = "the server took no version"
@@ -13,27 +14,31 @@ GONE = "the server closed the connection"
 FAILED = "the socket failed"
 UNREACHED = "the server can't be reached"
 BAD_ANSWER = "the server sent what no server may"
+TOO_LARGE = "a message of the server takes more than 65,536 bytes"
 NO_MEMORY = "out of memory"
 INTERRUPTED = "interrupted"
 CLOSED_HERE = "closed"
 ENDED = "a FAILURE ended the session"  # raised as Refused
 
-FAULTS = {1: "the request isn't allowed here", 2: "no room among the 32 requests that may wait", 3: "the message is too long", 4: "the client has ended",
-          5: "out of memory", 6: "the server sent what no server may", 7: "the request can't be written", 8: "no request of this version",
-          9: "nothing was heard", 10: "no version has this number", 11: "no value is there", 100: "the connection is closed"}
+FAULTS = {1: "the request isn't allowed here", 2: "no room among the 32 requests that may wait",
+          3: "the message is too long", 4: "the client has ended", 5: "out of memory",
+          6: "the server sent what no server may", 7: "the request can't be written", 8: "no request of this version",
+          9: "nothing was heard", 10: "no version has this number", 11: "no value is there", 12: TOO_LARGE,
+          100: "the connection is closed"}
 
 
 class Account(Protocol):
-    """What knows what became of requests: the client of the library."""
+    """The account of the outcomes of requests: the client of the library."""
 
     def outcome(self, ordinal: int, begins: int) -> Optional[str]: ...
 
 
 class Request:
-    """What was asked, and what became of it: an outcome once it is known, which the library's account tells, and what its summary and rows hold."""
+    """A request with its outcome once it is known, from the library's account, and with its summary and rows."""
 
-    def __init__(self, text: str, outcome: Optional[str] = None, metadata: Optional[dict[str, Any]] = None, rows: Optional[list[list[Any]]] = None, *,
-                 account: Optional[Account] = None, ordinal: int = 0, begins: int = 0) -> None:
+    def __init__(self, text: str, outcome: Optional[str] = None, metadata: Optional[dict[str, Any]] = None,
+                 rows: Optional[list[list[Any]]] = None, *, account: Optional[Account] = None, ordinal: int = 0,
+                 begins: int = 0) -> None:
         self.text, self.ordinal, self._begins = text, ordinal, begins
         self.metadata: dict[str, Any] = {} if metadata is None else metadata
         self.rows: list[list[Any]] = [] if rows is None else rows
@@ -44,7 +49,7 @@ class Request:
         """One of OUTCOMES, None as long as it isn't known."""
         account = self._account
         if account is not None and (told := account.outcome(self.ordinal, self._begins)):
-            # (the last word, for which the client isn't needed any more)
+            # This is final: the client isn't needed for it after this.
             self._outcome, self._account = told, None
         return self._outcome
 
@@ -64,18 +69,24 @@ class Request:
 
 
 def committed(requests: Sequence[Request]) -> Optional[str]:
-    """What became of the commit among requests: COMMITTED or UNKNOWN if one of them is so; LOST if nothing was committed; None if none were asked."""
-    outcomes = [it.outcome for it in requests]
-    return next((it for it in (COMMITTED, UNKNOWN) if it in outcomes), LOST if outcomes else None)
+    """Returns what became of the commits among requests.
+
+    It is UNKNOWN if one is unknown or waits, else COMMITTED if one is, else LOST; None if there are no requests."""
+    outcomes = [it.outcome or UNKNOWN for it in requests]
+    return next((it for it in (UNKNOWN, COMMITTED) if it in outcomes), LOST if outcomes else None)
 
 
 class BoltError(Exception):
-    """What this package raises, but for TypeError, ValueError and RecursionError of an argument that can't be packed, which leave all as it was."""
+    """The base of the exceptions of this package.
+
+    Arguments that can't be packed raise TypeError, ValueError or RecursionError, which change nothing."""
 
 
 class NotSent(BoltError):
-    """A call was refused, and nothing has changed. `code` is that of bolt.h; `rule` is the one that the message breaks, as `M5`, and `place` where,
-    as bolt.h counts it: a byte of the message (P), a structure of the parameters (S); None for a rule without a place."""
+    """A call was refused, and it sent nothing. Earlier requests keep their outcomes, which `session.requests` has.
+
+    `code` is that of bolt.h. `rule` is the one that the message breaks, as `M5`. `place` is where, as bolt.h counts it:
+    a byte of the message (P) or a structure of the parameters (S). It is None for a rule without a place."""
 
     def __init__(self, code: int, rule: str = "", place: Optional[int] = None, hint: str = "") -> None:
         super().__init__(code, rule, place, hint)
@@ -87,7 +98,7 @@ class NotSent(BoltError):
 
 
 class Told(BoltError):
-    """What tells of requests: `requests` are those asked since all was settled, in order, each with its outcome."""
+    """The base of exceptions with `requests`: those asked since all were settled, in order, with their outcomes."""
 
     requests: list[Request]
 
@@ -98,12 +109,16 @@ class Told(BoltError):
 
     @property
     def outcome(self) -> Optional[str]:
-        """What became of the commit: COMMITTED, UNKNOWN, or LOST if nothing was committed; None if nothing was asked."""
+        """UNKNOWN if a commit of the requests is unknown, else COMMITTED if one is, else LOST. None if there are none.
+
+        If there are several commits, as in a pipeline, read `outcomes`."""
         return committed(self.requests)
 
 
 class Refused(Told):
-    """The server's FAILURE, by its code and message. A transaction that was open is gone, and the session is ready again if it lives on."""
+    """The server's FAILURE, by its code and message.
+
+    A transaction that was open is gone, and the session is ready again if it lives on."""
 
     def __init__(self, code: str, message: str, requests: list[Request]) -> None:
         super().__init__(code, message, requests)
@@ -114,13 +129,20 @@ class Refused(Told):
 
 
 class Broken(Told):
-    """The connection broke, was given up, or never came to be. `why` is one of the reasons NO_VERSION to CLOSED_HERE, and `__cause__` the socket's own
-    error if there is one."""
+    """The connection broke, was given up, or was never made. Each call after that raises it again.
 
-    def __init__(self, requests: list[Request], why: str) -> None:
-        super().__init__(requests, why)
-        self.requests, self.why = requests, why
+    `why` is one of the reasons NO_VERSION to CLOSED_HERE. `__cause__` is the socket's own error if there is one. If the
+    server can't be reached, `detail` is the text of that error."""
+
+    def __init__(self, requests: list[Request], why: str, detail: str = "") -> None:
+        super().__init__(requests, why, *([detail] if detail else []))
+        self.requests, self.why, self.detail = requests, why, detail
 
     def __str__(self) -> str:
         told = ", ".join(f"{it.text}: {it.outcome}" for it in self.requests) or "before any request"
-        return f"{told} ({self.why})"
+        return f"{told} ({self.why}: {self.detail})" if self.detail else f"{told} ({self.why})"
+
+
+def unreached(failed: OSError) -> Broken:
+    """Returns the exception for a server that can't be reached, with the text of the socket's own error."""
+    return Broken([], UNREACHED, str(failed) or type(failed).__name__)

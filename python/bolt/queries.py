@@ -1,12 +1,11 @@
-"""What a connection does for who runs queries, step by step: the blocking one of `connection`, and that of `aio`."""
+"""Queries, transactions and pipelines step by step, for the blocking connection of `connection` and that of `aio`."""
 from __future__ import annotations
 
 import weakref
 from typing import Any, Callable, Generic, Iterator, Optional, Type, TypeVar
 
 from .core import BEGIN, COMMIT, PHASES, ROLLBACK, Begun, Core, Steps, extra
-from .errors import REFUSED, NotSent, Request
-from .library import NOT_ALLOWED
+from .errors import REFUSED, BoltError, NotSent, Request
 from .results import Pulled, Record
 from .times import stored
 
@@ -15,22 +14,34 @@ Kind = TypeVar("Kind", bound=Core)
 
 
 def is_in_transaction(session: Core) -> bool:
-    """Whether a transaction is open, as far as answers tell. Of a session that has ended none is."""
+    """Returns true if a transaction is open, as far as answers say. After the session's end none is."""
     state = session._state()
     return not state.has_ended and PHASES[state.phase].startswith("TX")
 
 
 def is_current(session: Core, begun: Begun) -> bool:
-    """Whether what is asked is part of this transaction, or is refused since the session has ended. A FAILURE ends a transaction, and so does a RESET."""
+    """Returns true if a request is part of this transaction, or is refused because the session has ended.
+
+    A FAILURE ends a transaction, and so does a RESET."""
     return begun is session._begun and (is_in_transaction(session) or bool(session._state().has_ended))
 
 
-def over() -> NotSent:
-    return NotSent(NOT_ALLOWED, hint="the transaction has ended")
+def over(session: Core) -> BoltError:
+    return session._unallowed("the transaction has ended")
+
+
+def named(parameters: dict[str, Any]) -> dict[str, Any]:
+    """Returns a query's parameters. The official driver's words for a call, as `database_`, aren't parameters."""
+    for name in parameters:
+        if name.endswith("_"):
+            raise TypeError(f"{name} isn't taken as a parameter of the query: names that end in _ are the official "
+                            "driver's words for the call, which this driver doesn't have. session.ask_run(text, {..}) "
+                            "takes any name")
+    return parameters
 
 
 class Deferred(Generic[Found]):
-    """What a pipeline's query will answer: all its records, once the pipeline has ended."""
+    """The records of a pipeline's query, once the pipeline has ended."""
 
     result: Optional[Found] = None
 
@@ -43,7 +54,7 @@ class Deferred(Generic[Found]):
 class Queries(Generic[Kind, Found]):
     """A connection. `timeout` bounds each call as a whole, in seconds; `fetch` is how many records are pulled at once.
 
-    `session` is what stands below: one request at a time, and what became of each."""
+    `session` is below it: single requests, and what became of each."""
 
     _results: Type[Found]
 
@@ -58,6 +69,17 @@ class Queries(Generic[Kind, Found]):
         return self.session.version
 
     @property
+    def server(self) -> str:
+        """The server's name, from its answer to HELLO."""
+        return self.session.server
+
+    @property
+    def keeps_tokens(self) -> bool:
+        """True if the server's answer to HELLO says that it keeps tokens: by a name that begins with `BoltTable/`, or
+        by the hint `bolt.tokens`."""
+        return self.session.keeps_tokens
+
+    @property
     def timeout(self) -> Optional[float]:
         return self.session.timeout
 
@@ -66,7 +88,7 @@ class Queries(Generic[Kind, Found]):
         self.session.timeout = seconds
 
     def _stored(self, parameters: dict[str, Any]) -> dict[str, Any]:
-        return {name: stored(it, self.version) for name, it in parameters.items()}
+        return {name: stored(it, self.version) for name, it in named(parameters).items()}
 
     def _made(self, run: Request, pull: Request, text: str) -> Found:
         return self._results(self.session, run, pull, text, self.fetch)
@@ -75,21 +97,28 @@ class Queries(Generic[Kind, Found]):
         return self.session._run(text, self._stored(parameters), write, None, self.fetch)
 
     def _settling_open(self) -> Steps[None]:
-        """Pulls what is left of the result that is open: only then may something else be asked."""
-        # (a signal handler or another thread may close the connection meanwhile, which has no result then)
+        """Pulls what is left of the result that is open. Only then something else may be asked."""
+        # A signal's handler or another thread may close the connection meanwhile. It has no result then.
         left = self._open_result
         if left and left._is_open():
             yield from left._finish()
         self._open_result = None
+
+    def _unread(self) -> Optional[Found]:
+        """Returns the result of a query that isn't committed yet because it wasn't read to its end.
+
+        The connection forgets the result, so that no other call reads it."""
+        left, self._open_result = self._open_result, None
+        return left if left and left._is_unread else None
 
     def _own(self, text: str, parameters: dict[str, Any], write: bool = True) -> Steps[Found]:
         """A query of its own."""
         return self._running(self._free, *self._packed(text, parameters, write))
 
     def _free(self) -> None:
-        """Refused where a transaction is open, which would keep a query of its own from being committed."""
+        """Refuses a query of its own while a transaction is open: it wouldn't be committed."""
         if is_in_transaction(self.session):
-            raise NotSent(NOT_ALLOWED, hint="a transaction is open")
+            raise self.session._unallowed("a transaction is open")
 
     def _running(self, allow: Callable[[], None], text: str, run: bytes, pull: bytes) -> Steps[Found]:
         allow()
@@ -102,13 +131,17 @@ class Queries(Generic[Kind, Found]):
         return found
 
     def _piping(self, found: Pipeline[Found]) -> Steps[None]:
-        """Before a pipeline: what was asked and isn't settled would go out with it, and so would what one asks that is open already, whose own block wouldn't be told
-        what became of that. In a block whose transaction has ended, as by a FAILURE, its queries would be committed by themselves."""
+        """Prepares a pipeline. It is refused if it would send more than its own requests, or commit some by themselves.
+
+        What was asked before and isn't settled would go out with it, as would the requests of another open pipeline.
+        In a block whose transaction has ended, as by a FAILURE, its queries would be committed by themselves."""
+        if self.session._why:
+            raise self.session._over()
         before = self._pipeline and self._pipeline()
         if before and not before.is_sent:
-            raise NotSent(NOT_ALLOWED, hint="another pipeline is open")
+            raise self.session._unallowed("another pipeline is open")
         if self.session._begun.is_open and not is_current(self.session, self.session._begun):
-            raise over()
+            raise over(self.session)
         self.session._alone()
         yield from self._settling_open()
         self._pipeline = weakref.ref(found)
@@ -123,7 +156,7 @@ class Queries(Generic[Kind, Found]):
 
 
 class Pipeline(Generic[Found]):
-    """Requests that go out at once, when the block ends. What a `run` answers has its records then."""
+    """Requests that go out at once when the block ends. The result of a `run` has its records then."""
 
     def __init__(self, connection: Queries[Any, Found]) -> None:
         self._connection = connection
@@ -132,9 +165,9 @@ class Pipeline(Generic[Found]):
 
     @property
     def _session(self) -> Core:
-        if self.is_sent:
-            raise NotSent(NOT_ALLOWED, hint="the pipeline has ended")
         session: Core = self._connection.session
+        if self.is_sent:
+            raise session._unallowed("the pipeline has ended")
         return session
 
     def begin(self, write: bool = True, token: Optional[str] = None) -> None:
@@ -155,7 +188,8 @@ class Pipeline(Generic[Found]):
 
     def _sending(self) -> Steps[list[Request]]:
         self.is_sent = True
-        return (yield from self._connection.session._settling())
+        requests: list[Request] = yield from self._connection.session._settling()
+        return requests
 
     def _fill(self) -> None:
         for found, run, pull in self._runs:
@@ -171,12 +205,12 @@ class Transacting:
 
     @property
     def _last(self) -> Optional[Request]:
-        """The COMMIT or ROLLBACK that was asked, by it or below it."""
+        """The COMMIT or ROLLBACK that was asked, by it or by a pipeline in its block."""
         return self._begun.end
 
     @property
     def is_open(self) -> bool:
-        """Whether its block has to end it. A pipeline in the block may have."""
+        """True if its block has to end it. A pipeline in the block may have ended it already."""
         return self._begun.is_open
 
     @is_open.setter
@@ -185,15 +219,16 @@ class Transacting:
 
     @property
     def _is_followed(self) -> bool:
-        """Whether it has ended, and another call goes on or the transaction of another block is open, which don't end with its block, as where a generator with that is left
-        half read."""
+        """True if it has ended, and another call goes on or the transaction of another block is open.
+
+        These don't end with its block, as when a generator with the block is left half read."""
         session = self._connection.session
         is_other = session._begun is not self._begun and session._begun.is_open
         return (is_other or bool(session._amid)) and not is_current(session, self._begun)
 
     @property
     def outcome(self) -> Optional[str]:
-        """What became of its COMMIT or ROLLBACK; None as long as that isn't known, or neither was asked."""
+        """The outcome of its COMMIT or ROLLBACK. None if that isn't known, or neither was asked."""
         return self._begun.outcome
 
     @property
@@ -201,20 +236,21 @@ class Transacting:
         return self._last.metadata.get("bookmark") if self._last else None
 
     @property
-    def _code(self) -> Optional[str]:
-        """By which code its end was refused."""
-        return self._last.metadata.get("code") if self._last and self._last.outcome == REFUSED else None
+    def _failure(self) -> Optional[str]:
+        """The code of the FAILURE that answered its COMMIT, None if none did."""
+        is_refused = self._last and self._begun.is_commit and self._last.outcome == REFUSED
+        return str(self._last.metadata.get("code", "")) if self._last and is_refused else None
 
     def _running(self, text: str, parameters: dict[str, Any]) -> Steps[Any]:
         if not self.is_open:
-            raise over()
+            raise over(self._connection.session)
         self._goes_on()
         return self._connection._running(self._goes_on, *self._connection._packed(text, parameters))
 
     def _goes_on(self) -> None:
-        """Refused where it has ended meanwhile, as by a signal handler: what is run then would be committed by itself."""
+        """Refuses a query if it has ended meanwhile, as by a signal's handler: it would be committed by itself."""
         if not is_current(self._connection.session, self._begun):
-            raise over()
+            raise over(self._connection.session)
 
     def _committing(self) -> Steps[None]:
         return self._ending("COMMIT", COMMIT)
@@ -226,17 +262,17 @@ class Transacting:
         return self._ends(*self._connection.session._packed(text, tag))
 
     def _ends(self, text: str, message: bytes) -> Steps[None]:
-        """Ends it, once: what ends one that has ended would end another that began since."""
+        """Ends it, once. A second end would end another transaction that began since."""
         session = self._connection.session
         if not self.is_open or not is_current(session, self._begun):
-            raise over()
+            raise over(session)
         self.is_open = False
         try:
             yield from self._connection._settling_open()
             session._alone()
             session._submit(text, message)
         except NotSent:
-            # (nothing has changed, and it may be open)
+            # Nothing was sent, and it may be open.
             self.is_open = True
             raise
         yield from session._settling()

@@ -1,12 +1,12 @@
-"""Rows by name, how a result ended, and what is held of one that is pulled as it is read."""
+"""Rows by name, how a result ended, and the held part of one that is pulled as it is read."""
 from __future__ import annotations
 
 import dataclasses
+import warnings
 from typing import Any, Callable, Iterator, Mapping, Optional, Sequence, Union
 
-from .core import Answer, Core, Steps
-from .errors import COMMITTED, DONE, GONE, INTERRUPTED, LOST, REFUSED, Broken, NotSent, Refused, Request
-from .library import NOT_ALLOWED
+from .core import DISCARD, PHASES, Answer, Core, Steps
+from .errors import COMMITTED, DONE, GONE, INTERRUPTED, LOST, REFUSED, UNKNOWN, Broken, Refused, Request
 from .times import heard
 
 
@@ -16,7 +16,7 @@ class Record(Sequence[Any]):
     __slots__ = ("_names", "_cells")
 
     def __init__(self, names: Sequence[str], cells: Sequence[Any]) -> None:
-        # (of a row with fewer cells than there are names the last have none)
+        # If a row has fewer cells than there are names, the last names have none.
         self._names, self._cells = tuple(names)[:len(cells)], tuple(cells)
 
     def __getitem__(self, place: Union[int, str, slice]) -> Any:
@@ -54,7 +54,7 @@ class Record(Sequence[Any]):
         return isinstance(other, (list, tuple)) and list(self._cells) == list(other)
 
     def __hash__(self) -> int:
-        # (that of a tuple, to which it may be equal)
+        # It may be equal to a tuple.
         return hash(self._cells)
 
     def __repr__(self) -> str:
@@ -63,18 +63,18 @@ class Record(Sequence[Any]):
 
 @dataclasses.dataclass(frozen=True)
 class Summary:
-    """How a result ended: the outcome of the request that ended it, and what the server told."""
+    """How a result ended: the outcome of the request that ended it, and the server's metadata."""
     outcome: Optional[str]
     metadata: Mapping[str, Any]
 
     @property
     def bookmark(self) -> Optional[str]:
-        """That of the entry that was committed, if one was."""
+        """The bookmark of the entry that was committed, if one was."""
         return self.metadata.get("bookmark")
 
 
 class Pulled:
-    """What is held of the records of a query. They are pulled as they are read, so many at once as `fetch` says."""
+    """The held records of a query. They are pulled as they are read, so many at once as `fetch` says."""
 
     def __init__(self, session: Core, run: Request, pull: Request, text: str, fetch: int) -> None:
         self._session, self._run, self._last, self._text, self._fetch = session, run, pull, text, fetch
@@ -83,22 +83,24 @@ class Pulled:
 
     @property
     def _has_more(self) -> bool:
-        # (whatever else it is ends the result, as the library has it)
+        # Any other value ends the result, as in the library.
         return self._last.metadata.get("has_more") is True
 
     @property
     def _is_whole(self) -> bool:
-        """Whether all of it is held, which is told without the connection: another call may have that, and what was committed would be told as not sent."""
+        """True if all of it is held, and committed or in its transaction.
+
+        This is known without the connection. Another call may have the connection, and would refuse this one."""
         return self._last is self._taken and self._last.outcome in (DONE, COMMITTED) and not self._has_more
 
     def _is_open(self) -> bool:
-        """Whether nothing else was asked since: what is pulled then is its own."""
+        """Returns true if nothing else was asked since: what is pulled then is its own."""
         return any(it is self._last for it in self._session.requests[-1:])
 
     def _more(self, count: int) -> Steps[None]:
         """Pulls so many more, all with -1."""
         if not self._is_open():
-            raise NotSent(NOT_ALLOWED, hint="the result isn't open any more")
+            raise self._session._unallowed("the result isn't open any more")
         self._last = self._session._submit(*self._session._pull(self._text, count))
         yield from self._session._settling()
         self._rows += self._last.rows
@@ -109,6 +111,27 @@ class Pulled:
         while self._has_more:
             yield from self._more(-1)
 
+    @property
+    def _is_unread(self) -> bool:
+        """True if the server holds the rest of it, and commits the query with the last record."""
+        session = self._session
+        is_free = not session._amid and not session._why
+        return is_free and self._has_more and self._is_open() and PHASES[session._state().phase] == "STREAMING"
+
+    def _discarding(self) -> Steps[None]:
+        """Has the server pass over what is left, which commits the query. What isn't held can't be read after that."""
+        session = self._session
+        self._last = session._submit(*session._packed(f"DISCARD of {self._text}", DISCARD, {"n": -1}))
+        yield from session._settling()
+
+    def _lose(self) -> None:
+        """Notes that the query isn't committed, if nothing else is known: its last record was never asked for."""
+        if self._has_more:
+            self._last = Request(f"DISCARD of {self._text}", LOST)
+        if self._last.outcome != COMMITTED:
+            told = f"{self._text!r} wasn't read to its end, and its commit is {self._last.outcome}"
+            warnings.warn(told, ResourceWarning, stacklevel=4)
+
     def _check(self) -> None:
         """Raises what ended it too early, each time."""
         if self._last.outcome == REFUSED:
@@ -116,18 +139,18 @@ class Pulled:
         if self._last.outcome not in (DONE, COMMITTED):
             raise Broken([self._last], self._session._why or GONE)
         if self._last is not self._taken:
-            # (its rows may not be there)
+            # Its rows may not be there.
             raise Broken([self._last], self._session._why or INTERRUPTED)
 
     def _refill(self) -> Steps[None]:
-        """Pulls more once all that is held was read, which isn't kept twice."""
+        """Pulls more once all that is held was read. What was read isn't kept."""
         self._check()
         while self._is_read and self._has_more:
             self._rows, self._read = [], 0
             yield from self._more(self._fetch)
 
     def _ahead(self) -> Steps[bool]:
-        """Pulls more, and keeps it; answers whether more is left."""
+        """Pulls more, keeps it, and returns true if more is left."""
         self._check()
         if self._has_more:
             yield from self._more(self._fetch)
@@ -135,35 +158,37 @@ class Pulled:
 
     @property
     def _is_read(self) -> bool:
-        # (what breaks off the refill may leave fewer than were read)
+        # A refill that was broken off may leave fewer than were read.
         return self._read >= len(self._rows)
 
     def _record(self, row: list[Any]) -> Record:
         return Record(self.keys(), [heard(it, self._session.version) for it in row])
 
     def _next(self) -> Record:
-        """The next record, which is held."""
+        """Returns the next held record."""
         found = self._record(self._rows[self._read])
-        # (last, so that what breaks this off loses no record)
+        # This comes last, so that an interrupt loses no record.
         self._read += 1
         return found
 
     def _unread(self, of: Callable[[list[Record]], Answer]) -> Answer:
-        """What is made of the records that are held and weren't read yet, which stay so where this is broken off."""
+        """Returns what is made of the held records that weren't read yet.
+
+        If this is broken off, they stay unread."""
         found = of([self._record(it) for it in self._rows[self._read:]])
         self._read = len(self._rows)
         return found
 
     def _held(self) -> Iterator[Record]:
-        """The records that are held and weren't read yet."""
+        """Yields the held records that weren't read yet."""
         while not self._is_read:
             yield self._next()
 
     def _summary(self) -> Summary:
-        return Summary(self._last.outcome or LOST, self._last.metadata)
+        return Summary(self._last.outcome or UNKNOWN, self._last.metadata)
 
     def keys(self) -> list[str]:
-        """The names of the columns, none where the server tells none."""
+        """Returns the names of the columns, none if the server has none."""
         names = self._run.metadata.get("fields")
         return list(names) if isinstance(names, list) and all(isinstance(it, str) for it in names) else []
 
@@ -177,7 +202,7 @@ def by_place(records: list[Record]) -> list[list[Any]]:
 
 
 def only(records: list[Record]) -> Record:
-    """The only record; ValueError if there are none or several."""
+    """Returns the only record. It is a ValueError if there are none or several."""
     if len(records) != 1:
         raise ValueError(f"one record is wanted, and there are {len(records)}")
     return records[0]

@@ -1,4 +1,4 @@
-"""Moments and spans of time, Python's own and those of PackStream, one from the other where nothing is lost."""
+"""Moments and spans of time: Python's own from those of PackStream, and back, if nothing is lost."""
 from __future__ import annotations
 
 import dataclasses
@@ -60,9 +60,11 @@ def stored(value: Any, version: int) -> Any:
     if isinstance(value, datetime.date):
         return values.Date((value - EPOCH).days)
     if isinstance(value, datetime.time):
-        return values.LocalTime(nanoseconds_of(value)) if value.tzinfo is None else values.Time(nanoseconds_of(value), offset_of(value))
+        nanoseconds = nanoseconds_of(value)
+        return values.LocalTime(nanoseconds) if value.tzinfo is None else values.Time(nanoseconds, offset_of(value))
     if isinstance(value, datetime.timedelta):
-        return values.Duration(0, value.days, value.seconds, value.microseconds * 1000 + getattr(value, "nanoseconds", 0))
+        nanoseconds = value.microseconds * 1000 + getattr(value, "nanoseconds", 0)
+        return values.Duration(0, value.days, value.seconds, nanoseconds)
     if isinstance(value, (list, tuple)):
         return [stored(it, version) for it in value]
     if isinstance(value, dict):
@@ -103,7 +105,7 @@ def own(value: Any) -> Any:
 
 
 def heard(value: Any, version: int) -> Any:
-    """A value as Python has it: structures of moments and spans as its own where nothing is lost, else as they are."""
+    """Returns a value as Python has it: moments and spans as its own if nothing is lost, all else as it is."""
     if isinstance(value, list):
         return [heard(it, version) for it in value]
     if isinstance(value, dict):

@@ -1,4 +1,6 @@
-"""Values of PackStream: None, bool, int, float, str, bytes, list and dict stand for themselves, and the classes below for structures."""
+"""Values of PackStream: the classes below for structures, and Python's own for all others.
+
+Those are None, bool, int, float, str, bytes, list and dict."""
 from __future__ import annotations
 
 import dataclasses
@@ -51,7 +53,9 @@ class UnboundRelationship(Structure):
 
 @dataclasses.dataclass(frozen=True)
 class Path(Structure):
-    """`indices` are a walk from node 0: the number of a relationship, from 1, negative against its direction, and the node that it leads to, by turns."""
+    """`indices` are a walk from node 0, in pairs: the number of a relationship and that of the node to which it leads.
+
+    Relationships count from 1. A number is negative if the walk goes against the relationship's direction."""
     nodes: list[Node]
     relationships: list[UnboundRelationship]
     indices: list[int]
@@ -88,7 +92,7 @@ class LocalDateTime(Structure):
 
 @dataclasses.dataclass(frozen=True)
 class DateTime(Structure):
-    """UTC seconds, at 4.4 too, where they go as local ones; the offset in seconds."""
+    """UTC seconds, and the offset in seconds. At 4.4 they are sent as local seconds."""
     seconds: int
     nanoseconds: int
     offset: int
@@ -139,8 +143,9 @@ class Point3D(Structure):
     tag = 0x59
 
 
-STRUCTURES: tuple[Type[Structure], ...] = (Node, Relationship, UnboundRelationship, Path, Date, Time, LocalTime, LocalDateTime, DateTime, ZonedLocal,
-                                           ZonedUtc, Duration, Point2D, Point3D)
+STRUCTURES: tuple[Type[Structure], ...] = (
+    Node, Relationship, UnboundRelationship, Path, Date, Time, LocalTime, LocalDateTime, DateTime, ZonedLocal, ZonedUtc,
+    Duration, Point2D, Point3D)
 TAGS: dict[int, Any] = {it.tag: it for it in STRUCTURES}
 
 
@@ -150,7 +155,9 @@ def names_of(value: Union[Structure, Type[Structure]]) -> list[str]:
 
 
 def sized(length: int, tiny: Optional[int], first: int) -> bytes:
-    """The marker of a text, byte string, list or dictionary of this length; `tiny` is None where the length has no place in the marker."""
+    """Returns the marker of a text, byte string, list or dictionary of this length.
+
+    `tiny` is None if a short length has no place in the marker."""
     if tiny is not None and length < 16:
         return bytes([tiny | length])
     for more, form in enumerate((">B", ">H", ">I")):
@@ -204,7 +211,8 @@ def pack(value: Any, version: int = V5_1) -> bytes:
     if isinstance(value, dict):
         if not all(isinstance(key, str) for key in value):
             raise TypeError("a key of a dictionary of PackStream is a text")
-        return sized(len(value), 0xA0, 0xD8) + b"".join(pack(key, version) + pack(it, version) for key, it in value.items())
+        entries = (pack(key, version) + pack(it, version) for key, it in value.items())
+        return sized(len(value), 0xA0, 0xD8) + b"".join(entries)
     if type(value) in STRUCTURES:
         return pack_structure(*fields_of(value, version), version)
     raise TypeError(f"{type(value).__name__} is no value of PackStream")
@@ -262,7 +270,7 @@ class Unpacked:
 
 
 def unpack(data: bytes) -> Any:
-    """The value that these bytes spell; ValueError where they spell none, or more than one."""
+    """Returns the value that these bytes encode. It is a ValueError if they encode none, or more than one."""
     try:
         whole = Unpacked(bytes(memoryview(data)))
         value = whole.value()

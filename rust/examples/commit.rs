@@ -1,5 +1,6 @@
-//! commit ADDRESS PORT KEY: puts a key in a transaction, all of it in one pipeline, and prints what became of each of its requests, and where the connection
-//! broke, why.
+//! commit ADDRESS PORT KEY: puts a key in a transaction, and prints the outcome of each of its requests.
+//!
+//! All requests go out in one pipeline. If the connection breaks, the first line says why.
 
 use bolt::{Connection, Error, Login, Query, Request};
 use std::io::{self, Write};
@@ -19,7 +20,7 @@ fn commit(stream: TcpStream, key: &str) -> Result<Vec<Request>, Error> {
     Ok(connection.settle()?.to_vec())
 }
 
-/// A text on one line, whatever a server says in it.
+/// Returns a server's text on one line: characters that break or turn a line are escaped.
 fn escaped(text: &str) -> String {
     let is_plain = |it: char| !it.is_control() && !matches!(it, '\u{2028}'..='\u{202E}' | '\u{2066}'..='\u{2069}');
     text.chars().map(|it| if is_plain(it) { it.into() } else { it.escape_default().to_string() }).collect()
@@ -30,14 +31,14 @@ fn show(told: &Result<Vec<Request>, Error>) -> io::Result<()> {
     let requests = match told {
         Ok(requests) => requests.as_slice(),
         Err(error) => {
-            // (a refusal begins with the server's code, which begins no line)
+            // The server chooses the code. After "refused: " it can't look like a line of an outcome.
             let before = if matches!(error, Error::Refused { .. }) { "refused: " } else { "" };
             writeln!(out, "{before}{}", escaped(&error.to_string()))?;
             error.requests()
         }
     };
     for request in requests {
-        // (each has one, once they are settled or the stream is gone)
+        // Each request has an outcome after all were answered or the stream is gone.
         if let Some(outcome) = request.outcome {
             writeln!(out, "{}: {outcome:?}", request.text)?;
         }

@@ -1,11 +1,15 @@
 //! A connection over any stream.
 
-use crate::error::{Error, Outcome, Request};
-use crate::ffi::{Client, CLOSED, FULL, HALTED, MEMORY, MESSAGE, NOT_ALLOWED, PIPELINE};
+use crate::error::{Error, Outcome, Request, TOO_LARGE};
+use crate::ffi::{Client, CLOSED, FULL, HALTED, LARGE, MEMORY, MESSAGE, NOT_ALLOWED, PIPELINE};
 use crate::value::{dict, put, Reading, Value, ROOM};
 use std::fmt;
 use std::io::{self, Read, Write};
 use std::panic::{catch_unwind, resume_unwind, AssertUnwindSafe};
+
+/// The name of a server that keeps tokens begins so, or this hint in its answer to HELLO is true.
+const KEEPS_TOKENS: &str = "BoltTable/";
+const TOKENS_HINT: &str = "bolt.tokens";
 
 /// How a client logs in: its name, and who it is. What is printed of it tells no credentials.
 #[derive(Clone)]
@@ -39,16 +43,19 @@ impl Query {
 pub struct Answer {
     pub fields: Vec<String>,
     pub rows: Vec<Vec<Value>>,
-    /// That of the entry that the query committed, if it did: in a transaction COMMIT has it.
+    /// The bookmark of the entry that the query committed, if it did. In a transaction COMMIT has it.
     pub bookmark: Option<String>,
 }
 
-/// A session of a server over a stream, on the thread that opened it. A stream's own times bound its reads and writes: one without them may wait without an
-/// end, and nothing bounds a call whose server goes on to say something, if only that it is there.
+/// A session of a server over a stream, on the thread that opened it.
 ///
-/// Requests are asked, and go out as one pipeline when they are settled, of which 65,536 bytes or one request at most are ahead of the answers.
-/// [`requests`](Connection::requests) are those asked since all was settled, each with what became of it, after each call, also one that failed. Where a call
-/// of the stream panics, so does the connection's, and it has ended.
+/// The stream's own times bound its reads and writes. Without them a call may wait without an end. Nothing bounds a
+/// call whose server goes on to send something.
+///
+/// Requests are asked, and go out as one pipeline when they are settled. At most 65,536 bytes, or one request, are
+/// ahead of the answers. [`requests`](Connection::requests) are those asked since all were settled, each with its
+/// outcome, also after a call that failed. If a call of the stream panics, so does the connection's, and the
+/// connection has ended.
 pub struct Connection<S> {
     stream: S,
     client: Client,
@@ -56,16 +63,19 @@ pub struct Connection<S> {
     requests: Vec<Request>,
     /// The ordinal of the first of them.
     first: u64,
-    /// Of how many of them all is taken that was told.
+    /// How many of them have all that came of them.
     told: usize,
     is_settled: bool,
-    /// How many bytes went out of what was asked since all was settled, and behind how many each of the requests ends.
+    /// How many bytes of these requests went out, and the offset of each one's end.
     gone: usize,
     ends: Vec<usize>,
     /// Why nothing more is sent.
     cut: Option<io::Error>,
     /// Why the client has ended.
     why: Option<&'static str>,
+    /// The server's name.
+    server: String,
+    keeps_tokens: bool,
 }
 
 fn message(tag: u8, fields: &[&Value]) -> Vec<u8> {
@@ -102,12 +112,16 @@ impl<S: Read + Write> Connection<S> {
             ends: Vec::new(),
             cut: None,
             why: None,
+            server: String::new(),
+            keeps_tokens: false,
         };
         while connection.client.state().version == 0 {
             connection.exchange()?;
         }
         let has_logon = connection.client.state().version >= 51;
-        let who = [("scheme", Value::from("basic")), ("principal", Value::from(login.principal.as_str())), ("credentials", Value::from(login.credentials.as_str()))];
+        let (principal, credentials) = (login.principal.as_str(), login.credentials.as_str());
+        let who = [("scheme", "basic"), ("principal", principal), ("credentials", credentials)];
+        let who = who.map(|(key, value)| (key, Value::from(value)));
         let mut hello = vec![("user_agent".to_owned(), Value::from(login.agent.as_str()))];
         if !has_logon {
             hello.extend(who.clone().map(|(key, value)| (key.to_owned(), value)));
@@ -116,8 +130,23 @@ impl<S: Read + Write> Connection<S> {
         if has_logon {
             connection.ask("LOGON", 0x6A, &[&dict(who)])?;
         }
-        connection.settle()?;
+        let hello = &connection.settle()?[0].metadata;
+        let server = hello.get("server").and_then(Value::as_text).unwrap_or_default().to_owned();
+        let has_hint = hello.get("hints").and_then(|it| it.get(TOKENS_HINT)) == Some(&Value::Bool(true));
+        connection.keeps_tokens = has_hint || server.starts_with(KEEPS_TOKENS);
+        connection.server = server;
         Ok(connection)
+    }
+
+    /// Returns the server's name, from its answer to HELLO.
+    pub fn server(&self) -> &str {
+        &self.server
+    }
+
+    /// Returns true if the server's answer to HELLO says that it keeps tokens: by a name that begins with
+    /// `BoltTable/`, or by the hint `bolt.tokens`.
+    pub fn keeps_tokens(&self) -> bool {
+        self.keeps_tokens
     }
 
     /// The stream, for who sets its times.
@@ -130,9 +159,14 @@ impl<S: Read + Write> Connection<S> {
         &self.requests
     }
 
-    /// Submits a request; it goes out when it is settled. Answers its place among the requests.
+    /// Submits a request; it goes out when it is settled. Returns its index among the requests.
+    ///
+    /// After the end of the connection it returns `Broken` again, with the outcome of each request.
     fn ask(&mut self, text: &str, tag: u8, fields: &[&Value]) -> Result<usize, Error> {
         let has_ended = self.client.state().has_ended == 1;
+        if let (true, true, Some(why)) = (has_ended, self.is_settled, self.why) {
+            return Err(Error::Broken { why, error: None, requests: self.requests.clone() });
+        }
         let is_first = self.is_settled && !has_ended;
         if let (false, Some(error)) = (has_ended, self.cut.take()) {
             // (it would wait for its answer without an end)
@@ -146,7 +180,8 @@ impl<S: Read + Write> Connection<S> {
             self.client.settle();
         }
         let ordinal = self.client.ask(&message(tag, fields)).map_err(|(code, told)| {
-            let rule: String = if told.rule == 0 { String::new() } else { [(told.rule >> 8) as u8 as char, told.rule as u8 as char].iter().collect() };
+            let letters = [(told.rule >> 8) as u8 as char, told.rule as u8 as char];
+            let rule = if told.rule == 0 { String::new() } else { letters.iter().collect() };
             Error::NotSent { code, rule, place: told.place }
         })?;
         if is_first {
@@ -167,12 +202,13 @@ impl<S: Read + Write> Connection<S> {
         self.ask("BEGIN", 0x11, &[&extra(write, token)])
     }
 
-    /// A RUN and a PULL of all its rows, both or neither. Answers the place of the RUN; behind it stands the PULL.
+    /// Asks a RUN and a PULL of all its rows, both or neither. Returns the index of the RUN; the PULL follows it.
     pub fn ask_run(&mut self, query: &Query, write: bool, token: Option<&str>) -> Result<usize, Error> {
         if self.client.state().pending as usize > PIPELINE - 2 {
             return Err(refusal(FULL));
         }
-        let run = self.ask(&format!("RUN {}", query.text), 0x10, &[&Value::from(query.text.as_str()), &query.params, &extra(write, token)])?;
+        let fields: [&Value; 3] = [&Value::from(query.text.as_str()), &query.params, &extra(write, token)];
+        let run = self.ask(&format!("RUN {}", query.text), 0x10, &fields)?;
         match self.ask(&format!("PULL of {}", query.text), 0x3F, &[&dict([("n", Value::Int(-1))])]) {
             Ok(_) => Ok(run),
             // (memory ran out between the two)
@@ -192,15 +228,16 @@ impl<S: Read + Write> Connection<S> {
         self.ask("RESET", 0x0F, &[])
     }
 
-    /// How many bytes may go out: those of the first request that isn't answered, or as many behind what is answered as sockets hold. A server that waits until
-    /// its answers are taken takes no more, and they aren't taken while a write waits.
+    /// Returns how many bytes may go out: those of the first request without an answer, or as many as sockets hold
+    /// after what is answered. A server that waits until its answers are read takes no more, and a write would wait
+    /// for it.
     fn room(&self) -> usize {
         let Some(end) = self.ends.get(self.told) else { return MESSAGE };
         let begin = if self.told == 0 { 0 } else { self.ends[self.told - 1] };
         (*end).max(begin + MESSAGE).saturating_sub(self.gone).min(MESSAGE)
     }
 
-    /// Sends what waits and may go out. Where the stream takes no more, nothing more is sent, and what the server has said may still be heard.
+    /// Sends what waits and may go out. If the stream takes no more, nothing more is sent. Answers may still be read.
     fn send(&mut self) {
         while self.cut.is_none() {
             let room = self.room();
@@ -220,7 +257,7 @@ impl<S: Read + Write> Connection<S> {
         }
     }
 
-    /// Takes what was told of the requests since: their outcomes, their rows, and what their summaries hold.
+    /// Takes what came of the requests since: their outcomes, their rows, and what their summaries hold.
     fn take(&mut self) -> Result<(), u32> {
         while let Some(request) = self.requests.get_mut(self.told) {
             let ordinal = self.first + self.told as u64;
@@ -242,16 +279,21 @@ impl<S: Read + Write> Connection<S> {
         Ok(())
     }
 
-    /// Feeds a piece. Behind the client's end nothing is heard.
+    /// Feeds a piece. After the client's end nothing is read.
     fn hear(&mut self, piece: &[u8]) -> Result<(), Error> {
         let fed = self.client.feed(piece);
         let taken = self.take();
         let state = self.client.state();
         match taken.and(fed) {
-            Ok(()) | Err(CLOSED) if state.version == 0 && state.has_ended == 1 => Err(self.lose("the server took no version", None)),
+            Ok(()) | Err(CLOSED) if state.version == 0 && state.has_ended == 1 => {
+                Err(self.lose("the server took no version", None))
+            }
             Ok(()) | Err(CLOSED) => Ok(()),
             Err(MEMORY) => Err(self.lose("out of memory", None)),
-            Err(_) if state.version == 0 => Err(self.lose("not Bolt: the answer isn't a version that was offered", None)),
+            Err(_) if state.version == 0 => {
+                Err(self.lose("not Bolt: the answer isn't a version that was offered", None))
+            }
+            Err(LARGE) => Err(self.lose(TOO_LARGE, None)),
             Err(_) => Err(self.lose("the server sent what no server may", None)),
         }
     }
@@ -279,23 +321,27 @@ impl<S: Read + Write> Connection<S> {
             let error = self.cut.take().or(error);
             let why = match &error {
                 None => "the server closed the connection",
-                Some(error) if matches!(error.kind(), io::ErrorKind::TimedOut | io::ErrorKind::WouldBlock) => "time-out",
-                Some(_) => "the stream failed",
+                Some(error) => match error.kind() {
+                    io::ErrorKind::TimedOut | io::ErrorKind::WouldBlock => "time-out",
+                    _ => "the stream failed",
+                },
             };
             return Err(self.lose(why, error));
         }
         self.hear(&piece[..count])
     }
 
-    /// Nothing is heard any more: the account has what became of each request.
+    /// Ends the client: nothing is read any more, and the account has the outcome of each request.
     fn end(&mut self, why: &'static str) {
         self.why.get_or_insert(why);
         self.client.lose();
         let begins = std::iter::once(0).chain(self.ends.iter().copied());
-        for ((request, ordinal), begin) in self.requests.iter_mut().zip(self.first..).zip(begins).filter(|((it, _), _)| it.outcome.is_none()) {
+        let all = self.requests.iter_mut().zip(self.first..).zip(begins);
+        for ((request, ordinal), begin) in all.filter(|((it, _), _)| it.outcome.is_none()) {
             let told = self.client.outcome(ordinal);
             // (nothing was committed by what no byte of has gone out)
-            request.outcome = if told == Some(Outcome::Unknown) && self.gone <= begin { Some(Outcome::Lost) } else { told };
+            let is_unsent = told == Some(Outcome::Unknown) && self.gone <= begin;
+            request.outcome = if is_unsent { Some(Outcome::Lost) } else { told };
         }
         self.is_settled = true;
     }
@@ -312,8 +358,12 @@ impl<S: Read + Write> Connection<S> {
         Ok(())
     }
 
-    /// Sends what was asked, and hears all answers. The first FAILURE is an error, after a RESET where the session still ignores what it is asked. Answers the
-    /// requests asked since all was settled, none where there are none. Where the connection has ended and that was told, the error is `Broken`.
+    /// Sends what was asked, and reads all answers. Returns the requests asked since all were settled.
+    ///
+    /// # Errors
+    ///
+    /// The first FAILURE, after a RESET if the session still ignores requests. `Broken` if the connection has
+    /// ended, also if that was reported before.
     pub fn settle(&mut self) -> Result<&[Request], Error> {
         if self.is_settled {
             let Some(why) = self.why else { return Ok(&[]) };
@@ -324,20 +374,22 @@ impl<S: Read + Write> Connection<S> {
         if state.has_ended == 1 {
             self.end("a summary ended the session");
         }
-        // (where memory ran out not all that was told is taken)
-        let Some(refused) = self.requests.iter().take(self.told).position(|it| it.outcome == Some(Outcome::Refused)) else {
+        // If memory ran out, not all that came is taken.
+        let mut told = self.requests.iter().take(self.told);
+        let Some(refused) = told.position(|it| it.outcome == Some(Outcome::Refused)) else {
             self.is_settled = true;
             if self.told < self.requests.len() {
-                return Err(Error::Broken { why: self.why.unwrap_or_default(), error: None, requests: self.requests.clone() });
+                let why = self.why.unwrap_or_default();
+                return Err(Error::Broken { why, error: None, requests: self.requests.clone() });
             }
             return Ok(&self.requests);
         };
         let requests = self.requests.clone();
         if state.has_ended == 0 && state.phase == HALTED {
-            // (it is none of those that were asked, also where the stream panics)
+            // The RESET is none of those that were asked, also if the stream panics.
             let asked = self.ask_reset();
             self.requests.truncate(requests.len());
-            // (where the session doesn't live on, all that was asked is answered nonetheless)
+            // If the session doesn't live on, all that was asked is answered nonetheless.
             if asked.and_then(|_| self.await_all()).is_err() {
                 self.end("out of memory");
             }
@@ -347,13 +399,13 @@ impl<S: Read + Write> Connection<S> {
         Err(Error::Refused { code: told("code"), message: told("message"), requests })
     }
 
-    /// Refused where something was asked before and isn't settled, which would go out too.
+    /// Refuses a call if something was asked before and isn't settled: that would go out too.
     fn alone(&self) -> Result<(), Error> {
         if self.is_settled || self.requests.is_empty() { Ok(()) } else { Err(refusal(NOT_ALLOWED)) }
     }
 
-    /// Runs a query and answers its rows: in the transaction that is open, or of its own, which is committed with its last row. Refused where something was
-    /// asked before and isn't settled.
+    /// Runs a query and returns its rows. It is part of the transaction that is open, or is committed with its last
+    /// row. It is refused if something was asked before and isn't settled.
     pub fn run(&mut self, query: &Query) -> Result<Answer, Error> {
         self.alone()?;
         let run = self.ask_run(query, true, None)?;
@@ -361,36 +413,42 @@ impl<S: Read + Write> Connection<S> {
         Ok(answer_of(&requests[run], &requests[run + 1]))
     }
 
-    /// The rows of a query that was asked, by the place of its RUN among the requests; None where no RUN stands there, or it wasn't answered whole.
+    /// Returns the rows of a query, by the index of its RUN among the requests. It is None if no RUN is there, or if it
+    /// wasn't answered whole.
     pub fn answer(&self, run: usize) -> Option<Answer> {
         match self.requests.get(run..self.told)? {
-            [run, pull, ..] if run.text.starts_with("RUN ") && matches!(pull.outcome, Some(Outcome::Done | Outcome::Committed)) => Some(answer_of(run, pull)),
+            [run, pull, ..] if run.text.starts_with("RUN ") => {
+                matches!(pull.outcome, Some(Outcome::Done | Outcome::Committed)).then(|| answer_of(run, pull))
+            }
             _ => None,
         }
     }
 
-    /// Runs queries in one transaction, as one pipeline, under a token if there is one. Answers the rows of each. Refused where something was asked before and
-    /// isn't settled. Where it can't be asked as a whole, as of more than 15 queries, nothing of it goes out, and the session has ended, unless its BEGIN was
-    /// refused.
+    /// Runs queries in one transaction, as one pipeline, under a token if there is one. Returns the rows of each.
+    ///
+    /// It is refused if something was asked before and isn't settled. If it can't be asked as a whole, as with more
+    /// than 15 queries, nothing of it goes out, and the session has ended, unless its BEGIN was refused.
     pub fn transact(&mut self, token: Option<&str>, queries: &[Query]) -> Result<Vec<Answer>, Error> {
         self.alone()?;
         self.ask_begin(true, token)?;
         let asked = queries.iter().map(|query| self.ask_run(query, true, None)).collect::<Result<Vec<_>, _>>();
-        // (of a part of it nothing may go out)
-        let runs = asked.and_then(|runs| self.ask_commit().map(|_| runs)).inspect_err(|_| self.end("not all of a transaction was asked"))?;
+        // If only a part of it is asked, nothing may go out.
+        let whole = asked.and_then(|runs| self.ask_commit().map(|_| runs));
+        let runs = whole.inspect_err(|_| self.end("not all of a transaction was asked"))?;
         let requests = self.settle()?;
         Ok(runs.into_iter().map(|run| answer_of(&requests[run], &requests[run + 1])).collect())
     }
 }
 
-/// What a RUN and the PULL behind it were answered.
+/// Returns the answer of a RUN and of the PULL that follows it.
 fn answer_of(run: &Request, pull: &Request) -> Answer {
     let fields = match run.metadata.get("fields") {
         Some(Value::List(names)) => names.iter().map(|it| it.as_text().map(str::to_owned)).collect(),
         _ => None,
     }
     .unwrap_or_default();
-    Answer { fields, rows: pull.rows.clone(), bookmark: pull.metadata.get("bookmark").and_then(Value::as_text).map(str::to_owned) }
+    let bookmark = pull.metadata.get("bookmark").and_then(Value::as_text).map(str::to_owned);
+    Answer { fields, rows: pull.rows.clone(), bookmark }
 }
 
 /// The first field of a message.

@@ -1,19 +1,22 @@
-//! What became of requests, and why they weren't all done.
+//! Outcomes of requests, and errors: why requests weren't all done.
 
 use crate::value::Value;
 use std::fmt;
 use std::io;
 
-/// What became of a request.
+/// Why a connection is given up whose server sends a larger message than the driver takes.
+pub(crate) const TOO_LARGE: &str = "a message of the server takes more than 65,536 bytes";
+
+/// The outcome of a request.
 #[derive(Clone, Copy, Debug, PartialEq, Eq)]
 pub enum Outcome {
     /// SUCCESS, and there was nothing to commit.
     Done,
-    /// SUCCESS, and what it commits stands.
+    /// SUCCESS, and it is committed.
     Committed,
     /// FAILURE.
     Refused,
-    /// IGNORED: behind a failure, or before a RESET.
+    /// IGNORED: after a failure, or before a RESET.
     Ignored,
     /// No summary came, and the server can't have committed by it.
     Lost,
@@ -48,12 +51,13 @@ pub struct Request {
 /// Why requests weren't all done.
 #[derive(Debug)]
 pub enum Error {
-    /// A call was refused, and nothing of it goes out; nothing has changed but by [`transact`](crate::Connection::transact). The code is that of bolt.h; the rule is
-    /// the one that the message breaks, as `M5`, and behind it where.
+    /// A call was refused, and nothing of it goes out. It says nothing about earlier requests, whose outcomes are in
+    /// [`requests`](crate::Connection::requests). The code is that of bolt.h. The rule is the one that the message
+    /// breaks, as `M5`, and the place is where.
     NotSent { code: u32, rule: String, place: u64 },
     /// The server's FAILURE. The session goes on if it lives on; a transaction that was open is gone.
     Refused { code: String, message: String, requests: Vec<Request> },
-    /// The connection broke, or was given up: why, the stream's own error if there is one, and what became of each request.
+    /// The connection broke, or was given up: why, the stream's own error if there is one, and the outcomes.
     Broken { why: &'static str, error: Option<io::Error>, requests: Vec<Request> },
 }
 
@@ -66,17 +70,17 @@ impl Error {
         }
     }
 
-    /// Whether one of them may have been committed, though that isn't known.
+    /// Returns true if one of them may have been committed, and that isn't known.
     pub fn is_unknown(&self) -> bool {
-        self.requests().iter().any(|it| it.outcome == Some(Outcome::Unknown))
+        self.requests().iter().any(|it| matches!(it.outcome, None | Some(Outcome::Unknown)))
     }
 }
 
 impl fmt::Display for Error {
     fn fmt(&self, f: &mut fmt::Formatter<'_>) -> fmt::Result {
         match self {
-            Error::NotSent { code, rule, place } if !rule.is_empty() => write!(f, "not sent ({code}): {rule} at {place}"),
-            Error::NotSent { code, .. } => write!(f, "not sent ({code})"),
+            Error::NotSent { code, rule, .. } if rule.is_empty() => write!(f, "not sent ({code})"),
+            Error::NotSent { code, rule, place } => write!(f, "not sent ({code}): {rule} at {place}"),
             Error::Refused { code, message, .. } => write!(f, "{code}: {message}"),
             Error::Broken { why, error: Some(error), .. } => write!(f, "{why}: {error}"),
             Error::Broken { why, .. } => write!(f, "{why}"),

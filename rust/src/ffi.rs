@@ -35,6 +35,8 @@ pub(crate) const NOT_ALLOWED: u32 = 1;
 pub(crate) const FULL: u32 = 2;
 pub(crate) const CLOSED: u32 = 4;
 pub(crate) const MEMORY: u32 = 5;
+pub(crate) const NO_REQUEST: u32 = 8;
+pub(crate) const LARGE: u32 = 12;
 pub(crate) const HALTED: u32 = 6;
 
 extern "C" {
@@ -54,14 +56,14 @@ extern "C" {
     fn bolt_state(c: *mut Handle, state: *mut Standing) -> u32;
 }
 
-/// A client of the library, with the account of its requests. Each call does what bolt.h says of it; a code that isn't 0 is why it did nothing. It stays on its
-/// thread, as a pointer does.
+/// A client of the library, with the account of its requests. Each call does what bolt.h says of it. A code that
+/// isn't 0 is why it did nothing. It stays on its thread, as a pointer does.
 pub(crate) struct Client {
     handle: Handle,
 }
 
-// Each pointer below is that of a value or slice of the call's own, with its own length; an empty slice's isn't null. A client is there, so that a call which has no
-// other code answers 0.
+// Each pointer below is that of a value or slice of the call's own, with its own length. That of an empty slice isn't
+// null. A client is there, so a call that has no other code returns 0.
 impl Client {
     /// All rows are kept until they are taken.
     pub fn open(versions: u32) -> Result<Client, u32> {
@@ -96,13 +98,13 @@ impl Client {
         let _code = unsafe { bolt_sent(&mut self.handle, count) };
     }
 
-    /// Feeds a piece. What it says is in the account, also where a code is told.
+    /// Feeds a piece. What it says is in the account, also if this returns a code.
     pub fn feed(&mut self, piece: &[u8]) -> Result<(), u32> {
         let mut used = 0;
         code(unsafe { bolt_feed(&mut self.handle, piece.as_ptr(), piece.len(), &mut used) })
     }
 
-    /// What became of a request, once that is known.
+    /// Returns the outcome of a request, once it is known.
     pub fn outcome(&mut self, ordinal: u64) -> Option<Outcome> {
         let mut outcome = 0;
         let _code = unsafe { bolt_outcome(&mut self.handle, ordinal, &mut outcome) };
@@ -137,7 +139,7 @@ impl Client {
         let _code = unsafe { bolt_lose(&mut self.handle) };
     }
 
-    /// Forgets what was told; none waits.
+    /// Forgets what came of the requests. None may wait.
     pub fn settle(&mut self) {
         let _code = unsafe { bolt_settle(&mut self.handle) };
     }

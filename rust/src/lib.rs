@@ -1,4 +1,5 @@
-//! A driver of Bolt 4.4, 5.0 and 5.1 over the proved driver of libbolt.a, for any stream, with the standard library alone.
+//! A driver of Bolt 4.4, 5.0 and 5.1 over the proved driver of libbolt.a, for any stream. It needs only the standard
+//! library.
 //!
 //! ```no_run
 //! use bolt::{until_known, Connection, Login, Query};
@@ -29,5 +30,5 @@ mod value;
 
 pub use connection::{Answer, Connection, Login, Query};
 pub use error::{Error, Outcome, Request};
-pub use retry::{until_known, Fate};
+pub use retry::{until_known, until_known_with, Before, Fate, Retry};
 pub use value::{dict, Value};

@@ -129,8 +129,11 @@ fn put_int(out: &mut Vec<u8>, it: i64) {
     }
 }
 
-/// Appends the bytes of a value. A length past 32 bits and a structure of more than 15 fields have none: the library refuses the marker in their place. What nests
-/// deeper than there is room for it refuses at the head, behind which nothing is appended.
+/// Appends the bytes of a value.
+///
+/// A length past 32 bits and a structure of more than 15 fields have no bytes: the library refuses the marker that
+/// is written for them. If a value nests deeper than `room`, nothing is appended after its head, which the library
+/// refuses.
 pub(crate) fn put(out: &mut Vec<u8>, value: &Value, room: u8) {
     match value {
         Value::Null => out.push(0xC0),
@@ -172,7 +175,7 @@ fn put_all(out: &mut Vec<u8>, members: &[Value], room: u8) {
     members.iter().filter(|_| room > 0).for_each(|it| put(out, it, room - 1));
 }
 
-/// Reads values from the front of bytes; None where they spell none.
+/// Reads values from the beginning of bytes. A value is None if they encode none.
 pub(crate) struct Reading<'a>(pub &'a [u8]);
 
 impl<'a> Reading<'a> {

@@ -9,6 +9,7 @@ use Rattle.machine.specs.declared.Phase.{Phase}
 use Rattle.machine.specs.declared.Phase.TheVariants as phase
 use Rattle.client.specs.declared.heard.Outcome.{Outcome}
 use Rattle.client.specs.declared.heard.Outcome.TheVariants as outcome
+use Rattle.client.specs.Held.{is_too_large}
 use Rattle.client.specs.Rest.{Rest, begun, taken_out, losses, after_drop, awaits}
 use Rattle.driver.specs.declared.faults.FeedFault.{FeedFault}
 use Rattle.driver.specs.declared.faults.FeedFault.TheVariants as feed_fault
@@ -73,12 +74,13 @@ refusal_code (refusal.Unwritable u) = 7
 refusal_code (refusal.NoRequest e) = 8
 
 -- The number of why no more of a piece is used: of a piece of which none is left, or if rows have to be dropped first, that of success.
-abbrev pub stop_code : Option FeedFault → ℕ
-stop_code None = 0
-stop_code (Some feed_fault.Full) = 0
-stop_code (Some feed_fault.Closed) = 4
-stop_code (Some feed_fault.Memory) = 5
-stop_code (Some feed_fault.BadPeer) = 6
+-- A bad answer that is a message of more than 65,536 bytes has a number of its own.
+abbrev pub stop_code : Bool → Option FeedFault → ℕ
+stop_code large None = 0
+stop_code large (Some feed_fault.Full) = 0
+stop_code large (Some feed_fault.Closed) = 4
+stop_code large (Some feed_fault.Memory) = 5
+stop_code large (Some feed_fault.BadPeer) = if large then 12 else 6
 
 -- the number of why a message isn't told
 abbrev pub message_fault_code : MessageFault → ℕ
@@ -149,7 +151,7 @@ Sending count n old new =
 abbrev pub Feeding : List ℕ → ℕ → ℕ → Held → Held → Type 0
 Feeding piece n used old new =
     (stop : Option FeedFault) × FeedsAll (stand_of old) piece used stop (stand_of new)
-    × (n ≡ stop_code stop)
+    × (n ≡ stop_code (is_too_large (held_rest new).item) stop)
 
 -- `bolt_outcome` of a request
 abbrev pub Concluding : ℕ → ℕ → ℕ → Held → Held → Type 0

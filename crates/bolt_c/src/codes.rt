@@ -143,14 +143,15 @@ pub(crate) fn tell_rule(refusal: Refusal, asked: &mut Asked)
     asked.place = place;
 }
 
-/// The code of why no more of a piece was used.
-pub(crate) fn stop_code(stop: Option<FeedFault>) -> u32
-    ensures { result ≡ stop_code stop }
+/// The code of why no more of a piece was used. A bad answer has another if it is a message of more than 65,536 bytes.
+pub(crate) fn stop_code(is_large: bool, stop: Option<FeedFault>) -> u32
+    ensures { result ≡ stop_code is_large stop }
 {
     match stop {
         None | Some(FeedFault::Full) => 0,
         Some(FeedFault::Closed) => 4,
         Some(FeedFault::Memory) => 5,
+        Some(FeedFault::BadPeer) if is_large => 12,
         Some(FeedFault::BadPeer) => 6,
     }
 }

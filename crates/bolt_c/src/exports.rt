@@ -112,7 +112,7 @@ pub extern "C" fn bolt_sent(alloc: Global, handle: &mut Handle, count: usize) ->
 
 /// Uses bytes of the server, item after item, and tells how many, whatever it answers: what they say is in the account. Answers 0 if none is left,
 /// and if as many rows of the one request that waits are held as may be: it goes on once they are dropped. Else 4 if the client has ended, 6
-/// at a bad answer, 5 for want of memory, which may be fed again.
+/// at a bad answer, 12 if that is a message of more than 65,536 bytes, 5 if memory runs out: then the rest may be fed again.
 #[unsafe(no_mangle)]
 pub extern "C" fn bolt_feed(
     alloc: Global,
@@ -128,9 +128,10 @@ pub extern "C" fn bolt_feed(
         return NO_CLIENT;
     };
     let (count, stop) = held.feed(piece);
+    let is_large = held.tracking.message_is_too_large();
     handle.put(alloc, held);
     *used = count;
-    stop_code(stop)
+    stop_code(is_large, stop)
 }
 
 /// Tells what became of a request, 6 while nothing is known. Takes no memory.

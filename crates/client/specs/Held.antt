@@ -11,6 +11,11 @@ use Rattle.client.specs.Answers.{held_bytes}
 abbrev pub item_of : Stream → Opened
 item_of s = come 4 (held_bytes s.opening) s.inbox
 
+-- a message has passed 65,536 bytes
+abbrev pub is_too_large : Opened → Bool
+is_too_large (opening bytes) = false
+is_too_large (reading u) = u.too_big
+
 -- Room is wanted where data comes, and where a message ends: never for the version answer, headers and no-ops.
 abbrev pub wants_some : Opened → List ℕ → Bool
 wants_some (opening bytes) piece = false

@@ -9,7 +9,7 @@ ghost use Rattle.wire.specs.Reader.{takes};
 ghost use Rattle.reader.specs.Piecewise.{Reads};
 ghost use Rattle.client.specs.Hearings.{Feeds};
 ghost use Rattle.inbox.specs.Opening.{data_of};
-ghost use Rattle.client.specs.Held.{WantsRoom};
+ghost use Rattle.client.specs.Held.{is_too_large, WantsRoom};
 ghost use Rattle.client.specs.Fits.{rest_of, IsAccepted, UnlessMemory};
 ghost use Rattle.machine.specs.Limits.{max_waiting};
 
@@ -284,6 +284,13 @@ impl Client {
         ensures { result ≡ (rest_of self.now).knows.over }
     {
         self.pipeline.over
+    }
+
+    /// Returns true if a message of the server passed 65,536 bytes, with which the client has ended. Takes no memory.
+    pub fn message_is_too_large(&self) -> bool
+        ensures { result ≡ is_too_large (rest_of self.now).item }
+    {
+        self.stream.message_is_too_large()
     }
 
     /// Whether an answer is still to come: the version, or the summary of a request that isn't GOODBYE, which has none. None comes

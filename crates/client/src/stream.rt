@@ -27,7 +27,7 @@ impl Stream {
     ghost use Rattle.wire.specs.declared.Version.{Version};
     ghost use Rattle.wire.specs.Framing.{at_client};
     ghost use Rattle.wire.specs.Reader.{takes};
-    ghost use Rattle.client.specs.Held.{item_of, WantsRoom};
+    ghost use Rattle.client.specs.Held.{item_of, is_too_large, WantsRoom};
     ghost use Rattle.client.specs.Taking.{Comes, all_of, whole_message};
 
     /// Takes a piece that is data alone, and answers whether it is; else, and for want of memory, nothing changes.
@@ -64,6 +64,13 @@ impl Stream {
             Some(message) => Some(message),
             None => None,
         }
+    }
+
+    /// Returns true if a message passed 65,536 bytes.
+    pub fn message_is_too_large(&self) -> bool
+        ensures { result ≡ is_too_large (item_of self.now) }
+    {
+        LENGTH <= self.opening.len && self.inbox.is_over()
     }
 
     /// Takes the piece to the end of the item begun, else all of it; or nothing, for want of memory.

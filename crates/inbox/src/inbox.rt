@@ -139,6 +139,13 @@ impl Inbox {
         Ok(taken)
     }
 
+    /// Returns true if a message passed 65,536 bytes: nothing ends any more. Takes no memory.
+    pub fn is_over(&self) -> bool
+        ensures { result ≡ self.now.too_big }
+    {
+        self.stream.is_over
+    }
+
     /// What was read of the message that isn't whole: its data, or a fault that each continuation of them has. The point that it holds is
     /// where it stands. Takes no memory.
     pub fn reader(&self) -> &Reader
