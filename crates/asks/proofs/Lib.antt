@@ -1,3 +1,4 @@
+pub mod Views
 pub mod Known
 pub mod Tales
 pub mod Asked

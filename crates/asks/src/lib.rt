@@ -1,4 +1,4 @@
-//! A client asks its server for all that it waits for, over a source and a sink.
+//! Sends a client's requests over a sink, and reads their answers from a source.
 #![tactic(auto)]
 
 mod client_end;

@@ -24,7 +24,7 @@ use Rattle.world.proofs.Clients.{knows_if}
 use Rattle.world.proofs.Headline.{reached_inv, all_good}
 use Rattle.world.proofs.Served.{find_at, alike, feed_served, work_served, noop_served, take_served, lost_served, open_served}
 use Rattle.behind.specs.Prelude.{Moment, serves, client_calls, run_of, step_said, call_said, counted_if, IsFront, IsLinked}
-use Rattle.behind.proofs.Pieces.{front_next, front_trans, feed_front}
+use Rattle.behind.proofs.Pieces.{front_next, feed_front}
 use Rattle.behind.proofs.Places.{IsGone, idle_call, idle_loss, push_cases}
 use Rattle.behind.proofs.Replayed.{same_count}
 use Rattle.behind.proofs.Ended.{all_out}
@@ -392,10 +392,10 @@ module _ {G : Type 0} (answer : Definition) (welcomes : G → Welcome) (gate : G
                 (λ e. ap (λ v. put_out wish v run.sent) (ap (λ (z : Reading). z.version) (sym reads) ∙ e) ∙ sym (ap (input wish) side.sent))
                 (knows_if S (ledger w) wish k inv.talk (tells S w.brought w.since c wish k peer inv.talk).version) in
                 let link = (links c wish mine).up in
-                let front : IsFront (k.up ++ p) run.out =
-                subst (λ (z : Run). IsFront (k.up ++ p) z.out) (run_then answer welcomes gate ours brought ms w st.server (feeds c piece) c wish)
-                (subst (λ bs. IsFront bs (run_of wish c (ms_with (feeds c piece))).out) (took_then answer welcomes gate ours brought ms w st.server (feeds c piece) c ∙ ap₂ (λ (y z : List ℕ). y ++ z) (sym f.taken) is) link) in
-                front_trans (k.up ++ p) run.out (input wish k.sent) front (run.rest.unsent, (tells_by_bytes wish (client_calls c ms)).out ∙ puts)
+                let front : IsFront (k.up ++ p) (run.out ++ run.rest.unsent) =
+                subst (λ (z : Run). IsFront (k.up ++ p) (z.out ++ z.rest.unsent)) (run_then answer welcomes gate ours brought ms w st.server (feeds c piece) c wish)
+                (subst (λ bs. IsFront bs ((run_of wish c (ms_with (feeds c piece))).out ++ (run_of wish c (ms_with (feeds c piece))).rest.unsent)) (took_then answer welcomes gate ours brought ms w st.server (feeds c piece) c ∙ ap₂ (λ (y z : List ℕ). y ++ z) (sym f.taken) is) link) in
+                subst (IsFront (k.up ++ p)) ((tells_by_bytes wish (client_calls c ms)).out ∙ puts) front
 
     -- by what stands in the place of its number
     module _ (c : ℕ) where

@@ -7,3 +7,4 @@ pub mod Called
 pub mod Asked
 pub mod Played
 pub mod Relied
+pub mod Fated

@@ -11,7 +11,7 @@ use Rattle.engine.specs.Prelude.{EntryView, Token, TokensOnce, Welcome}
 use Rattle.session.specs.Prelude.{Setting, Change, Tx}
 use Rattle.server.specs.Prelude.{Rest, empty, after_events}
 use Rattle.world.specs.Good.{Often}
-use Rattle.world.specs.Prelude.{Connection, Said, SaysRow, SaysSummary, heard_as, said_version, bytes_delivered, heard_by_bytes, wish_of, World, ledger, taken_out, Reached, begins, goes_on, takes_out, IsLedger, Each, ExactlyOnce, Never, AtMostOnce, often, Stands as StandsInWorld, StandsOnce as OnceInWorld, is_success, tx_after, transaction, alone_after, alone, commit_of, before, change, change_for, said_within, delivered_whole, server_outcome, tellings_of, Definition, setting_of}
+use Rattle.world.specs.Prelude.{server_rest, Connection, Said, SaysRow, SaysSummary, heard_as, said_version, bytes_delivered, heard_by_bytes, wish_of, World, ledger, taken_out, Reached, begins, goes_on, takes_out, IsLedger, Each, ExactlyOnce, Never, AtMostOnce, often, Stands as StandsInWorld, StandsOnce as OnceInWorld, is_success, tx_after, transaction, alone_after, alone, commit_of, before, change, change_for, said_within, delivered_whole, server_outcome, tellings_of, Definition, setting_of}
 use Rattle.world.proofs.Headline.{all_good}
 use Rattle.world.proofs.Limits.{commits_once, grows_by_work}
 use Rattle.known.proofs.Tied.{tells_outcomes}
@@ -65,6 +65,10 @@ there : {A : Type 0} (xs : List A) (i : ℕ) → i < length xs → (x : A) × (s
 there [] i l = absurd (omega (arith, l))
 there (x ∷ xs) zero l = (x, refl)
 there (x ∷ xs) (suc i) l = there xs i (omega (arith, l))
+
+-- a number below the server's next is a connection of the world
+pub found_in : {G : Type 0} (answer : Definition) (welcomes : G → Welcome) (gate : G) (w : World) (after : Rest G) → server_rest gate w ≡ after → (c : ℕ) → c < after.next → (k : Connection) × (slice_get w.conns c ≡ Some k)
+found_in {G = G} answer welcomes gate w after e c l = there w.conns c (subst (λ n. c < n) (sym (ap (λ (z : Rest G). z.next) e)) l)
 
 -- what stands in a world
 once_in : (c i : ℕ) (w : World) (its : Change) (t : Token) → OnceInWorld c i w its t → StandsOnce c i w.since (ledger w) its t

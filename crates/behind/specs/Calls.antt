@@ -1,4 +1,4 @@
--- Lists of calls on a server as events of a world whose peers are foreign.
+-- Lists of calls on a server as events of a world. All its peers are foreign: they may send any bytes.
 use Rattle.std.specs.Prelude.{◌≡◌, ℕ, Option, Some, None, List, ◌∷◌, ◌++◌, map, slice_get}
 use Rattle.engine.specs.Views.{EntryView}
 use Rattle.engine.specs.Welcomes.{Welcome}
@@ -12,7 +12,7 @@ use Rattle.world.specs.Rests.{server_rest}
 use Rattle.world.specs.Contract.{Replays}
 use Rattle.world.specs.Turns.{Definition, setting_of}
 
--- the event that a call is if the peer is foreign; bytes that are taken out of a session reach its peer at once
+-- The event of the world that a call is, if the peer is foreign. Bytes that are taken out of a session reach its peer at once.
 abbrev pub event_of : Call → Event
 event_of opens = Opens Foreign
 event_of (feeds conn piece) = Feeds conn piece
@@ -21,24 +21,24 @@ event_of (takes conn max) = ToClient conn max
 event_of (noops conn) = PutsNoop conn
 event_of (loses conn) = ServerLost conn
 
--- a commit that a step told is of a ledger shorter than 2^63; if no session has the number, nothing was told
+-- If a step reports a commit, the ledger is shorter than 2^63. If no session has the number, there is no step.
 abbrev pub counted_if : {G : Type 0} → Option (Worked × Rest G) → Type 0
 counted_if None = Unit {0}
 counted_if (Some p) = IsCounted p.0
 
 module _ {G : Type 0} (answer : Definition) (welcomes : G → Welcome) where
-  -- Each commit that these calls told is of a ledger shorter than 2^63, as `work` promises.
+  -- The ledger is shorter than 2^63 at each commit that these calls report, as `work` promises.
   abbrev pub AreCounted : List Call → Rest G → Type 0
   AreCounted calls r = (before later : List Call) (conn : ℕ) → before ++ works conn ∷ later ≡ calls
       → counted_if (work_at answer welcomes conn (after_events answer welcomes before r))
 
-  -- A world of which the server is this one: its sessions keep what the connections tell, and the ledgers are one.
+  -- This is the server of a reached world: each session's state is that of its connection, and both have the same ledger.
   pub record IsBehind (gate : G) (brought : List EntryView) (r : Rest G) (w : World) : Type 0 where
     pub reached : Reached (setting_of answer welcomes gate) brought w
     pub server : server_rest gate w ≡ r
 
-  -- A world to which the events that these calls are lead, those left out that are refused, and of which the server is the one that the
-  -- calls led to. Each of its peers is foreign.
+  -- The events of these calls lead to a world, without those that the world refuses. The world's server is the one after the calls, and all peers are
+  -- foreign.
   pub record IsReplayed (gate : G) (ledger : List EntryView) (calls : List Call) : Type 0 where
     pub after : World
     pub replays : Replays (setting_of answer welcomes gate) (empty_world ledger) (map event_of calls)
@@ -47,7 +47,7 @@ module _ {G : Type 0} (answer : Definition) (welcomes : G → Welcome) where
     pub foreign : (conn : ℕ) (k : Connection) → slice_get after.conns conn ≡ Some k
         → k.peer ≡ Foreign
 
-  -- Every list of calls on a server that was made over a ledger is such a list of events.
+  -- Each list of calls on a server is such a list of events, if the server was made over a ledger.
   abbrev pub AreEvents : G → Type 0
   AreEvents gate = (ledger : List EntryView) (calls : List Call) → IsLedger ledger
       → AreCounted calls (empty ledger gate) → IsReplayed gate ledger calls

@@ -2,4 +2,5 @@ pub mod Calls
 pub mod Moments
 pub mod Runs
 pub mod Standing
+pub mod Fates
 pub mod Prelude

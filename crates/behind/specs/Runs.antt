@@ -1,4 +1,4 @@
--- Calls at both ends as runs of a world.
+-- Calls at both ends as a run of a world.
 use Rattle.std.specs.Prelude.{◌≡◌, ℕ, Option, Some, None, List, slice_get}
 use Rattle.wire.specs.declared.Wish.{Wish}
 use Rattle.engine.specs.Views.{EntryView}
@@ -13,8 +13,8 @@ use Rattle.behind.specs.Calls.{IsBehind}
 use Rattle.behind.specs.Moments.{Moment, server_calls, attempt_of, ArePlayed}
 
 module _ {G : Type 0} (answer : Definition) (welcomes : G → Welcome) where
-  -- A world of which the server is the one that the calls led to, and the connections of these clients are their attempts; each other peer
-  -- is foreign.
+  -- A world after the calls. Its server is the one after the calls, each of these clients is the connection with its number, and all other peers are
+  -- foreign.
   pub record IsRun (gate : G) (ours : ℕ → Option Wish) (ledger : List EntryView)
       (ms : List Moment) : Type 0 where
     pub after : World
@@ -25,7 +25,7 @@ module _ {G : Type 0} (answer : Definition) (welcomes : G → Welcome) where
     pub foreign : (conn : ℕ) (k : Connection) → ours conn ≡ None
         → slice_get after.conns conn ≡ Some k → k.peer ≡ Foreign
 
-  -- Calls on a server that was made over a ledger, and on these clients, are a run.
+  -- Calls on a server and on these clients are such a run, if the server was made over a ledger.
   abbrev pub AreRuns : G → (ℕ → Option Wish) → Type 0
   AreRuns gate ours = (ledger : List EntryView) (ms : List Moment) → IsLedger ledger
       → ArePlayed answer welcomes ours ms (empty ledger gate) → IsRun gate ours ledger ms

@@ -89,7 +89,7 @@ says_sent from to qs (Err (fault.Refused i c m)) s = s
 says_sent from to qs (Err (fault.Broken why)) s = s
 says_sent from to qs (Err fault.Memory) s = s
 
-pub all_said : (from to : Place) (qs : List RequestView) (mid asked : Stand) (broken : Result (Unit {0}) Break) (result : Result ℕ Fault) (first count : ℕ) → mid ≡ fresh from.stand → AsksAll mid asked qs None → Exchanges (place asked from.left from.written) to broken
+pub all_said : (from to : Place) (qs : List RequestView) (mid asked : Stand) (broken : Result (Unit {0}) Break) (result : Result ℕ Fault) (first count : ℕ) → mid ≡ fresh from.stand → AsksAll mid asked qs None → Exchanges (place asked from.given from.written) to broken
     → first ≡ next_ordinal mid.rest → count ≡ length qs → Told to.stand.account first count broken result → Says from to qs result
 all_said from to qs mid asked broken result first count m h x f n t =
     let same : asked ≡ asked_all (fresh from.stand) qs = h.1 ∙ ap (λ (z : Stand). asked_all z qs) m in
@@ -97,11 +97,11 @@ all_said from to qs mid asked broken result first count m h x f n t =
     says_sent from to qs result (record {
       broken = broken;
       accepted = subst (λ (z : Stand). AcceptsEach z qs) m h.0;
-      exchanged = subst (λ (z : Stand). Exchanges (place z from.left from.written) to broken) same x;
+      exchanged = subst (λ (z : Stand). Exchanges (place z from.given from.written) to broken) same x;
       told = subst (λ k. Told to.stand.account (next_ordinal from.stand.rest) k broken result) n (subst (λ k. Told to.stand.account k count broken result) at t);
     })
 
-pub none_said : (from to : Place) (qs : List RequestView) (mid stopped : Stand) (rule : SubmitFault) → mid ≡ fresh from.stand → StopsAt mid stopped qs rule → to ≡ place (given_up stopped) from.left from.written → IsNotSent from to qs rule
+pub none_said : (from to : Place) (qs : List RequestView) (mid stopped : Stand) (rule : SubmitFault) → mid ≡ fresh from.stand → StopsAt mid stopped qs rule → to ≡ place (given_up stopped) from.given from.written → IsNotSent from to qs rule
 none_said from to qs mid stopped rule m h e = record { stopped = stopped; stops = subst (λ (z : Stand). StopsAt z stopped qs rule) m h; unsent = e }
 
 -- those behind one that was accepted
@@ -109,7 +109,7 @@ pub asks_then : (from mid to : Stand) (q : RequestView) (qs : List RequestView) 
 asks_then from mid to q qs o e r a h = asks_behind from to q qs o e (subst (λ (z : Stand). AsksAll z to qs o) (stand_is mid (asked_stand from q) r a) h)
 
 -- no memory was left for the requests
-pub unasked_said : (A : Type 0) (from to : Place) (q : RequestView) (qs all : List RequestView) (f : Fault) → q ∷ qs ≡ all → f ≡ fault.NotSent SubmitFault.Memory → to ≡ place (given_up (fresh from.stand)) from.left from.written → Says {A = A} from to all (Err f)
+pub unasked_said : (A : Type 0) (from to : Place) (q : RequestView) (qs all : List RequestView) (f : Fault) → q ∷ qs ≡ all → f ≡ fault.NotSent SubmitFault.Memory → to ≡ place (given_up (fresh from.stand)) from.given from.written → Says {A = A} from to all (Err f)
 unasked_said A from to q qs all f e g h =
     subst (λ (z : Fault). Says {A = A} from to all (Err z)) (sym g)
     (record { stopped = fresh from.stand; stops = record { before = []; request = q; behind = qs; parts = sym e; accepted = tt; stays = refl; first = λ n. absurd (n refl) }; unsent = h })

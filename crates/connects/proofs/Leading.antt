@@ -5,6 +5,8 @@ use Rattle.wire.specs.Prelude.{takes, at_client, Item}
 use Rattle.messages.specs.Prelude.{RequestView}
 use Rattle.client.specs.declared.ClientFault.TheVariants as client_fault
 use Rattle.client.specs.Prelude.{Rest, Fed, used_of, feed_of, fed_item, fed_open, note_of, heard_as, hears_item, Feeds as FeedsPiece, call}
+use Rattle.client.proofs.Makes.{makes, spoiled_over}
+use Rattle.driver.specs.declared.faults.FeedFault.{FeedFault}
 use Rattle.driver.specs.declared.faults.FeedFault.TheVariants as feed_fault
 use Rattle.driver.specs.Feeding.{is_full, Tracked, with_answer, used_by, tracked_feed}
 use Rattle.driver.specs.Runs.{TrackedCall, Hears as HearsPiece, Sends, IsLost, TrackedRun, tracked_call, tracked_calls}
@@ -89,6 +91,31 @@ used_is s piece used e = go (is_full s.rest.knows s.account) e
     go : (b : Bool) → Ok used ≡ (let t : Tracked = (if b then record { rest = s.rest; account = s.account; answer = Err feed_fault.Full } else record { rest = (feed_of s.rest piece).rest; account = with_answer s.account (feed_of s.rest piece).answer; answer = used_by (feed_of s.rest piece).answer }) in t.answer) → (if b then 0 else used_of s.rest piece) ≡ used
     go true h = absurd cc
     go false h = opened s.rest.knows.over h
+
+-- a piece that isn't used, but for rows that have to be taken first, leaves a client that has ended
+pub refused_over : (s : Stand) (piece : List ℕ) (f : FeedFault) → Err f ≡ (tracked_feed s.rest s.account piece).answer → (f ≡ feed_fault.Full → ⊥) → (heard_stand s piece).rest.knows.over ≡ true
+refused_over s piece f e not_full = go (is_full s.rest.knows s.account) e
+  where
+    by_item : (r : Rest) (n : ℕ) (o : Option Item) → Err f ≡ used_by (fed_item r n o).answer → (fed_item r n o).rest.knows.over ≡ true
+    by_item r n None h = cc
+    by_item r n (Some y) h = by_bad (hears_item r.wish r.knows (heard_as r.knows.version y)).bad refl h
+      where
+        by_bad : (b : Bool) → (hears_item r.wish r.knows (heard_as r.knows.version y)).bad ≡ b
+            → Err f ≡ used_by (if b then Err client_fault.BadPeer else Ok (n, note_of (heard_as r.knows.version y) (hears_item r.wish r.knows (heard_as r.knows.version y))))
+            → (hears_item r.wish r.knows (heard_as r.knows.version y)).knows.over ≡ true
+        by_bad true bad k = spoiled_over r.wish r.knows (heard_as r.knows.version y) (hears_item r.wish r.knows (heard_as r.knows.version y)) (makes r.wish r.knows (heard_as r.knows.version y)) bad
+        by_bad false bad k = cc
+
+    opened : (b : Bool) → s.rest.knows.over ≡ b → Err f ≡ used_by (let g : Fed = (if b then record { rest = s.rest; answer = Err client_fault.Closed } else fed_open s.rest (takes at_client s.rest.item piece)) in g.answer)
+        → (let g : Fed = (if b then record { rest = s.rest; answer = Err client_fault.Closed } else fed_open s.rest (takes at_client s.rest.item piece)) in g.rest.knows.over) ≡ true
+    opened true o h = o
+    opened false o h = by_item (record s.rest { item = (takes at_client s.rest.item piece).rest }) (takes at_client s.rest.item piece).used (takes at_client s.rest.item piece).item h
+
+    go : (b : Bool)
+        → Err f ≡ (let t : Tracked = (if b then record { rest = s.rest; account = s.account; answer = Err feed_fault.Full } else record { rest = (feed_of s.rest piece).rest; account = with_answer s.account (feed_of s.rest piece).answer; answer = used_by (feed_of s.rest piece).answer }) in t.answer)
+        → (let t : Tracked = (if b then record { rest = s.rest; account = s.account; answer = Err feed_fault.Full } else record { rest = (feed_of s.rest piece).rest; account = with_answer s.account (feed_of s.rest piece).answer; answer = used_by (feed_of s.rest piece).answer }) in t.rest.knows.over) ≡ true
+    go true h = absurd (not_full cc)
+    go false h = opened s.rest.knows.over refl h
 
 -- by pieces, one after the other
 pub hears_none : (s : Stand) → Hears s s []

@@ -7,3 +7,4 @@ pub mod Trying
 pub mod Adding
 pub mod Columns
 pub mod Retried
+mod Walks

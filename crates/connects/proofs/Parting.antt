@@ -1,23 +1,24 @@
 -- Requests that are sent in parts, step by step.
-use Rattle.std.proofs.Common.{◌≡◌, refl, sym, ◌∙◌, ap, ap₂, subst, ℕ, zero, suc, ◌+◌, ◌-◌, ◌*◌, ◌<◌, ◌≤◌, ◌==◌, Bool, true, false, ◌||◌, if◌then◌else◌, Option, Some, None, Result, Ok, Err, List, [], ◌∷◌, ◌++◌, length, option_map, append_assoc, append-nil, inl, inr, ◌⊎◌, ⊎_elim, IsErrOf, IfOk, is_err, arith, length-append}
+use Rattle.std.proofs.Common.{◌≡◌, refl, sym, ◌∙◌, ap, ap₂, subst, ℕ, zero, suc, ◌+◌, ◌-◌, ◌*◌, ◌<◌, ◌≤◌, ◌==◌, Bool, true, false, ◌||◌, if◌then◌else◌, Option, Some, None, Result, Ok, Err, List, [], ◌∷◌, ◌++◌, length, option_map, append_assoc, append-nil, inl, inr, ◌⊎◌, ⊎_elim, IsErrOf, IfOk, IfErr, is_err, is_none, true≢false, arith, length-append}
 use Rattle.std.specs.Option.{option_or}
-use Rattle.std.specs.Io.KnownBytes.{Appends, Consumes}
-use Rattle.std.proofs.KnownBytes.{Appends-nil, Appends-trans, Consumes-nil, Consumes-trans}
+use Rattle.streams.specs.Moving.{Grows}
+use Rattle.streams.proofs.Moving.{Grows-nil, Grows-trans}
 use Rattle.std.proofs.lemmas.Bool.{cond-true, cond-false}
 use Rattle.std.proofs.lemmas.Bool.Decides.{nat_tests}
 use Rattle.wire.specs.Prelude.{bytes_in_order}
 use Rattle.messages.specs.Prelude.{RequestView}
 use Rattle.machine.specs.Limits.{max_waiting}
 use Rattle.client.specs.declared.Outcome.{Outcome}
+use Rattle.client.specs.declared.SubmitFault.{SubmitFault}
 use Rattle.client.specs.Prelude.{refuses, after_submit, asking_bytes}
 use Rattle.client.proofs.Runs.{texts_more}
 use Rattle.driver.specs.Account.{Account, ReplyView, with_losses, reply_in, outcome_of}
 use Rattle.driver.specs.Runs.{TrackedCall, Asks}
 use Rattle.connects.specs.declared.breaks.Break.{Break}
 use Rattle.connects.specs.declared.breaks.Break.TheVariants as break
-use Rattle.connects.specs.Prelude.{Stand, Leads, Place, place, IsWhole, Exchanges, asked_stand, is_done, or_undone, first_undone, is_whole, is_answered, IsQuiet, SendsPart, MakesRoom, SendsInParts}
+use Rattle.connects.specs.Prelude.{Stand, Leads, EndsBy, Place, place, Health, IsWhole, is_short, IsSeen, Exchanges, asked_stand, is_done, or_undone, first_undone, is_whole, is_answered, IsQuiet, IsUndone, WhyLeft, SendsPart, MakesRoom, SendsInParts}
 use Rattle.connects.proofs.Leading.{leads_nowhere, leads_on}
-use Rattle.connects.proofs.Reading.{stand_is, none_unheard, writes_or, Led, exchange_led}
+use Rattle.connects.proofs.Reading.{stand_is, none_unheard, writes_or, write_seen, Led, exchange_led}
 use Rattle.connects.proofs.Keeping.{hears_keeps, exchange_empties}
 use Rattle.connects.proofs.Asking.{leads_ask, accepted_open}
 
@@ -34,10 +35,10 @@ pub record SoSent (from now : Place) (before last : List RequestView) : Type 0 w
   pub unheard : List ℕ
   pub out : List ℕ
   pub leads : Leads from.stand calls now.stand (before ++ last) heard out false
-  pub input : Consumes from.left now.left (heard ++ unheard)
+  pub input : Grows from.given now.given (heard ++ unheard)
   pub quiet : IsWhole unheard now.stand
   pub is_open : 0 < length last → now.stand.rest.knows.over ≡ true → ⊥
-  pub written : Appends from.written now.written out
+  pub written : Grows from.written now.written out
   pub unsent : now.stand.rest.unsent ≡ bytes_in_order (asking_bytes now.stand.rest.knows.version) last
 
 pub none_sent : (from : Place) → IsQuiet from.stand → SoSent from from [] []
@@ -53,10 +54,10 @@ none_sent from q = record {
   unheard = [];
   out = [];
   leads = leads_nowhere from.stand;
-  input = Consumes-nil from.left;
+  input = Grows-nil from.given;
   quiet = inl refl;
   is_open = λ l. absurd (omega (arith, l));
-  written = Appends-nil from.written;
+  written = Grows-nil from.written;
   unsent = q.unsent;
 }
 
@@ -72,7 +73,7 @@ module _ (from now : Place) (before last : List RequestView) (s : SoSent from no
       (subst (λ bs. Leads from.stand (s.calls ++ Asks q ∷ []) (asked_stand now.stand q) ((before ++ last) ++ q ∷ []) (s.heard ++ []) bs false) (append-nil s.out)
       (leads_on s.calls (Asks q ∷ []) s.leads (leads_ask now.stand q accepted))))
 
-  one_asked : SoSent from (place (asked_stand now.stand q) now.left now.written) before (last ++ q ∷ [])
+  one_asked : SoSent from (place (asked_stand now.stand q) now.given now.written) before (last ++ q ∷ [])
   one_asked = record {
     parts = s.parts;
     whole = s.whole;
@@ -92,8 +93,8 @@ module _ (from now : Place) (before last : List RequestView) (s : SoSent from no
     unsent = ap (λ l. l ++ asking_bytes now.stand.rest.knows.version q) s.unsent ∙ sym (texts_more (asking_bytes now.stand.rest.knows.version) last q);
   }
 
-  pub one_sent : (new : Stand) → new.rest ≡ after_submit now.stand.rest q → new.account ≡ now.stand.account → SoSent from (place new now.left now.written) before (last ++ q ∷ [])
-  one_sent new r a = subst (λ (z : Stand). SoSent from (place z now.left now.written) before (last ++ q ∷ [])) (sym (stand_is new (asked_stand now.stand q) r a)) one_asked
+  pub one_sent : (new : Stand) → new.rest ≡ after_submit now.stand.rest q → new.account ≡ now.stand.account → SoSent from (place new now.given now.written) before (last ++ q ∷ [])
+  one_sent new r a = subst (λ (z : Stand). SoSent from (place z now.given now.written) before (last ++ q ∷ [])) (sym (stand_is new (asked_stand now.stand q) r a)) one_asked
 
 -- a reply stays, whatever is told behind it
 reply_stays : (i : ℕ) (rs more : List ReplyView) → is_done (option_map (λ (r : ReplyView). r.outcome) (reply_in i rs)) ≡ true → is_done (option_map (λ (r : ReplyView). r.outcome) (reply_in i (rs ++ more))) ≡ true
@@ -158,6 +159,16 @@ exchanged_longer from to (Err e) x = let k = hears_keeps x.converses.reads.hears
 pub exchanged_told : (from to : Place) → Exchanges from to (Ok tt) → to.stand.account.lost ≡ from.stand.account.lost
 exchanged_told from to x = ap (λ (s : Stand). s.account.lost) x.settles ∙ (hears_keeps x.converses.reads.hears).lost
 
+-- an exchange that was broken off leaves its client lost
+pub broken_undone : (from to : Place) (r : Result (Unit {0}) Break) (first count : ℕ) → is_err r ≡ true → Exchanges from to r → IsUndone r to.stand first count
+broken_undone from to (Ok u) first count e x = absurd (true≢false (sym e))
+broken_undone from to (Err why) first count e x = inl ((why, refl), (x.answered, x.settles))
+
+-- one was found that isn't done
+pub found_undone : (broken : Result (Unit {0}) Break) (to : Stand) (first count : ℕ) (o : Option ℕ) (done : Bool) → o ≡ first_undone (outcome_of to.account) first count → done ≡ is_none o → done ≡ false → IsUndone broken to first count
+found_undone broken to first count None done e d f = absurd (true≢false (sym d ∙ f))
+found_undone broken to first count (Some i) done e d f = inr (i, sym e)
+
 -- the last part is sent
 module _ (from now to : Place) (before last : List RequestView) (s : SoSent from now before last) (some : 0 < length last) where
   none_unread : s.unheard ≡ []
@@ -167,11 +178,11 @@ module _ (from now to : Place) (before last : List RequestView) (s : SoSent from
     led : Led now to r
     led = exchange_led now to r x
 
-    input : Consumes from.left to.left ((s.heard ++ led.heard) ++ led.unheard)
+    input : Grows from.given to.given ((s.heard ++ led.heard) ++ led.unheard)
     input =
         let whole : s.heard ++ s.unheard ≡ s.heard = ap (λ l. s.heard ++ l) none_unread ∙ append-nil s.heard in
-        subst (Consumes from.left to.left) (ap (λ l. l ++ (led.heard ++ led.unheard)) whole ∙ sym (append_assoc s.heard led.heard led.unheard))
-        (Consumes-trans from.left now.left to.left (s.heard ++ s.unheard) (led.heard ++ led.unheard) s.input led.input)
+        subst (Grows from.given to.given) (ap (λ l. l ++ (led.heard ++ led.unheard)) whole ∙ sym (append_assoc s.heard led.heard led.unheard))
+        (Grows-trans from.given now.given to.given (s.heard ++ s.unheard) (led.heard ++ led.unheard) s.input led.input)
 
     leads : Leads from.stand (s.calls ++ led.calls) to.stand (before ++ last) (s.heard ++ led.heard) (s.out ++ now.stand.rest.unsent) led.lost
     leads =
@@ -181,8 +192,21 @@ module _ (from now to : Place) (before last : List RequestView) (s : SoSent from
     stays : (i : ℕ) → i < length before → is_answered to.stand.account i ≡ true
     stays i l = let k = exchanged_longer now to r x in answer_stays now.stand.account to.stand.account k.0 i k.1 (s.done i l)
 
-    pub part_ended : (failed : Bool) → (IsErrOf r break.WriteFailed → failed ≡ true) → (later all : List RequestView) (n : ℕ) → is_whole last later ≡ true → all ≡ before ++ (last ++ later) → n ≡ length (before ++ last) → SendsInParts from to failed all n
-    part_ended failed fails later all n w asks count = record {
+    ends : is_short r ≡ false → (led.unheard ≡ []) ⊎ EndsBy from.stand (before ++ last) (s.heard ++ led.heard) (s.out ++ now.stand.rest.unsent)
+    ends k =
+        ⊎_elim (λ e. inl e)
+        (λ p. inr (
+          s.calls ++ p.0,
+          p.1,
+          subst (λ qs. Leads from.stand (s.calls ++ p.0) p.1 qs (s.heard ++ led.heard) (s.out ++ now.stand.rest.unsent) false) (append-nil (before ++ last)) (leads_on s.calls p.0 s.leads p.2),
+          p.3,
+        ))
+        (led.ends k)
+
+    pub part_ended : (health : Health) → IsSeen r health → (later all : List RequestView) (n : ℕ) → is_whole last later ≡ true → all ≡ before ++ (last ++ later) → n ≡ length (before ++ last) → WhyLeft to.stand before last later r → SendsInParts from to health all n r
+    part_ended health seen later all n w asks count why = record {
+      why = why;
+      seen = seen;
       before = before;
       last = last;
       later = later;
@@ -199,16 +223,17 @@ module _ (from now to : Place) (before last : List RequestView) (s : SoSent from
       lost = led.lost;
       leads = leads;
       input = input;
+      ends = ends;
       written =
-          ⊎_elim (λ a. inl (Appends-trans from.written now.written to.written s.out now.stand.rest.unsent s.written a))
-          (λ f. inr (fails f.0, (s.out ++ f.1.0, f.1.1, append_assoc s.out f.1.0 f.1.1 ∙ ap (λ l. s.out ++ l) f.1.2, Appends-trans from.written now.written to.written s.out f.1.0 s.written f.1.3)))
+          ⊎_elim (λ a. inl (Grows-trans from.written now.written to.written s.out now.stand.rest.unsent s.written a))
+          (λ f. inr (write_seen r health seen f.0, (s.out ++ f.1.0, f.1.1, append_assoc s.out f.1.0 f.1.1 ∙ ap (λ l. s.out ++ l) f.1.2, Grows-trans from.written now.written to.written s.out f.1.0 s.written f.1.3)))
           (writes_or now.stand.rest.unsent r now.written to.written x.converses.writes);
       unsent = exchange_empties now to r x ∙ sym (cond-true (is_whole last later) [] (bytes_in_order (asking_bytes to.stand.rest.knows.version) last) w);
     }
 
   -- and each of it is done
-  pub part_done : (failed : Bool) → length last ≡ max_waiting → SendsPart now to failed (length before) max_waiting true → SoSent from to (before ++ last) []
-  part_done failed full p =
+  pub part_done : (health : Health) (broken : Result (Unit {0}) Break) → length last ≡ max_waiting → SendsPart now to health (length before) max_waiting true broken → SoSent from to (before ++ last) []
+  part_done health broken full p =
       let done = p.is_done refl in
       let x : Exchanges now to (Ok tt) = subst (λ (r : Result (Unit {0}) Break). Exchanges now to r) done.0 p.exchanged in
       let told : to.stand.account.lost ≡ [] = exchanged_told now to x ∙ s.told in
@@ -233,7 +258,7 @@ module _ (from now to : Place) (before last : List RequestView) (s : SoSent from
         input = input (Ok tt) x;
         quiet = (led (Ok tt) x).whole;
         is_open = λ l. absurd (omega (arith, l));
-        written = Appends-trans from.written now.written to.written s.out now.stand.rest.unsent s.written x.converses.writes;
+        written = Grows-trans from.written now.written to.written s.out now.stand.rest.unsent s.written x.converses.writes;
         unsent = exchange_empties now to (Ok tt) x;
       }
     where
@@ -246,8 +271,10 @@ module _ (from now to : Place) (before last : List RequestView) (s : SoSent from
       lt_or_le (suc i) (suc n) = ⊎_elim (λ (m : i < n). inl (omega (arith, m))) (λ (m : n ≤ i). inr (omega (arith, m))) (lt_or_le i n)
 
 -- a request isn't accepted, and the last part never goes out
-pub stopped : (from now : Place) (before last : List RequestView) → SoSent from now before last → (failed : Bool) (q : RequestView) (behind all : List RequestView) (n : ℕ) → length last < max_waiting → all ≡ before ++ (last ++ q ∷ behind) → n ≡ length (before ++ last) → SendsInParts from now failed all n
-stopped from now before last s failed q behind all n room asks count = record {
+pub stopped : (from now : Place) (before last : List RequestView) → SoSent from now before last → (health : Health) (q : RequestView) (behind all : List RequestView) (n : ℕ) → length last < max_waiting → all ≡ before ++ (last ++ q ∷ behind) → n ≡ length (before ++ last) → (rule : SubmitFault) → ((rule ≡ SubmitFault.Memory → ⊥) → refuses now.stand.rest.knows q ≡ Some rule) → (broken : Result (Unit {0}) Break) → (rule ≡ SubmitFault.Memory → broken ≡ Err break.Memory) → IsSeen broken health → SendsInParts from now health all n broken
+stopped from now before last s health q behind all n room asks count rule first broken short seen = record {
+  seen = seen;
+  why = inr (inl (record { request = q; behind = behind; parts = refl; rule = rule; first = first; short = short }));
   before = before;
   last = last;
   later = q ∷ behind;
@@ -264,6 +291,7 @@ stopped from now before last s failed q behind all n room asks count = record {
   lost = false;
   leads = s.leads;
   input = s.input;
+  ends = λ _. ⊎_elim (λ e. inl e) (λ o. inr (s.calls, now.stand, s.leads, o)) s.quiet;
   written = inl s.written;
   unsent = s.unsent ∙ sym (cond-false (is_whole last (q ∷ behind)) [] (bytes_in_order (asking_bytes now.stand.rest.knows.version) last) (grind (arith, nat_tests)));
 }
@@ -281,6 +309,10 @@ pub record SoAsked (from now : Place) (qs : List RequestView) (n : ℕ) : Type 0
 pub ok_part : {T E : Type 0} (x : Result T E) (P : T → Type 0) → is_err x ≡ false → IfOk x P → (y : T) × P y
 ok_part (Ok y) P e h = (y, h)
 ok_part (Err f) P e h = cc
+
+pub err_part : {T E : Type 0} (x : Result T E) (P : E → Type 0) → is_err x ≡ true → IfErr x P → (y : E) × P y
+err_part (Ok y) P e h = cc
+err_part (Err f) P e h = (f, h)
 
 pub none_asked : (from : Place) → IsQuiet from.stand → SoAsked from from [] 0
 none_asked from q = record { before = []; last = []; parts = refl; count = refl; sent = none_sent from q; some = λ l. absurd (omega (arith, l)) }
@@ -302,8 +334,8 @@ full_first before last qs n e c f =
     let k : length qs ≡ length before + length last = ap length e ∙ length-append before last in
     omega (arith, c, k, f)
 
-pub room_made : (from now mid : Place) (qs : List RequestView) (n : ℕ) (failed room : Bool) → SoAsked from now qs n → MakesRoom now mid failed n room → room ≡ true → HasRoom from mid qs
-room_made from now mid qs n failed room s m has =
+pub room_made : (from now mid : Place) (qs : List RequestView) (n : ℕ) (health : Health) (room : Bool) (broken : Result (Unit {0}) Break) → SoAsked from now qs n → MakesRoom now mid health n room broken → room ≡ true → HasRoom from mid qs
+room_made from now mid qs n health room broken s m has =
     ⊎_elim
     (λ few.
     let k = ap length s.sent.waits in
@@ -321,7 +353,7 @@ room_made from now mid qs n failed room s m has =
       before = s.before ++ s.last;
       last = [];
       parts = s.parts ∙ sym (append-nil (s.before ++ s.last));
-      sent = part_done from now mid s.before s.last s.sent (omega (arith, f)) failed f (subst (λ k. SendsPart now mid failed k max_waiting true) (full_first s.before s.last qs n s.parts s.count f) (subst (λ b. SendsPart now mid failed (n - max_waiting) max_waiting b) has full.1));
+      sent = part_done from now mid s.before s.last s.sent (omega (arith, f)) health broken f (subst (λ k. SendsPart now mid health k max_waiting true broken) (full_first s.before s.last qs n s.parts s.count f) (subst (λ b. SendsPart now mid health (n - max_waiting) max_waiting b broken) has full.1));
       room = omega arith;
     })
     m
@@ -339,15 +371,16 @@ whole_end last = or_true (length last == max_waiting)
 behind_parts : (all qs before last later : List RequestView) → all ≡ qs ++ later → qs ≡ before ++ last → all ≡ before ++ (last ++ later)
 behind_parts all qs before last later e p = e ∙ ap (λ l. l ++ later) p ∙ append_assoc before last later
 
-pub no_room : (from now to : Place) (qs : List RequestView) (n : ℕ) (failed : Bool) → SoAsked from now qs n → (room : Bool) → MakesRoom now to failed n room → room ≡ false → (later all : List RequestView) → all ≡ qs ++ later → SendsInParts from to failed all n
-no_room from now to qs n failed s room m lacks later all e =
+pub no_room : (from now to : Place) (qs : List RequestView) (n : ℕ) (health : Health) → SoAsked from now qs n → (room : Bool) (broken : Result (Unit {0}) Break) → MakesRoom now to health n room broken → room ≡ false → (later all : List RequestView) → all ≡ qs ++ later → SendsInParts from to health all n broken
+no_room from now to qs n health s room broken m lacks later all e =
     ⊎_elim (λ few. let no : false ≡ true = sym lacks ∙ few.1.1 in cc)
     (λ full.
     let f = full_length from now s.before s.last s.sent full.0 in
-    part_ended from now to s.before s.last s.sent (omega (arith, f)) full.1.broken full.1.exchanged failed full.1.fails later all n (whole_full s.last later f) (behind_parts all qs s.before s.last later e s.parts) (s.count ∙ ap length s.parts))
+    part_ended from now to s.before s.last s.sent (omega (arith, f)) broken full.1.exchanged health full.1.seen later all n (whole_full s.last later f) (behind_parts all qs s.before s.last later e s.parts) (s.count ∙ ap length s.parts)
+    (inr (inr (f, subst (λ k. IsUndone broken to.stand k max_waiting) (full_first s.before s.last qs n s.parts s.count f) (full.1.is_undone lacks)))))
     m
 
-pub one_more : (from now : Place) (qs : List RequestView) (n : ℕ) → HasRoom from now qs → n ≡ length qs → (q : RequestView) (new : Stand) → refuses now.stand.rest.knows q ≡ None → new.rest ≡ after_submit now.stand.rest q → new.account ≡ now.stand.account → SoAsked from (place new now.left now.written) (qs ++ q ∷ []) (n + 1)
+pub one_more : (from now : Place) (qs : List RequestView) (n : ℕ) → HasRoom from now qs → n ≡ length qs → (q : RequestView) (new : Stand) → refuses now.stand.rest.knows q ≡ None → new.rest ≡ after_submit now.stand.rest q → new.account ≡ now.stand.account → SoAsked from (place new now.given now.written) (qs ++ q ∷ []) (n + 1)
 one_more from now qs n h c q new accepted r a = record {
   before = h.before;
   last = h.last ++ q ∷ [];
@@ -357,11 +390,11 @@ one_more from now qs n h c q new accepted r a = record {
   some = λ _. let k = longer h.last q in omega (arith, k);
 }
 
-pub none_more : (from now : Place) (qs : List RequestView) (n : ℕ) (failed : Bool) → HasRoom from now qs → n ≡ length qs → (q : RequestView) (behind all : List RequestView) → all ≡ qs ++ q ∷ behind → (new : Stand) → new ≡ now.stand → SendsInParts from (place new now.left now.written) failed all n
-none_more from now qs n failed h c q behind all e new same =
-    subst (λ (z : Stand). SendsInParts from (place z now.left now.written) failed all n) (sym same)
-    (stopped from now h.before h.last h.sent failed q behind all n h.room (behind_parts all qs h.before h.last (q ∷ behind) e h.parts) (c ∙ ap length h.parts))
+pub none_more : (from now : Place) (qs : List RequestView) (n : ℕ) (health : Health) → HasRoom from now qs → n ≡ length qs → (q : RequestView) (behind all : List RequestView) → all ≡ qs ++ q ∷ behind → (new : Stand) → new ≡ now.stand → (rule : SubmitFault) → ((rule ≡ SubmitFault.Memory → ⊥) → refuses now.stand.rest.knows q ≡ Some rule) → (broken : Result (Unit {0}) Break) → (rule ≡ SubmitFault.Memory → broken ≡ Err break.Memory) → IsSeen broken health → SendsInParts from (place new now.given now.written) health all n broken
+none_more from now qs n health h c q behind all e new same rule first broken short seen =
+    subst (λ (z : Stand). SendsInParts from (place z now.given now.written) health all n broken) (sym same)
+    (stopped from now h.before h.last h.sent health q behind all n h.room (behind_parts all qs h.before h.last (q ∷ behind) e h.parts) (c ∙ ap length h.parts) rule first broken short seen)
 
-pub all_sent : (from now to : Place) (qs : List RequestView) (n : ℕ) (failed : Bool) → SoAsked from now qs n → 0 < length qs → (r : Result (Unit {0}) Break) → Exchanges now to r → (IsErrOf r break.WriteFailed → failed ≡ true) → SendsInParts from to failed qs n
-all_sent from now to qs n failed s l r x fails =
-    part_ended from now to s.before s.last s.sent (s.some l) r x failed fails [] qs n (whole_end s.last) (behind_parts qs qs s.before s.last [] (sym (append-nil qs)) s.parts) (s.count ∙ ap length s.parts)
+pub all_sent : (from now to : Place) (qs : List RequestView) (n : ℕ) (health : Health) → SoAsked from now qs n → 0 < length qs → (r : Result (Unit {0}) Break) → Exchanges now to r → IsSeen r health → SendsInParts from to health qs n r
+all_sent from now to qs n health s l r x seen =
+    part_ended from now to s.before s.last s.sent (s.some l) r x health seen [] qs n (whole_end s.last) (behind_parts qs qs s.before s.last [] (sym (append-nil qs)) s.parts) (s.count ∙ ap length s.parts) (inl refl)

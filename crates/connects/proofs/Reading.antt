@@ -1,9 +1,10 @@
 -- What comes of an exchange, part by part.
-use Rattle.std.proofs.Common.{◌≡◌, refl, sym, ◌∙◌, ap, ap₂, subst, ℕ, Bool, true, false, Option, Result, Ok, Err, List, [], ◌∷◌, ◌++◌, length, map, take, drop, append_assoc, append-nil, true≢false, inl, inr, ◌⊎◌, ⊎_elim, is_err, OnErr, IsErrOf}
-use Rattle.std.specs.Io.KnownBytes.{Appends, Consumes, Keeps}
-use Rattle.std.proofs.KnownBytes.{Consumes-kept, Consumes-nil, Consumes-trans}
+use Rattle.std.proofs.Common.{◌≡◌, refl, sym, ◌∙◌, ap, ap₂, subst, ℕ, Bool, true, false, Result, Ok, Err, List, [], ◌∷◌, ◌++◌, length, map, take, drop, append_assoc, append-nil, true≢false, inl, inr, ◌⊎◌, ⊎_elim, is_err, OnErr, IsErrOf}
+use Rattle.streams.specs.Moving.{Grows}
+use Rattle.messages.specs.Prelude.{RequestView}
+use Rattle.streams.proofs.Moving.{Grows-kept, Grows-nil, Grows-trans}
 use Rattle.client.specs.Prelude.{Knows, Rest, awaits}
-use Rattle.streams.specs.Prelude.{AppendsFront}
+use Rattle.streams.specs.Prelude.{MovesFront}
 use Rattle.streams.proofs.Parts.{fed_more}
 use Rattle.driver.specs.declared.faults.FeedFault.{FeedFault}
 use Rattle.driver.specs.declared.faults.FeedFault.TheVariants as feed_fault
@@ -12,8 +13,8 @@ use Rattle.driver.specs.Feeding.{tracked_feed, UnlessMemory}
 use Rattle.driver.specs.Runs.{TrackedCall, Hears as HearsPiece, Sends, IsLost}
 use Rattle.connects.specs.declared.breaks.Break.{Break}
 use Rattle.connects.specs.declared.breaks.Break.TheVariants as break
-use Rattle.connects.specs.Prelude.{Stand, Leads, heard_count, heard_stand, lost_stand, emptied_stand, Place, place, Hears, IsWhole, Unbroken, Feeds, ReadsOn, Writes, PutsOut, Ends, Converses, Exchanges}
-use Rattle.connects.proofs.Leading.{leads_on, leads_out, leads_lost, used_is, hears_none, hears_on, hears_piece}
+use Rattle.connects.specs.Prelude.{Stand, Leads, EndsBy, heard_count, heard_stand, lost_stand, emptied_stand, Place, place, Health, Hears, IsWhole, break_by, is_short, IsSeen, Unbroken, Feeds, ReadsOn, Writes, PutsOut, Ends, Converses, Exchanges}
+use Rattle.connects.proofs.Leading.{leads_on, leads_out, leads_lost, used_is, refused_over, hears_none, hears_on, hears_piece}
 
 pub stand_is : (a b : Stand) → a.rest ≡ b.rest → a.account ≡ b.account → a ≡ b
 stand_is a b e f = ap₂ (λ (r : Rest) (z : Account). let s : Stand = record { rest = r; account = z } in s) e f
@@ -35,49 +36,52 @@ part_on {from = from} {now = now} {piece = piece} {rest = rest} p new used later
 }
 
 -- what a refusal of a piece leaves
-pub part_refused : {from now : Stand} {piece rest : List ℕ} → PartHeard from now piece rest → (new : Stand) (f : FeedFault) (e : Break)
+pub part_refused : {from now : Stand} {piece rest : List ℕ} → PartHeard from now piece rest → (new : Stand) (f : FeedFault)
     → UnlessMemory (Err f) ((Err f ≡ (tracked_feed now.rest now.account rest).answer) × ((new.rest ≡ (tracked_feed now.rest now.account rest).rest) × (new.account ≡ (tracked_feed now.rest now.account rest).account)))
-    → (IsErrOf {T = ℕ} (Err f) feed_fault.Memory → (new.rest ≡ now.rest) × (new.account ≡ now.account)) → Feeds from new piece (Err e)
-part_refused {from = from} {now = now} {piece = piece} {rest = rest} p new f e h m = go f h m
+    → (IsErrOf {T = ℕ} (Err f) feed_fault.Memory → (new.rest ≡ now.rest) × (new.account ≡ now.account)) → Feeds from new piece (Err (break_by f))
+part_refused {from = from} {now = now} {piece = piece} {rest = rest} p new f h m = go f h m
   where
     used : ℕ
     used = heard_count now rest
 
-    some : new ≡ heard_stand now rest → Feeds from new piece (Err e)
-    some s = record {
+    some : (e : Break) → new ≡ heard_stand now rest → (is_short (Err e) ≡ false → new.rest.knows.over ≡ true) → Feeds from new piece (Err e)
+    some e s over = record {
       heard = p.heard ++ take used rest;
       unheard = drop used rest;
       parts = sym (fed_more p.heard rest (drop used rest) piece used p.parts refl);
       hears = hears_on p.hears (subst (λ z. Hears now z (take used rest)) (sym s) (hears_piece now rest));
-      whole = tt;
+      whole = λ k. inr (over k);
     }
 
-    none : new ≡ now → Feeds from new piece (Err e)
-    none s = record { heard = p.heard; unheard = rest; parts = sym p.parts; hears = subst (λ z. Hears from z p.heard) (sym s) p.hears; whole = tt }
+    none : new ≡ now → Feeds from new piece (Err break.Memory)
+    none s = record { heard = p.heard; unheard = rest; parts = sym p.parts; hears = subst (λ z. Hears from z p.heard) (sym s) p.hears; whole = λ k. absurd (true≢false k) }
+
+    over : (g : FeedFault) → new ≡ heard_stand now rest → Err g ≡ (tracked_feed now.rest now.account rest).answer → (g ≡ feed_fault.Full → ⊥) → new.rest.knows.over ≡ true
+    over g s h n = ap (λ (z : Stand). z.rest.knows.over) s ∙ refused_over now rest g h n
 
     go : (f : FeedFault) → UnlessMemory (Err f) ((Err f ≡ (tracked_feed now.rest now.account rest).answer) × ((new.rest ≡ (tracked_feed now.rest now.account rest).rest) × (new.account ≡ (tracked_feed now.rest now.account rest).account)))
-        → (IsErrOf {T = ℕ} (Err f) feed_fault.Memory → (new.rest ≡ now.rest) × (new.account ≡ now.account)) → Feeds from new piece (Err e)
+        → (IsErrOf {T = ℕ} (Err f) feed_fault.Memory → (new.rest ≡ now.rest) × (new.account ≡ now.account)) → Feeds from new piece (Err (break_by f))
     go feed_fault.Memory h m = let k = m refl in none (stand_is new now k.0 k.1)
-    go feed_fault.Closed h m = some (stand_is new (heard_stand now rest) h.1.0 h.1.1)
-    go feed_fault.BadPeer h m = some (stand_is new (heard_stand now rest) h.1.0 h.1.1)
-    go feed_fault.Full h m = some (stand_is new (heard_stand now rest) h.1.0 h.1.1)
+    go feed_fault.Closed h m = let s = stand_is new (heard_stand now rest) h.1.0 h.1.1 in some break.Ended s (λ _. over feed_fault.Closed s h.0 (λ e. cc))
+    go feed_fault.BadPeer h m = let s = stand_is new (heard_stand now rest) h.1.0 h.1.1 in some break.BadAnswer s (λ _. over feed_fault.BadPeer s h.0 (λ e. cc))
+    go feed_fault.Full h m = some break.TooManyRows (stand_is new (heard_stand now rest) h.1.0 h.1.1) (λ k. absurd (true≢false k))
 
 -- the end of the piece, or of the client
 pub part_done : {from now : Stand} {piece rest : List ℕ} → PartHeard from now piece rest → IsWhole rest now → Feeds from now piece (Ok tt)
-part_done {rest = rest} p w = record { heard = p.heard; unheard = rest; parts = sym p.parts; hears = p.hears; whole = w }
+part_done {rest = rest} p w = record { heard = p.heard; unheard = rest; parts = sym p.parts; hears = p.hears; whole = λ _. w }
 
 -- a piece that was read
-pub reads_piece : {from to : Stand} {left left_now : Option (List ℕ)} {piece : List ℕ} {result : Result (Unit {0}) Break} → Consumes left left_now piece → Feeds from to piece result → ReadsOn from to left left_now result
-reads_piece {left = left} {left_now = left_now} c f = record { heard = f.heard; unheard = f.unheard; input = subst (Consumes left left_now) f.parts c; hears = f.hears; whole = f.whole }
+pub reads_piece : {from to : Stand} {left given_now : List ℕ} {piece : List ℕ} {result : Result (Unit {0}) Break} → Grows left given_now piece → Feeds from to piece result → ReadsOn from to left given_now result
+reads_piece {left = left} {given_now = given_now} c f = record { heard = f.heard; unheard = f.unheard; input = subst (Grows left given_now) f.parts c; hears = f.hears; whole = f.whole }
 
-pub reads_none : (s : Stand) (left : Option (List ℕ)) → ReadsOn s s left left (Ok tt)
-reads_none s left = record { heard = []; unheard = []; input = Consumes-nil left; hears = hears_none s; whole = inl refl }
+pub reads_none : (s : Stand) (left : List ℕ) → ReadsOn s s left left (Ok tt)
+reads_none s left = record { heard = []; unheard = []; input = Grows-nil left; hears = hears_none s; whole = λ _. inl refl }
 
-pub reads_kept : (s : Stand) (left left_now : Option (List ℕ)) (e : Break) → Keeps left left_now → ReadsOn s s left left_now (Err e)
-reads_kept s left left_now e k = record { heard = []; unheard = []; input = Consumes-kept left left left_now [] (Consumes-nil left) k; hears = hears_none s; whole = tt }
+pub reads_kept : (s : Stand) (left given_now : List ℕ) (e : Break) → given_now ≡ left → ReadsOn s s left given_now (Err e)
+reads_kept s left given_now e k = record { heard = []; unheard = []; input = Grows-kept left given_now k; hears = hears_none s; whole = λ _. inl refl }
 
-pub reads_empty : (s : Stand) (left left_now : Option (List ℕ)) (e : Break) → Consumes left left_now [] → ReadsOn s s left left_now (Err e)
-reads_empty s left left_now e c = record { heard = []; unheard = []; input = c; hears = hears_none s; whole = tt }
+pub reads_empty : (s : Stand) (left given_now : List ℕ) (e : Break) → Grows left given_now [] → ReadsOn s s left given_now (Err e)
+reads_empty s left given_now e c = record { heard = []; unheard = []; input = c; hears = hears_none s; whole = λ _. inl refl }
 
 pub awaits_open : (k : Knows) → awaits k ≡ true → k.over ≡ true → ⊥
 awaits_open k e o = let f : awaits k ≡ false = rw o refl in true≢false (sym e ∙ f)
@@ -85,13 +89,13 @@ awaits_open k e o = let f : awaits k ≡ false = rw o refl in true≢false (sym 
 pub none_unheard : (unheard : List ℕ) (s : Stand) → IsWhole unheard s → (s.rest.knows.over ≡ true → ⊥) → unheard ≡ []
 none_unheard unheard s w still_open = ⊎_elim (λ e. e) (λ o. absurd (still_open o)) w
 
-pub reads_on : {a b c : Stand} {l m n : Option (List ℕ)} {result : Result (Unit {0}) Break} → ReadsOn a b l m (Ok tt) → (b.rest.knows.over ≡ true → ⊥) → ReadsOn b c m n result → ReadsOn a c l n result
+pub reads_on : {a b c : Stand} {l m n : List ℕ} {result : Result (Unit {0}) Break} → ReadsOn a b l m (Ok tt) → (b.rest.knows.over ≡ true → ⊥) → ReadsOn b c m n result → ReadsOn a c l n result
 reads_on {a = a} {b = b} {c = c} {l = l} {m = m} {n = n} f still_open g =
-    let all : f.heard ++ f.unheard ≡ f.heard = ap (λ z. f.heard ++ z) (none_unheard f.unheard b f.whole still_open) ∙ append-nil f.heard in
+    let all : f.heard ++ f.unheard ≡ f.heard = ap (λ z. f.heard ++ z) (none_unheard f.unheard b (f.whole refl) still_open) ∙ append-nil f.heard in
     record {
       heard = f.heard ++ g.heard;
       unheard = g.unheard;
-      input = subst (Consumes l n) (ap (λ z. z ++ (g.heard ++ g.unheard)) all ∙ sym (append_assoc f.heard g.heard g.unheard)) (Consumes-trans l m n (f.heard ++ f.unheard) (g.heard ++ g.unheard) f.input g.input);
+      input = subst (Grows l n) (ap (λ z. z ++ (g.heard ++ g.unheard)) all ∙ sym (append_assoc f.heard g.heard g.unheard)) (Grows-trans l m n (f.heard ++ f.unheard) (g.heard ++ g.unheard) f.input g.input);
       hears = hears_on f.hears g.hears;
       whole = g.whole;
     }
@@ -102,7 +106,7 @@ on_err (Ok t) P e h = absurd (true≢false (sym e))
 on_err (Err f) P e h = h
 
 -- what was written whole stays so, whatever comes of the reading
-pub written_then : (out : List ℕ) (r : Result (Unit {0}) Break) (a b : Option (List ℕ)) → (IsErrOf r break.WriteFailed → ⊥) → Appends a b out → Writes out r a b
+pub written_then : (out : List ℕ) (r : Result (Unit {0}) Break) (a b : List ℕ) → (IsErrOf r break.WriteFailed → ⊥) → Grows a b out → Writes out r a b
 written_then out (Ok u) a b sound h = h
 written_then out (Err break.ReadFailed) a b sound h = h
 written_then out (Err break.WriteFailed) a b sound h = absurd (sound refl)
@@ -113,7 +117,7 @@ written_then out (Err break.Ended) a b sound h = h
 written_then out (Err break.TooManyRows) a b sound h = h
 
 -- all of it was written, or the sink failed
-pub writes_or : (out : List ℕ) (r : Result (Unit {0}) Break) (a b : Option (List ℕ)) → Writes out r a b → Appends a b out ⊎ (IsErrOf r break.WriteFailed × AppendsFront a b out)
+pub writes_or : (out : List ℕ) (r : Result (Unit {0}) Break) (a b : List ℕ) → Writes out r a b → Grows a b out ⊎ (IsErrOf r break.WriteFailed × MovesFront a b out)
 writes_or out (Ok u) a b h = inl h
 writes_or out (Err break.ReadFailed) a b h = inl h
 writes_or out (Err break.WriteFailed) a b h = inr (refl, h)
@@ -123,9 +127,33 @@ writes_or out (Err break.AtEnd) a b h = inl h
 writes_or out (Err break.Ended) a b h = inl h
 writes_or out (Err break.TooManyRows) a b h = inl h
 
+-- a break is true of the stream that it blames
+pub seen_by : (r : Result (Unit {0}) Break) (h : Health) → (IsErrOf r break.AtEnd → h.ended ≡ true) → (IsErrOf r break.ReadFailed → h.read_failed ≡ true) → (IsErrOf r break.WriteFailed → h.write_failed ≡ true) → IsSeen r h
+seen_by (Ok u) h e f w = tt
+seen_by (Err break.ReadFailed) h e f w = f refl
+seen_by (Err break.WriteFailed) h e f w = w refl
+seen_by (Err break.Memory) h e f w = tt
+seen_by (Err break.BadAnswer) h e f w = tt
+seen_by (Err break.AtEnd) h e f w = e refl
+seen_by (Err break.Ended) h e f w = tt
+seen_by (Err break.TooManyRows) h e f w = tt
+
+-- if the sink is blamed, it has failed
+pub write_seen : (r : Result (Unit {0}) Break) (h : Health) → IsSeen r h → IsErrOf r break.WriteFailed → h.write_failed ≡ true
+write_seen r h s e = subst (λ (z : Result (Unit {0}) Break). IsSeen z h) e s
+
 -- it is a beginning of the output
-pub writes_front : (out : List ℕ) (r : Result (Unit {0}) Break) (a b : Option (List ℕ)) → Writes out r a b → AppendsFront a b out
+pub writes_front : (out : List ℕ) (r : Result (Unit {0}) Break) (a b : List ℕ) → Writes out r a b → MovesFront a b out
 writes_front out r a b h = ⊎_elim (λ w. (out, [], append-nil out, w)) (λ f. f.1) (writes_or out r a b h)
+
+-- all was heard, or calls lead to where the client has ended
+ends_or : {from to : Stand} {asked : List RequestView} {bytes out : List ℕ} (unheard : List ℕ) (cs : List TrackedCall) → Leads from cs to asked bytes out false → IsWhole unheard to → (unheard ≡ []) ⊎ EndsBy from asked bytes out
+ends_or {to = to} unheard cs l w = ⊎_elim (λ e. inl e) (λ o. inr (cs, to, l, o)) w
+
+-- up to where nothing is lost yet
+led_ahead : (from to : Stand) (heard : List ℕ) (h : Hears (emptied_stand from) to heard) → Leads from (Sends (length from.rest.unsent) ∷ map HearsPiece h.pieces) to [] heard from.rest.unsent false
+led_ahead from to heard h = subst (λ out. Leads from (Sends (length from.rest.unsent) ∷ map HearsPiece h.pieces) to [] heard out false) (append-nil from.rest.unsent)
+    (leads_on (Sends (length from.rest.unsent) ∷ []) (map HearsPiece h.pieces) (leads_out from) h.leads)
 
 -- an exchange leads on by calls
 pub record Led (from to : Place) (r : Result (Unit {0}) Break) : Type 0 where
@@ -134,9 +162,10 @@ pub record Led (from to : Place) (r : Result (Unit {0}) Break) : Type 0 where
   pub unheard : List ℕ
   pub lost : Bool
   pub leads : Leads from.stand calls to.stand [] heard from.stand.rest.unsent lost
-  pub input : Consumes from.left to.left (heard ++ unheard)
+  pub input : Grows from.given to.given (heard ++ unheard)
   pub whole : Unbroken r (IsWhole unheard to.stand)
   pub unlost : Unbroken r (lost ≡ false)
+  pub ends : is_short r ≡ false → (unheard ≡ []) ⊎ EndsBy from.stand [] heard from.stand.rest.unsent
 
 pub exchange_led : (from to : Place) (r : Result (Unit {0}) Break) → Exchanges from to r → Led from to r
 exchange_led from to (Ok u) x =
@@ -152,8 +181,9 @@ exchange_led from to (Ok u) x =
           (subst (λ out. Leads from.stand calls x.answered [] heard out false) (append-nil unsent)
           (leads_on (Sends (length unsent) ∷ []) (map HearsPiece x.converses.reads.hears.pieces) (leads_out from.stand) x.converses.reads.hears.leads));
       input = x.converses.reads.input;
-      whole = subst (λ (s : Stand). IsWhole x.converses.reads.unheard s) (sym x.settles) x.converses.reads.whole;
+      whole = subst (λ (s : Stand). IsWhole x.converses.reads.unheard s) (sym x.settles) (x.converses.reads.whole refl);
       unlost = refl;
+      ends = λ k. ends_or x.converses.reads.unheard calls (led_ahead from.stand x.answered heard x.converses.reads.hears) (x.converses.reads.whole k);
     }
 exchange_led from to (Err e) x =
     let pieces = map HearsPiece x.converses.reads.hears.pieces in
@@ -172,28 +202,20 @@ exchange_led from to (Err e) x =
       input = x.converses.reads.input;
       whole = tt;
       unlost = tt;
+      ends = λ k. ends_or x.converses.reads.unheard (Sends (length from.stand.rest.unsent) ∷ pieces) (led_ahead from.stand x.answered heard x.converses.reads.hears) (x.converses.reads.whole k);
     }
 
-pub ends_not : (e : Break) (s : Stand) (left : Option (List ℕ)) → (e ≡ break.AtEnd → ⊥) → Ends (Err e) s left
-ends_not break.ReadFailed s left n = tt
-ends_not break.WriteFailed s left n = tt
-ends_not break.Memory s left n = tt
-ends_not break.BadAnswer s left n = tt
-ends_not break.AtEnd s left n = absurd (n refl)
-ends_not break.Ended s left n = tt
-ends_not break.TooManyRows s left n = tt
-
 -- where the output wasn't written whole, nothing is read
-pub says_unwritten : (from : Place) (s : Stand) (written : Option (List ℕ)) (e : Break) → (e ≡ break.AtEnd → ⊥) → PutsOut from.stand s from.written written (Err e) → Converses from (place s from.left written) (Err e)
-says_unwritten from s written e n h = record {
+pub says_unwritten : (from : Place) (s : Stand) (written : List ℕ) (e : Break) → PutsOut from.stand s from.written written (Err e) → Converses from (place s from.given written) (Err e)
+says_unwritten from s written e h = record {
   writes = h.0;
-  reads = subst (λ (z : Stand). ReadsOn (emptied_stand from.stand) z from.left from.left (Err e)) (sym h.1) (reads_empty (emptied_stand from.stand) from.left from.left e (Consumes-nil from.left));
-  ends = ends_not e s from.left n;
+  reads = subst (λ (z : Stand). ReadsOn (emptied_stand from.stand) z from.given from.given (Err e)) (sym h.1) (reads_empty (emptied_stand from.stand) from.given from.given e (Grows-nil from.given));
+  ends = tt;
 }
 
-pub says_written : (from : Place) (mid to : Stand) (left written : Option (List ℕ)) (r : Result (Unit {0}) Break) → PutsOut from.stand mid from.written written (Ok tt) → (IsErrOf r break.WriteFailed → ⊥) → ReadsOn mid to from.left left r → Ends r to left → Converses from (place to left written) r
+pub says_written : (from : Place) (mid to : Stand) (left written : List ℕ) (r : Result (Unit {0}) Break) → PutsOut from.stand mid from.written written (Ok tt) → (IsErrOf r break.WriteFailed → ⊥) → ReadsOn mid to from.given left r → Ends r to → Converses from (place to left written) r
 says_written from mid to left written r h n x e = record {
   writes = written_then from.stand.rest.unsent r from.written written n h.0;
-  reads = subst (λ (z : Stand). ReadsOn z to from.left left r) h.1 x;
+  reads = subst (λ (z : Stand). ReadsOn z to from.given left r) h.1 x;
   ends = e;
 }

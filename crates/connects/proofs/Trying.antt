@@ -1,41 +1,53 @@
 -- What an attempt over streams tells.
-use Rattle.std.proofs.Common.{◌≡◌, refl, sym, ◌∙◌, ap, subst, ℕ, suc, Bool, true, false, ◌||◌, Option, Some, None, Result, Ok, Err, List, [], ◌∷◌, ◌++◌, ◌<◌, if◌then◌else◌, length, slice_get, option_map, append_assoc, append-nil, is_err, inl, inr, ⊎_elim, arith}
+use Rattle.std.proofs.Common.{◌≡◌, refl, sym, ◌∙◌, ap, ap₂, subst, ℕ, suc, Bool, true, false, ◌||◌, Option, Some, None, Result, Ok, Err, List, [], ◌∷◌, ◌++◌, ◌<◌, if◌then◌else◌, length, slice_get, option_map, append_assoc, append-nil, is_err, true≢false, inl, inr, ◌⊎◌, ⊎_elim, IsErrOf, arith}
 use Rattle.std.proofs.lemmas.List.{append_cancel_right}
-use Rattle.std.specs.Io.KnownBytes.{Consumes}
-use Rattle.std.proofs.KnownBytes.{Consumes-trans, Appends-trans}
+use Rattle.streams.specs.Moving.{Grows}
+use Rattle.streams.proofs.Moving.{Grows-trans}
 use Rattle.wire.specs.declared.Wish.{Wish}
 use Rattle.wire.specs.declared.Version.{Version}
 use Rattle.wire.specs.Prelude.{offer_of, bytes_in_order}
 use Rattle.messages.specs.declared.Count.TheVariants as counts
 use Rattle.messages.specs.Prelude.{RequestView}
-use Rattle.client.specs.Rest.{begun, asking_bytes}
+use Rattle.client.specs.Client.{knows_of, reading_of}
+use Rattle.client.specs.Rest.{Knows, asking_bytes}
 use Rattle.client.specs.Moments.{put_out, IsByBytes}
-use Rattle.streams.specs.Prelude.{AppendsFront}
+use Rattle.streams.specs.Prelude.{MovesFront}
 use Rattle.driver.specs.declared.attempts.Tells.{Tells}
 use Rattle.driver.specs.declared.attempts.Tells.TheVariants as tells_variant
-use Rattle.driver.specs.Account.{Account, ReplyView, untold, failure_of, reply_in}
+use Rattle.driver.specs.Account.{Account, ReplyView, failure_of, reply_in}
 use Rattle.driver.specs.Attempts.{Made, read, told_of, tells}
 use Rattle.driver.specs.Telling.{is_clash, any_final, tells_of}
 use Rattle.driver.specs.Runs.{TrackedCall, IsLost, TrackedRun, tracking, tracked_calls, attempt_of}
 use Rattle.driver.proofs.Accounts.{accounts_by_bytes, run_by_bytes}
 use Rattle.driver.proofs.Joined.{account_tells}
 use Rattle.connects.specs.declared.breaks.Break.{Break}
-use Rattle.connects.specs.Prelude.{Stand, GoesOn, Leads, lost_stand, Place, Exchanges, is_done, IsWritten, is_whole, gone, is_answered, IsQuiet, SendsInParts, AskedView, requests_of, asks_of, greeting, Streams, streams, TellsOf}
+use Rattle.connects.specs.declared.breaks.Break.TheVariants as break
+use Rattle.connects.specs.Prelude.{Stand, GoesOn, Leads, EndsBy, lost_stand, Place, place, Health, is_short, IsSeen, Exchanges, is_done, IsWritten, is_whole, gone, is_answered, IsQuiet, SendsInParts, WhyLeft, AskedView, requests_of, asks_of, greeting, Streams, streams, at_first, has_ended, TellsOf}
 use Rattle.connects.proofs.Leading.{leads_on, leads_lost}
 use Rattle.connects.proofs.Reading.{none_unheard, writes_front, Led, exchange_led}
 use Rattle.connects.proofs.Parting.{answered_done, losses_replies, exchanged_told}
 use Rattle.connects.proofs.Keeping.{exchange_empties}
 
--- where a client has just been made
-abbrev pub at_first : Wish → ℕ → Stand
-at_first wish limit = record { rest = begun wish; account = untold limit }
+-- memory was short, and nothing went out but the offer
+pub none_short : (a : AskedView) (from to : Streams) → MovesFront from.written to.written (offer_of a.wish) → TellsOf a from to tells_variant.Nothing (Err break.Memory)
+none_short a from to front = (None, refl, λ conn. inl (refl, front))
 
--- nothing went out but the offer
-pub none_begun : (a : AskedView) (from to : Streams) → AppendsFront from.written to.written (offer_of a.wish) → TellsOf a from to tells_variant.Nothing
-none_begun a from to front conn = (None, refl, front)
+-- the exchange of the offer led to no version
+pub none_begun : (a : AskedView) (from to : Place) (health health_then : Health) (broken : Result (Unit {0}) Break) → from.stand ≡ at_first a.wish 0 → Exchanges from to broken → IsSeen broken health_then → (broken ≡ Ok tt → to.stand.rest.knows.over ≡ true)
+    → TellsOf a (streams from.given from.written health) (streams to.given to.written health_then) tells_variant.Nothing broken
+none_begun a from to health health_then broken start x seen ends = (
+  None,
+  refl,
+  λ conn. inr (record {
+    heard = to.stand;
+    exchanged = subst (λ (s : Stand). Exchanges (place s from.given from.written) (place to.stand to.given to.written) broken) start x;
+    seen = seen;
+    ends = ends;
+  }),
+)
 
-pub offer_front : (wish : Wish) (from to : Place) (r : Result (Unit {0}) Break) → Exchanges from to r → from.stand ≡ at_first wish 0 → AppendsFront from.written to.written (offer_of wish)
-offer_front wish from to r x e = subst (λ (s : Stand). AppendsFront from.written to.written s.rest.unsent) e (writes_front from.stand.rest.unsent r from.written to.written x.converses.writes)
+pub offer_front : (wish : Wish) (from to : Place) (r : Result (Unit {0}) Break) → Exchanges from to r → from.stand ≡ at_first wish 0 → MovesFront from.written to.written (offer_of wish)
+offer_front wish from to r x e = subst (λ (s : Stand). MovesFront from.written to.written s.rest.unsent) e (writes_front from.stand.rest.unsent r from.written to.written x.converses.writes)
 
 last_of : (xs : List RequestView) (y : RequestView) → slice_get (xs ++ y ∷ []) (length xs) ≡ Some y
 last_of [] y = refl
@@ -82,7 +94,7 @@ some_requests a true = omega arith
 some_requests a false = omega arith
 
 module _ (a : AskedView) (login : Bool) (from heard done : Place) (start : from.stand ≡ at_first a.wish 0) (first : Exchanges from heard (Ok tt)) (still_open : heard.stand.rest.knows.over ≡ true → ⊥)
-    (failed had : Bool) (n : ℕ) (s : SendsInParts heard done failed (requests_of login a) n) (commit : ℕ) (count : length (requests_of login a) ≡ suc commit) (told : Tells) (tell : told ≡ tells_of (lost_stand done.stand).account commit n) where
+    (health had : Health) (n : ℕ) (broken : Result (Unit {0}) Break) (s : SendsInParts heard done health (requests_of login a) n broken) (commit : ℕ) (count : length (requests_of login a) ≡ suc commit) (told : Tells) (tell : told ≡ tells_of (lost_stand done.stand).account commit n) where
   one : Led from heard (Ok tt)
   one = exchange_led from heard (Ok tt) first
 
@@ -116,11 +128,11 @@ module _ (a : AskedView) (login : Bool) (from heard done : Place) (start : from.
   took : run.run.took ≡ one.heard ++ s.heard
   took = goes.took ∙ ap (λ l. one.heard ++ l) (append-nil s.heard)
 
-  input : Consumes from.left done.left ((one.heard ++ s.heard) ++ s.unheard)
+  input : Grows from.given done.given ((one.heard ++ s.heard) ++ s.unheard)
   input =
       let whole : one.heard ++ one.unheard ≡ one.heard = ap (λ l. one.heard ++ l) (none_unheard one.unheard heard.stand one.whole still_open) ∙ append-nil one.heard in
-      subst (Consumes from.left done.left) (ap (λ l. l ++ (s.heard ++ s.unheard)) whole ∙ sym (append_assoc one.heard s.heard s.unheard))
-      (Consumes-trans from.left heard.left done.left (one.heard ++ one.unheard) (s.heard ++ s.unheard) one.input s.input)
+      subst (Grows from.given done.given) (ap (λ l. l ++ (s.heard ++ s.unheard)) whole ∙ sym (append_assoc one.heard s.heard s.unheard))
+      (Grows-trans from.given heard.given done.given (one.heard ++ one.unheard) (s.heard ++ s.unheard) one.input s.input)
 
   by_bytes : IsByBytes a.wish run.run
   by_bytes = run_by_bytes a.wish 0 calls
@@ -129,12 +141,12 @@ module _ (a : AskedView) (login : Bool) (from heard done : Place) (start : from.
   version = (read (attempt_of a.wish run.run)).version
 
   -- what went out is the offer and the requests of each part that was asked whole
+  came : run.run.out ≡ offer ++ s.out
+  came = goes.put ∙ ap (λ l. offer ++ l) (append-nil s.out)
+
   puts : offer ++ s.out ≡ put_out a.wish version (gone s.before s.last s.later)
   puts = go (is_whole s.last s.later) left
     where
-      out : run.run.out ≡ offer ++ s.out
-      out = goes.put ∙ ap (λ l. offer ++ l) (append-nil s.out)
-
       text : RequestView → List ℕ
       text = asking_bytes version
 
@@ -145,7 +157,7 @@ module _ (a : AskedView) (login : Bool) (from heard done : Place) (start : from.
       left = ap (λ (z : Stand). z.rest.unsent) goes.stands ∙ s.unsent ∙ ap (λ v. if is_whole s.last s.later then [] else bytes_in_order (asking_bytes v) s.last) same
 
       all : (offer ++ s.out) ++ run.run.rest.unsent ≡ put_out a.wish version sent
-      all = ap (λ l. l ++ run.run.rest.unsent) (sym out) ∙ by_bytes.out ∙ ap (put_out a.wish version) sent_is
+      all = ap (λ l. l ++ run.run.rest.unsent) (sym came) ∙ by_bytes.out ∙ ap (put_out a.wish version) sent_is
 
       go : (b : Bool) → run.run.rest.unsent ≡ (if b then [] else bytes_in_order text s.last) → offer ++ s.out ≡ put_out a.wish version (if b then sent else s.before)
       go true e = sym (append-nil (offer ++ s.out)) ∙ ap (λ l. (offer ++ s.out) ++ l) (sym e) ∙ all
@@ -153,10 +165,10 @@ module _ (a : AskedView) (login : Bool) (from heard done : Place) (start : from.
           append_cancel_right (offer ++ s.out) (put_out a.wish version s.before) (bytes_in_order text s.last)
           (ap (λ l. (offer ++ s.out) ++ l) (sym e) ∙ all ∙ ap (λ l. offer_of a.wish ++ l) (bytes_append text s.before s.last) ∙ sym (append_assoc (offer_of a.wish) (bytes_in_order text s.before) (bytes_in_order text s.last)))
 
-  written : IsWritten from.written done.written failed (offer ++ s.out)
+  written : IsWritten from.written done.written health.write_failed (offer ++ s.out)
   written =
-      ⊎_elim (λ w. inl (Appends-trans from.written heard.written done.written offer s.out first.converses.writes w))
-      (λ f. inr (f.0, (offer ++ f.1.0, f.1.1, append_assoc offer f.1.0 f.1.1 ∙ ap (λ l. offer ++ l) f.1.2, Appends-trans from.written heard.written done.written offer f.1.0 first.converses.writes f.1.3)))
+      ⊎_elim (λ w. inl (Grows-trans from.written heard.written done.written offer s.out first.converses.writes w))
+      (λ f. inr (f.0, (offer ++ f.1.0, f.1.1, append_assoc offer f.1.0 f.1.1 ∙ ap (λ l. offer ++ l) f.1.2, Grows-trans from.written heard.written done.written offer f.1.0 first.converses.writes f.1.3)))
       s.written
 
   tells_it : (conn : ℕ) → tells (made conn run) ≡ told
@@ -171,12 +183,35 @@ module _ (a : AskedView) (login : Bool) (from heard done : Place) (start : from.
       let answered : is_answered run.account i ≡ true = ap (λ rs. is_done (option_map (λ (r : ReplyView). r.outcome) (reply_in i rs))) (ap (λ (z : Account). z.replies) account ∙ losses_replies done.stand.account _) ∙ s.done i l in
       ap is_done (sym (accounts_by_bytes a.wish 0 calls i)) ∙ answered_done run.account i answered
 
-  pub attempted : TellsOf a (streams from.left from.written had) (streams done.left done.written failed) told
-  attempted conn = (
-    Some (made conn run),
-    tells_it conn,
-    record {
+  -- all was heard, or by these bytes the client has ended
+  ended : is_short broken ≡ false → (s.unheard ≡ []) ⊎ (has_ended (attempt_of a.wish run.run) ≡ true)
+  ended k =
+      ⊎_elim (λ e. inl e)
+      (λ p.
+      let before = one.calls ++ p.0 in
+      let y : TrackedRun = tracked_calls (tracking a.wish 0) before in
+      let h : GoesOn (tracking a.wish 0) y p.1 ([] ++ sent) (one.heard ++ s.heard) (offer ++ s.out) (one.lost || false) = leads_on one.calls p.0 one.leads p.2 (tracking a.wish 0) (sym start) in
+      let sent_then : y.run.sent ≡ run.run.sent = h.sent ∙ sym sent_is in
+      let took_then : y.run.took ≡ run.run.took = h.took ∙ sym took in
+      let open_then : y.run.lost ≡ false = h.lose ∙ ap (λ b. b || false) one.unlost in
+      let over : y.run.rest.knows.over ≡ true = ap (λ (z : Stand). z.rest.knows.over) h.stands ∙ p.3 in
+      let by : y.run.rest.knows ≡ knows_of (reading_of a.wish y.run.sent y.run.took) y.run.sent y.run.lost = (run_by_bytes a.wish 0 before).knows in
+      let same : knows_of (reading_of a.wish y.run.sent y.run.took) y.run.sent y.run.lost ≡ knows_of (reading_of a.wish run.run.sent run.run.took) run.run.sent false
+      = ap₂ (λ qs bs. knows_of (reading_of a.wish qs bs) qs y.run.lost) sent_then took_then ∙ ap (λ l. knows_of (reading_of a.wish run.run.sent run.run.took) run.run.sent l) open_then in
+      inr (sym (ap (λ (z : Knows). z.over) (by ∙ same)) ∙ over))
+      (s.ends k)
+
+  pub attempted : TellsOf a (streams from.given from.written had) (streams done.given done.written health) told broken
+  attempted = (
+    Some (calls, commit),
+    tells_it 0,
+    λ conn. record {
       sent = record {
+        asked = one.calls ++ s.calls;
+        calls = calls;
+        at_last = sym (append_assoc one.calls s.calls (IsLost ∷ []));
+        why = subst (λ (z : Stand). WhyLeft z s.before s.last s.later broken) (sym ((leads_on one.calls s.calls one.leads s.leads) (tracking a.wish 0) (sym start)).stands) s.why;
+        is = refl;
         login = login;
         before = s.before;
         last = s.last;
@@ -192,12 +227,20 @@ module _ (a : AskedView) (login : Bool) (from heard done : Place) (start : from.
         lost = goes.lose ∙ or_lost one.lost s.lost;
         at = refl;
       };
-      written = subst (IsWritten from.written done.written failed) puts written;
+      seen = s.seen;
+      written = subst (IsWritten from.written done.written health.write_failed) puts written;
+      puts = came ∙ puts;
       unheard = s.unheard;
-      took = subst (λ l. Consumes from.left done.left (l ++ s.unheard)) (sym took) input;
+      took = subst (λ l. Grows from.given done.given (l ++ s.unheard)) (sym took) input;
+      ends = ended;
     },
   )
 
 pub ok_of : (x : Result (Unit {0}) Break) → is_err x ≡ false → x ≡ Ok tt
 ok_of (Ok u) e = refl
 ok_of (Err e) h = cc
+
+-- where it broke off, it isn't that it didn't
+pub none_over : {P : Type 0} (x : Result (Unit {0}) Break) → is_err x ≡ true → x ≡ Ok tt → P
+none_over (Ok u) e h = absurd (true≢false (sym e))
+none_over (Err f) e h = absurd cc

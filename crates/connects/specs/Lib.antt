@@ -9,3 +9,5 @@ pub mod Values
 pub mod Attempting
 pub mod Prelude
 pub mod Retrying
+pub mod Logged
+pub mod Stepping

@@ -1,29 +1,30 @@
--- Requests that are sent in parts, each as one pipeline of at most as many as may wait.
-use Rattle.std.specs.Prelude.{◌≡◌, ◌⊎◌, ℕ, ◌-◌, ◌*◌, ◌<◌, ◌≤◌, ◌==◌, Bool, true, ◌||◌, if◌then◌else◌, Option, None, option_map, Result, Ok, List, [], ◌++◌, length, IsErrOf}
-use Rattle.std.specs.Io.KnownBytes.{Appends, Consumes}
+-- Requests that are sent in parts. Each part is one pipeline, of at most as many requests as may be pending.
+use Rattle.std.specs.Prelude.{◌≡◌, ◌⊎◌, ℕ, ◌-◌, ◌*◌, ◌<◌, ◌≤◌, ◌==◌, Bool, true, false, ◌||◌, if◌then◌else◌, Some, None, option_map, Result, Ok, Err, List, [], ◌∷◌, ◌++◌, length}
+use Rattle.streams.specs.Moving.{Grows}
 use Rattle.wire.specs.Framing.{bytes_in_order}
 use Rattle.messages.specs.View.{RequestView}
 use Rattle.machine.specs.Limits.{max_waiting}
-use Rattle.client.specs.Rest.{asking_bytes}
-use Rattle.streams.specs.Fronts.{AppendsFront}
+use Rattle.client.specs.declared.SubmitFault.{SubmitFault}
+use Rattle.client.specs.Rest.{refuses, asking_bytes}
+use Rattle.streams.specs.Moving.{MovesFront}
 use Rattle.driver.specs.Account.{Account, reply_in, outcome_of}
 use Rattle.driver.specs.Runs.{TrackedCall}
 use Rattle.connects.specs.declared.breaks.Break.{Break}
 use Rattle.connects.specs.declared.breaks.Break.TheVariants as break
-use Rattle.connects.specs.Stands.{Stand, Leads, Place}
-use Rattle.connects.specs.Exchanges.{Exchanges}
+use Rattle.connects.specs.Stands.{Stand, Leads, EndsBy, lost_stand, Place, Health}
+use Rattle.connects.specs.Exchanges.{is_short, IsSeen, Exchanges}
 use Rattle.connects.specs.Pipelines.{is_done, first_undone}
 
--- These bytes were written, all of them; or the sink has failed, and it took a beginning of them.
-abbrev pub IsWritten : Option (List ℕ) → Option (List ℕ) → Bool → List ℕ → Type 0
+-- All these bytes were written; or the sink has failed, and it took a prefix of them.
+abbrev pub IsWritten : List ℕ → List ℕ → Bool → List ℕ → Type 0
 IsWritten before after failed bytes =
-    Appends before after bytes ⊎ ((failed ≡ true) × AppendsFront before after bytes)
+    Grows before after bytes ⊎ ((failed ≡ true) × MovesFront before after bytes)
 
--- a part is asked whole where as many requests are in it as may wait, or none is left behind it
+-- a part is complete if it has as many requests as may be pending, or no request is left after it
 abbrev pub is_whole : List RequestView → List RequestView → Bool
 is_whole last later = length last == max_waiting || length later == 0
 
--- which requests go out: those of the parts before the last, and those of the last, if that is asked whole
+-- the requests that go out: those of the parts before the last, and those of the last if it is complete
 abbrev pub gone : List RequestView → List RequestView → List RequestView → List RequestView
 gone before last later = if is_whole last later then before ++ last else before
 
@@ -31,33 +32,58 @@ gone before last later = if is_whole last later then before ++ last else before
 abbrev pub is_answered : Account → ℕ → Bool
 is_answered a i = is_done (option_map (λ r. r.outcome) (reply_in i a.replies))
 
--- nothing waits, to be answered or to go out, and nothing was lost
+-- no request is pending, no byte is to be sent, and no request was lost
 pub record IsQuiet (s : Stand) : Type 0 where
   pub waits : s.rest.knows.waiting ≡ []
   pub unsent : s.rest.unsent ≡ []
   pub lost : s.account.lost ≡ []
 
--- What waits was sent; done: and each of so many requests from an ordinal on is done.
-pub record SendsPart (from to : Place) (failed : Bool) (first count : ℕ) (done : Bool) : Type 0 where
-  pub broken : Result (Unit {0}) Break
+-- their exchange was broken off, and the client is lost; or one of so many requests from an ordinal on isn't done
+abbrev pub IsUndone : Result (Unit {0}) Break → Stand → ℕ → ℕ → Type 0
+IsUndone broken to first count =
+    (((why : Break) × (broken ≡ Err why)) × ((answered : Stand) × (to ≡ lost_stand answered)))
+    ⊎ ((i : ℕ) × (first_undone (outcome_of to.account) first count ≡ Some i))
+
+-- The pending requests were sent, or this broke it off. done: each of so many requests from an ordinal on is done.
+pub record SendsPart (from to : Place) (health : Health) (first count : ℕ) (done : Bool) (broken : Result (Unit {0}) Break) : Type 0 where
   pub exchanged : Exchanges from to broken
-  pub fails : IsErrOf broken break.WriteFailed → failed ≡ true
+  pub seen : IsSeen broken health
   pub is_done : done ≡ true
       → (broken ≡ Ok tt) × (first_undone (outcome_of to.stand.account) first count ≡ None)
+  pub is_undone : done ≡ false → IsUndone broken to.stand first count
 
--- There is room for one request more behind so many, if fewer wait than may; else there is where the part that waits was sent and is done.
-abbrev pub MakesRoom : Place → Place → Bool → ℕ → Bool → Type 0
-MakesRoom from to failed asked room =
+-- One more request can be submitted after so many: fewer are pending than may be, or the pending part was sent and each of it is done.
+abbrev pub MakesRoom : Place → Place → Health → ℕ → Bool → Result (Unit {0}) Break → Type 0
+MakesRoom from to health asked room broken =
     ((length from.stand.rest.knows.waiting < max_waiting) × ((to ≡ from) × (room ≡ true)))
     ⊎ ((max_waiting ≤ length from.stand.rest.knows.waiting)
-    × SendsPart from to failed (asked - max_waiting) max_waiting room)
+    × SendsPart from to health (asked - max_waiting) max_waiting room broken)
+
+-- Why the first of these requests wasn't accepted. If memory ran out, that is reported.
+pub record IsRefused (s : Stand) (later : List RequestView) (broken : Result (Unit {0}) Break) : Type 0 where
+  pub request : RequestView
+  pub behind : List RequestView
+  pub parts : later ≡ request ∷ behind
+  pub rule : SubmitFault
+  pub first : (rule ≡ SubmitFault.Memory → ⊥) → refuses s.rest.knows request ≡ Some rule
+  pub short : rule ≡ SubmitFault.Memory → broken ≡ Err break.Memory
+
+-- Why requests are left that weren't submitted: the first of them isn't accepted; or the part before them was sent and isn't done. broken: the
+-- reported reason.
+abbrev pub WhyLeft : Stand → List RequestView → List RequestView → List RequestView → Result (Unit {0}) Break → Type 0
+WhyLeft to before last later broken = (later ≡ []) ⊎ (IsRefused to later broken
+    ⊎ ((length last ≡ max_waiting) × IsUndone broken to (length before) max_waiting))
 
 -- So many of the requests were accepted. Those of whole parts were done before the part behind them was asked; what is left wasn't asked.
-pub record SendsInParts (from to : Place) (failed : Bool) (all : List RequestView) (n : ℕ) : Type 0 where
+-- broken: why the last exchange was broken off, or want of memory for a request. All that was read was heard, up to the client's end, unless
+-- memory or room for rows was short.
+pub record SendsInParts (from to : Place) (health : Health) (all : List RequestView) (n : ℕ) (broken : Result (Unit {0}) Break) : Type 0 where
   pub before : List RequestView
   pub last : List RequestView
   pub later : List RequestView
   pub asks : all ≡ before ++ (last ++ later)
+  pub why : WhyLeft to.stand before last later broken
+  pub seen : IsSeen broken health
   pub count : n ≡ length (before ++ last)
   pub parts : ℕ
   pub whole : length before ≡ max_waiting * parts
@@ -69,7 +95,8 @@ pub record SendsInParts (from to : Place) (failed : Bool) (all : List RequestVie
   pub out : List ℕ
   pub lost : Bool
   pub leads : Leads from.stand calls to.stand (before ++ last) heard out lost
-  pub input : Consumes from.left to.left (heard ++ unheard)
-  pub written : IsWritten from.written to.written failed out
+  pub input : Grows from.given to.given (heard ++ unheard)
+  pub ends : is_short broken ≡ false → (unheard ≡ []) ⊎ EndsBy from.stand (before ++ last) heard out
+  pub written : IsWritten from.written to.written health.write_failed out
   pub unsent : to.stand.rest.unsent ≡ (if is_whole last later then []
       else bytes_in_order (asking_bytes to.stand.rest.knows.version) last)

@@ -60,7 +60,7 @@ first_undone told first zero = None
 first_undone told first (suc n) = or_undone (first_undone told first n) (first + n) (told (first + n))
 
 -- What is answered of so many requests from an ordinal on: Ok where each is told to be done; else by the first that isn't, which was
--- refused, or the exchange was broken off. Of a refusal its text may want memory.
+-- refused, or the exchange was broken off. Memory may lack for the text of a refusal alone.
 abbrev pub Told : {A : Type 0} → Account → ℕ → ℕ → Result (Unit {0}) Break → Result A Fault → Type 0
 Told a first count broken (Ok x) = first_undone (outcome_of a) first count ≡ None
 Told a first count broken (Err (fault.Refused i code message)) =
@@ -69,7 +69,8 @@ Told a first count broken (Err (fault.Refused i code message)) =
 Told a first count broken (Err (fault.Broken why)) =
     (i : ℕ) × (first_undone (outcome_of a) first count ≡ Some i) × (failure_of a i ≡ None)
     × (why ≡ result_err broken)
-Told a first count broken (Err fault.Memory) = Unit {0}
+Told a first count broken (Err fault.Memory) =
+    (i : ℕ) × (first_undone (outcome_of a) first count ≡ Some i) × (failure : List ℕ × List ℕ) × (failure_of a i ≡ Some failure)
 Told a first count broken (Err (fault.NotSent rule)) = ⊥
 
 -- what was told before is forgotten, if nothing waits
@@ -81,7 +82,7 @@ pub record Sent {A : Type 0} (from to : Place) (qs : List RequestView) (result :
     : Type 0 where
   pub broken : Result (Unit {0}) Break
   pub accepted : AcceptsEach (fresh from.stand) qs
-  pub exchanged : Exchanges (place (asked_all (fresh from.stand) qs) from.left from.written) to broken
+  pub exchanged : Exchanges (place (asked_all (fresh from.stand) qs) from.given from.written) to broken
   pub told : Told to.stand.account (next_ordinal from.stand.rest) (length qs) broken result
 
 -- If requests wait that were accepted, the client is lost, so that their bytes never go out.
@@ -92,7 +93,7 @@ given_up s = if is_idle s.rest.knows then s else lost_stand s
 pub record IsNotSent (from to : Place) (qs : List RequestView) (rule : SubmitFault) : Type 0 where
   pub stopped : Stand
   pub stops : StopsAt (fresh from.stand) stopped qs rule
-  pub unsent : to ≡ place (given_up stopped) from.left from.written
+  pub unsent : to ≡ place (given_up stopped) from.given from.written
 
 -- These were asked as one pipeline, and this is what is answered.
 abbrev pub Says : {A : Type 0} → Place → Place → List RequestView → Result A Fault → Type 0

@@ -1,8 +1,10 @@
-//! One attempt of a transaction under a token.
+//! Makes one attempt of a transaction under a token.
 ghost use Rattle.std.specs.Prelude.{◌≡◌, ◌<◌, IfOk, Some, map};
 ghost use Rattle.messages.specs.View.{request_view};
+ghost use Rattle.connects.specs.Stands.{health};
 ghost use Rattle.connects.specs.Attempting.{asked_view, requests_of, streams, TellsOf};
 
+use crate::breaks::Break;
 use crate::exchanging::exchange;
 use crate::parts::send_in_parts;
 use crate::queries::{Query, add_queries, greeting, is_login_in_hello};
@@ -12,7 +14,7 @@ use std::alloc::{AllocError, Global};
 use streams::{Sink, Source};
 use wire::Wish;
 
-/// What each attempt asks: over which versions and with which login, and which queries in one transaction, under which token.
+/// A transaction under a token, and the versions and the login that each attempt offers.
 #[derive(Drop)]
 pub struct Asked {
     pub wish: Wish,
@@ -23,7 +25,15 @@ pub struct Asked {
     pub queries: Vec<Query>,
 }
 
-/// Its requests.
+/// The result of an attempt. `broken` says why its last exchange was broken off, if it was; it is also `Memory` if memory ran out for the client
+/// or for a request.
+#[derive(Drop)]
+pub struct Attempted {
+    pub tells: Tells,
+    pub broken: Result<(), Break>,
+}
+
+/// Returns the requests of an attempt.
 fn requests_of(alloc: Global, asked: &Asked, has_login: bool) -> Result<Vec<Request>, AllocError>
     ensures { IfOk result (λ v. map request_view v.items ≡ requests_of has_login (asked_view asked.now)) }
 {
@@ -43,36 +53,58 @@ fn requests_of(alloc: Global, asked: &Asked, has_login: bool) -> Result<Vec<Requ
     Ok(requests)
 }
 
-/// Makes an attempt over streams of which nothing was read or written yet, and answers what it tells: the version is heard, and then the greeting,
-/// BEGIN under the token, the queries, whose rows are dropped, and COMMIT are sent in parts of at most 32 requests, each as one pipeline.
+/// Makes an attempt over streams on which nothing was read or written yet. Returns what the attempt says of the transaction.
 ///
-/// A part goes out once each of its requests is accepted, and none behind it is asked unless each is done: so COMMIT goes out only then. The bytes
-/// of what goes out are written whole, unless the sink fails.
+/// It negotiates the version. Then it sends the greeting, BEGIN under the token, the queries and COMMIT, in parts of at most 32 requests, each part
+/// as one pipeline. The rows are discarded.
+///
+/// A part is sent when each of its requests is accepted. The next part is sent only if each request so far succeeded, so COMMIT goes out only
+/// then. All bytes of a part are written, unless the sink fails. The client processes all bytes that are read, up to its end, unless memory runs
+/// out.
 pub fn attempt_over<I: Source, O: Sink>(
     alloc: Global,
     asked: &Asked,
     source: &mut I,
     sink: &mut O,
-) -> Tells
+) -> Attempted
     ensures { TellsOf (asked_view asked.now)
-        (streams (I.left source.old) (O.taken sink.old) (O.has_failed sink.old))
-        (streams (I.left source.new) (O.taken sink.new) (O.has_failed sink.new)) result }
+        (streams (I.given source.old) (O.put sink.old)
+        (health (I.has_ended source.old) (I.has_failed source.old) (O.has_failed sink.old)))
+        (streams (I.given source.new) (O.put sink.new)
+        (health (I.has_ended source.new) (I.has_failed source.new) (O.has_failed sink.new))) result.tells result.broken }
 {
     let Ok(mut tracking) = TrackingClient::new(alloc, asked.wish, 0) else {
-        return Tells::Nothing;
+        return Attempted {
+            tells: Tells::Nothing,
+            broken: Err(Break::Memory),
+        };
     };
-    if exchange(&mut tracking, source, sink).is_err() {
-        return Tells::Nothing;
+    let broken = exchange(&mut tracking, source, sink);
+    if broken.is_err() {
+        return Attempted {
+            tells: Tells::Nothing,
+            broken,
+        };
     }
     if tracking.has_ended() {
-        return Tells::Nothing;
+        return Attempted {
+            tells: Tells::Nothing,
+            broken,
+        };
     }
     let has_login = is_login_in_hello(tracking.version());
     let Ok(requests) = requests_of(alloc, asked, has_login) else {
-        return Tells::Nothing;
+        return Attempted {
+            tells: Tells::Nothing,
+            broken: Err(Break::Memory),
+        };
     };
     let commit = requests.len() as u64 - 1;
-    let count = send_in_parts(&mut tracking, source, sink, requests);
+    let sent = send_in_parts(&mut tracking, source, sink, requests);
     tracking.lost();
-    tracking.tells(commit, count)
+    let tells = tracking.tells(commit, sent.asked);
+    Attempted {
+        tells,
+        broken: sent.broken,
+    }
 }

@@ -63,8 +63,8 @@ impl<S: Source + Drop, T: Sink + Drop> Connection<S, T> {
     /// Offers the versions, hears which is taken, and logs in by its greeting: HELLO, with the login below 5.1, and LOGON behind it at 5.1.
     pub fn open(&mut self, agent: String, auth: Auth) -> Result<(), Fault>
         ensures { Opens
-            (place (stand_of self.old.tracking) (S.left self.old.source) (T.taken self.old.sink))
-            (place (stand_of self.new.tracking) (S.left self.new.source) (T.taken self.new.sink))
+            (place (stand_of self.old.tracking) (S.given self.old.source) (T.put self.old.sink))
+            (place (stand_of self.new.tracking) (S.given self.new.source) (T.put self.new.sink))
             (string_bytes agent) (auth_view auth) result }
     {
         match exchange(&mut self.tracking, &mut self.source, &mut self.sink) {
@@ -76,8 +76,8 @@ impl<S: Source + Drop, T: Sink + Drop> Connection<S, T> {
     /// Greets by the version that is known.
     fn greet(&mut self, agent: String, auth: Auth) -> Result<(), Fault>
         ensures { Says
-            (place (stand_of self.old.tracking) (S.left self.old.source) (T.taken self.old.sink))
-            (place (stand_of self.new.tracking) (S.left self.new.source) (T.taken self.new.sink))
+            (place (stand_of self.old.tracking) (S.given self.old.source) (T.put self.old.sink))
+            (place (stand_of self.new.tracking) (S.given self.new.source) (T.put self.new.sink))
             (greeting (is_login_in_hello (stand_of self.old.tracking).rest.knows.version)
             (string_bytes agent) (auth_view auth)) result }
     {
@@ -95,8 +95,8 @@ impl<S: Source + Drop, T: Sink + Drop> Connection<S, T> {
     /// Broken where the exchange was broken off, or Memory for want of memory for the text of a refusal.
     pub fn ask(&mut self, first: Request, others: Vec<Request>) -> Result<u64, Fault>
         ensures says { Says
-            (place (stand_of self.old.tracking) (S.left self.old.source) (T.taken self.old.sink))
-            (place (stand_of self.new.tracking) (S.left self.new.source) (T.taken self.new.sink))
+            (place (stand_of self.old.tracking) (S.given self.old.source) (T.put self.old.sink))
+            (place (stand_of self.new.tracking) (S.given self.new.source) (T.put self.new.sink))
             (request_view first ∷ map request_view others.items) result }
         ensures ordinal { IfOk result (λ n. n ≡ next_ordinal (stand_of self.old.tracking).rest) }
         ensures short { IfOk result (λ n. n < 2 ^ 63) }
@@ -116,8 +116,8 @@ impl<S: Source + Drop, T: Sink + Drop> Connection<S, T> {
     /// Asks one request, as `ask` does. Answers its ordinal.
     fn ask_one(&mut self, request: Request) -> Result<u64, Fault>
         ensures says { Says
-            (place (stand_of self.old.tracking) (S.left self.old.source) (T.taken self.old.sink))
-            (place (stand_of self.new.tracking) (S.left self.new.source) (T.taken self.new.sink))
+            (place (stand_of self.old.tracking) (S.given self.old.source) (T.put self.old.sink))
+            (place (stand_of self.new.tracking) (S.given self.new.source) (T.put self.new.sink))
             (request_view request ∷ []) result }
         ensures ordinal { IfOk result (λ n. n ≡ next_ordinal (stand_of self.old.tracking).rest) }
     {
@@ -127,8 +127,8 @@ impl<S: Source + Drop, T: Sink + Drop> Connection<S, T> {
     /// Runs a query outside a transaction or in the one that is open, and asks for its rows, by `ask`.
     pub fn run(&mut self, query: &Query, mode: Mode, rows: Rows) -> Result<Answer, Fault>
         ensures says { Says
-            (place (stand_of self.old.tracking) (S.left self.old.source) (T.taken self.old.sink))
-            (place (stand_of self.new.tracking) (S.left self.new.source) (T.taken self.new.sink))
+            (place (stand_of self.old.tracking) (S.given self.old.source) (T.put self.old.sink))
+            (place (stand_of self.new.tracking) (S.given self.new.source) (T.put self.new.sink))
             (query_run mode (query_view query.now) ∷ rows_view rows ∷ []) result }
         ensures answer { IfOk result (λ a. (a.run ≡ next_ordinal (stand_of self.old.tracking).rest)
             × (a.rows ≡ next_ordinal (stand_of self.old.tracking).rest + 1)) }
@@ -143,8 +143,8 @@ impl<S: Source + Drop, T: Sink + Drop> Connection<S, T> {
     /// Asks for more rows of the query that is open, by `ask`. Answers the ordinal of the request for them.
     pub fn more(&mut self, rows: Rows) -> Result<u64, Fault>
         ensures says { Says
-            (place (stand_of self.old.tracking) (S.left self.old.source) (T.taken self.old.sink))
-            (place (stand_of self.new.tracking) (S.left self.new.source) (T.taken self.new.sink))
+            (place (stand_of self.old.tracking) (S.given self.old.source) (T.put self.old.sink))
+            (place (stand_of self.new.tracking) (S.given self.new.source) (T.put self.new.sink))
             (rows_view rows ∷ []) result }
         ensures ordinal { IfOk result (λ n. n ≡ next_ordinal (stand_of self.old.tracking).rest) }
     {
@@ -154,8 +154,8 @@ impl<S: Source + Drop, T: Sink + Drop> Connection<S, T> {
     /// Begins a transaction, under a token if there is one, by `ask`.
     pub fn begin(&mut self, mode: Mode, token: Option<String>) -> Result<u64, Fault>
         ensures says { Says
-            (place (stand_of self.old.tracking) (S.left self.old.source) (T.taken self.old.sink))
-            (place (stand_of self.new.tracking) (S.left self.new.source) (T.taken self.new.sink))
+            (place (stand_of self.old.tracking) (S.given self.old.source) (T.put self.old.sink))
+            (place (stand_of self.new.tracking) (S.given self.new.source) (T.put self.new.sink))
             (RequestView.Begin mode (token_view token) ∷ []) result }
         ensures ordinal { IfOk result (λ n. n ≡ next_ordinal (stand_of self.old.tracking).rest) }
     {
@@ -165,8 +165,8 @@ impl<S: Source + Drop, T: Sink + Drop> Connection<S, T> {
     /// Commits the transaction that is open, by `ask`.
     pub fn commit(&mut self) -> Result<u64, Fault>
         ensures says { Says
-            (place (stand_of self.old.tracking) (S.left self.old.source) (T.taken self.old.sink))
-            (place (stand_of self.new.tracking) (S.left self.new.source) (T.taken self.new.sink))
+            (place (stand_of self.old.tracking) (S.given self.old.source) (T.put self.old.sink))
+            (place (stand_of self.new.tracking) (S.given self.new.source) (T.put self.new.sink))
             (RequestView.Commit ∷ []) result }
         ensures ordinal { IfOk result (λ n. n ≡ next_ordinal (stand_of self.old.tracking).rest) }
     {
@@ -176,8 +176,8 @@ impl<S: Source + Drop, T: Sink + Drop> Connection<S, T> {
     /// Rolls the transaction back that is open, by `ask`.
     pub fn rollback(&mut self) -> Result<u64, Fault>
         ensures says { Says
-            (place (stand_of self.old.tracking) (S.left self.old.source) (T.taken self.old.sink))
-            (place (stand_of self.new.tracking) (S.left self.new.source) (T.taken self.new.sink))
+            (place (stand_of self.old.tracking) (S.given self.old.source) (T.put self.old.sink))
+            (place (stand_of self.new.tracking) (S.given self.new.source) (T.put self.new.sink))
             (RequestView.Rollback ∷ []) result }
         ensures ordinal { IfOk result (λ n. n ≡ next_ordinal (stand_of self.old.tracking).rest) }
     {
@@ -187,8 +187,8 @@ impl<S: Source + Drop, T: Sink + Drop> Connection<S, T> {
     /// Brings the connection back behind a refusal, by `ask`: what was open is dropped.
     pub fn reset(&mut self) -> Result<u64, Fault>
         ensures says { Says
-            (place (stand_of self.old.tracking) (S.left self.old.source) (T.taken self.old.sink))
-            (place (stand_of self.new.tracking) (S.left self.new.source) (T.taken self.new.sink))
+            (place (stand_of self.old.tracking) (S.given self.old.source) (T.put self.old.sink))
+            (place (stand_of self.new.tracking) (S.given self.new.source) (T.put self.new.sink))
             (RequestView.Reset ∷ []) result }
         ensures ordinal { IfOk result (λ n. n ≡ next_ordinal (stand_of self.old.tracking).rest) }
     {
@@ -205,8 +205,8 @@ impl<S: Source + Drop, T: Sink + Drop> Connection<S, T> {
         rows: Rows,
     ) -> Result<u64, Fault>
         ensures says { Says
-            (place (stand_of self.old.tracking) (S.left self.old.source) (T.taken self.old.sink))
-            (place (stand_of self.new.tracking) (S.left self.new.source) (T.taken self.new.sink))
+            (place (stand_of self.old.tracking) (S.given self.old.source) (T.put self.old.sink))
+            (place (stand_of self.new.tracking) (S.given self.new.source) (T.put self.new.sink))
             (RequestView.Begin mode (token_view token)
             ∷ within mode (rows_view rows) (map query_view queries.now)) result }
         ensures ordinal { IfOk result (λ n. n ≡ next_ordinal (stand_of self.old.tracking).rest) }

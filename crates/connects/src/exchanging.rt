@@ -1,17 +1,18 @@
-//! All that waits is written, and all that is answered is read.
+//! Writes all pending bytes, and reads all answers.
 ghost use Rattle.std.specs.Prelude.{◌≡◌, ◌<◌, true, IsErrOf, OnOk, length};
 ghost use Rattle.std.specs.Io.KnownBytes.{IsAtEnd};
 ghost use Rattle.streams.specs.Failing.{StaysSound, UnlessTold};
 ghost use Rattle.connects.specs.Stands.{stand_of, place};
-ghost use Rattle.connects.specs.Exchanges.{Feeds, ReadsOn, PutsOut, Ends, Converses, Exchanges};
+ghost use Rattle.connects.specs.Exchanges.{break_by, Feeds, ReadsOn, PutsOut, Ends, Converses, Exchanges};
 
 use crate::breaks::Break;
 use driver::{FeedFault, TrackingClient};
 use streams::{MAX_PIECE, Sink, Source, write_all};
 
-/// Why a piece that isn't used breaks the exchange off.
+/// Returns why the exchange is broken off if the client refuses a piece.
 fn break_of(fault: FeedFault) -> Break
-    ensures { (result ≡ Break.ReadFailed → ⊥) × ((result ≡ Break.WriteFailed → ⊥) × (result ≡ Break.AtEnd → ⊥)) }
+    ensures by { result ≡ break_by fault }
+    ensures apart { (result ≡ Break.ReadFailed → ⊥) × ((result ≡ Break.WriteFailed → ⊥) × (result ≡ Break.AtEnd → ⊥)) }
 {
     match fault {
         FeedFault::Closed => Break::Ended,
@@ -21,7 +22,7 @@ fn break_of(fault: FeedFault) -> Break
     }
 }
 
-/// Feeds a piece whole, or up to the client's end.
+/// Feeds all of a piece, or up to the client's end.
 fn feed_piece(tracking: &mut TrackingClient, piece: &[u8]) -> Result<(), Break>
     ensures feeds { Feeds (stand_of tracking.old) (stand_of tracking.new) piece.now result }
     ensures read { IsErrOf result Break.ReadFailed → ⊥ }
@@ -44,16 +45,17 @@ fn feed_piece(tracking: &mut TrackingClient, piece: &[u8]) -> Result<(), Break>
     Ok(())
 }
 
-/// Reads a piece of at most 4,096 bytes and feeds it.
+/// Reads a piece of at most 4,096 bytes, and feeds it.
 fn read_piece<I: Source>(
     tracking: &mut TrackingClient,
     source: &mut I,
     buffer: &mut [u8],
 ) -> Result<(), Break>
     requires { 0 < length buffer.old }
-    ensures reads { ReadsOn (stand_of tracking.old) (stand_of tracking.new) (I.left source.old)
-        (I.left source.new) result }
+    ensures reads { ReadsOn (stand_of tracking.old) (stand_of tracking.new) (I.given source.old)
+        (I.given source.new) result }
     ensures end { IsErrOf result Break.AtEnd → IsAtEnd (I.left source.new) }
+    ensures ended { IsErrOf result Break.AtEnd → I.has_ended source.new ≡ true }
     ensures read { IsErrOf result Break.ReadFailed → I.has_failed source.new ≡ true }
     ensures sound { UnlessTold result Break.ReadFailed
         (StaysSound (I.has_failed source.old) (I.has_failed source.new)) }
@@ -70,11 +72,13 @@ fn read_piece<I: Source>(
     feed_piece(tracking, &buffer[..len])
 }
 
-/// Reads and feeds until all is answered.
+/// Reads and feeds pieces until all requests are answered.
 fn read_on<I: Source>(tracking: &mut TrackingClient, source: &mut I) -> Result<(), Break>
-    ensures reads { ReadsOn (stand_of tracking.old) (stand_of tracking.new) (I.left source.old)
-        (I.left source.new) result }
-    ensures ends { Ends result (stand_of tracking.new) (I.left source.new) }
+    ensures reads { ReadsOn (stand_of tracking.old) (stand_of tracking.new) (I.given source.old)
+        (I.given source.new) result }
+    ensures ends { Ends result (stand_of tracking.new) }
+    ensures end { IsErrOf result Break.AtEnd → IsAtEnd (I.left source.new) }
+    ensures ended { IsErrOf result Break.AtEnd → I.has_ended source.new ≡ true }
     ensures read { IsErrOf result Break.ReadFailed → I.has_failed source.new ≡ true }
     ensures sound { UnlessTold result Break.ReadFailed
         (StaysSound (I.has_failed source.old) (I.has_failed source.new)) }
@@ -91,10 +95,10 @@ fn read_on<I: Source>(tracking: &mut TrackingClient, source: &mut I) -> Result<(
     Ok(())
 }
 
-/// Writes all that the client puts out. Takes no memory.
+/// Writes all bytes that the client has to send. It allocates nothing.
 fn write_out<O: Sink>(tracking: &mut TrackingClient, sink: &mut O) -> Result<(), Break>
-    ensures out { PutsOut (stand_of tracking.old) (stand_of tracking.new) (O.taken sink.old)
-        (O.taken sink.new) result }
+    ensures out { PutsOut (stand_of tracking.old) (stand_of tracking.new) (O.put sink.old)
+        (O.put sink.new) result }
     ensures written { IsErrOf result Break.WriteFailed → O.has_failed sink.new ≡ true }
     ensures sound { UnlessTold result Break.WriteFailed
         (StaysSound (O.has_failed sink.old) (O.has_failed sink.new)) }
@@ -111,15 +115,17 @@ fn write_out<O: Sink>(tracking: &mut TrackingClient, sink: &mut O) -> Result<(),
     Ok(())
 }
 
-/// As `exchange`, but the client isn't lost if it breaks off.
+/// Exchanges as `exchange` does, but the client isn't lost if the exchange is broken off.
 fn converse<I: Source, O: Sink>(
     tracking: &mut TrackingClient,
     source: &mut I,
     sink: &mut O,
 ) -> Result<(), Break>
     ensures converses { Converses
-        (place (stand_of tracking.old) (I.left source.old) (O.taken sink.old))
-        (place (stand_of tracking.new) (I.left source.new) (O.taken sink.new)) result }
+        (place (stand_of tracking.old) (I.given source.old) (O.put sink.old))
+        (place (stand_of tracking.new) (I.given source.new) (O.put sink.new)) result }
+    ensures end { IsErrOf result Break.AtEnd → IsAtEnd (I.left source.new) }
+    ensures ended { IsErrOf result Break.AtEnd → I.has_ended source.new ≡ true }
     ensures read { IsErrOf result Break.ReadFailed → I.has_failed source.new ≡ true }
     ensures written { IsErrOf result Break.WriteFailed → O.has_failed sink.new ≡ true }
     ensures source { UnlessTold result Break.ReadFailed
@@ -131,20 +137,30 @@ fn converse<I: Source, O: Sink>(
     read_on(tracking, source)
 }
 
-/// Writes all that waits, then reads pieces of at most 4,096 bytes and feeds each, until no answer is to come and no request waits. The account has
-/// what came of them.
+/// Writes all pending bytes. Then reads pieces of at most 4,096 bytes and feeds each, until all requests are answered. The outcomes are in the
+/// account.
 ///
-/// Else why not, and the client is lost: then each request that waited has its outcome in the account. I1 if the source fails, I2 if the sink
-/// does, I3 for want of memory; a bad answer, rows past the limit, the source's end, or the client's, before all was answered.
+/// # Errors
+///
+/// If the exchange is broken off, the client is lost, and each pending request has its outcome in the account.
+///
+/// - `ReadFailed`, `WriteFailed`: the source or the sink failed.
+/// - `AtEnd`: the source reached its end before all was answered.
+/// - `Memory`: memory ran out.
+/// - `BadAnswer`: the server's bytes are no valid answer.
+/// - `TooManyRows`: more rows came than the limit allows.
+/// - `Ended`: the client ended before all was answered.
 pub fn exchange<I: Source, O: Sink>(
     tracking: &mut TrackingClient,
     source: &mut I,
     sink: &mut O,
 ) -> Result<(), Break>
     ensures exchanges { Exchanges
-        (place (stand_of tracking.old) (I.left source.old) (O.taken sink.old))
-        (place (stand_of tracking.new) (I.left source.new) (O.taken sink.new)) result }
-    // A stream that fails is told, and none is told that doesn't.
+        (place (stand_of tracking.old) (I.given source.old) (O.put sink.old))
+        (place (stand_of tracking.new) (I.given source.new) (O.put sink.new)) result }
+    ensures end { IsErrOf result Break.AtEnd → IsAtEnd (I.left source.new) }
+    ensures ended { IsErrOf result Break.AtEnd → I.has_ended source.new ≡ true }
+    // A stream that fails is reported, and none is reported that doesn't.
     ensures read { IsErrOf result Break.ReadFailed → I.has_failed source.new ≡ true }
     ensures written { IsErrOf result Break.WriteFailed → O.has_failed sink.new ≡ true }
     ensures source { UnlessTold result Break.ReadFailed

@@ -1,4 +1,4 @@
-//! Why requests weren't all done.
+//! Why requests weren't all done, and why a transaction isn't sent.
 
 use crate::breaks::Break;
 use client::SubmitFault;
@@ -25,3 +25,8 @@ pub enum Fault {
     #[error("out of memory")]
     Memory,
 }
+
+/// A token that no request can carry: it is empty, or has more than 64 bytes.
+#[derive(Clone, Copy, Debug, PartialEq, Eq, Error)]
+#[error("a token has 1 to 64 bytes")]
+pub struct BadToken;

@@ -145,8 +145,8 @@ pub(crate) fn say<I: Source, O: Sink>(
     first: Request,
     others: Vec<Request>,
 ) -> Result<u64, Fault>
-    ensures says { Says (place (stand_of tracking.old) (I.left source.old) (O.taken sink.old))
-        (place (stand_of tracking.new) (I.left source.new) (O.taken sink.new))
+    ensures says { Says (place (stand_of tracking.old) (I.given source.old) (O.put sink.old))
+        (place (stand_of tracking.new) (I.given source.new) (O.put sink.new))
         (request_view first ∷ map request_view others.items) result }
     ensures ordinal { IfOk result (λ n. n ≡ next_ordinal (stand_of tracking.old).rest) }
     ensures short { IfOk result (λ n. n < 2 ^ 63) }

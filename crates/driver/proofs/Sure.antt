@@ -1,16 +1,17 @@
 -- What each fate says of what was told.
 use Rattle.std.proofs.Common.{◌≡◌, refl, ap, subst, ℕ, zero, suc, Bool, true, false, Some, List, [], ◌∷◌, length, arith}
 use Rattle.driver.specs.declared.attempts.Tells.{Tells}
+use Rattle.driver.specs.declared.attempts.Retry.{Retry}
 use Rattle.driver.specs.declared.attempts.Fate.{Fate}
 use Rattle.driver.specs.Fates.{fate_of, AllOpen, AllNothing, EndsWith, Says, FatesSay}
 
--- the same behind an attempt, or none, that may have committed
+-- The meaning of each fate under Tokens; true: after an attempt that may have committed.
 abbrev Known : Bool → ℕ → List Tells → Fate → Type 0
-Known false n told f = Says n told f
+Known false n told f = Says Retry.Tokens n told f
 Known true n told Fate.Refused = ⊥
 Known true n told Fate.Absent = ⊥
 Known true n told Fate.Open = (length told ≡ n) × AllOpen told
-Known true n told f = Says n told f
+Known true n told f = Says Retry.Tokens n told f
 
 ends_at_once : (n : ℕ) (t : Tells) (P : List Tells → Type 0) → P [] → EndsWith (suc n) (t ∷ []) t P
 ends_at_once n t P p = record { before = []; last = refl; so = p; within = omega arith }
@@ -58,8 +59,8 @@ behind_refused n told Fate.Absent k = absurd k
 fate_is : (a b : Fate) → Some a ≡ Some b → a ≡ b
 fate_is a b e = cc
 
--- what is known is what is said
-says : (d : Bool) (n : ℕ) (told : List Tells) (f : Fate) → fate_of d n told ≡ Some f → Known d n told f
+-- under Tokens what is known is what is said
+says : (d : Bool) (n : ℕ) (told : List Tells) (f : Fate) → fate_of Retry.Tokens d n told ≡ Some f → Known d n told f
 says true zero [] f e = subst (Known true 0 []) (fate_is Fate.Open f e) (refl, tt)
 says false zero [] f e = subst (Known false 0 []) (fate_is Fate.Absent f e) (refl, tt)
 says true zero (t ∷ told) f e = cc
@@ -82,5 +83,29 @@ says false (suc n) (Tells.Nothing ∷ told) f e = behind_nothing false n told f 
 says true (suc n) (Tells.Doubt ∷ told) f e = behind_doubt true n told f (says true n told f e)
 says false (suc n) (Tells.Doubt ∷ told) f e = behind_doubt false n told f (says true n told f e)
 
+-- under Never: an attempt that reports nothing comes before the others
+never_more : (n : ℕ) (told : List Tells) (f : Fate) → Says Retry.Never n told f → Says Retry.Never (suc n) (Tells.Nothing ∷ told) f
+never_more n told Fate.Stands k = ends_behind n Tells.Nothing Tells.Stands told AllNothing (λ _ o. o) k
+never_more n told Fate.Clash k = ends_behind n Tells.Nothing Tells.Clash told AllNothing (λ _ o. o) k
+never_more n told Fate.Refused k = ends_behind n Tells.Nothing Tells.Refused told AllNothing (λ _ o. o) k
+never_more n told Fate.Open k = ends_behind n Tells.Nothing Tells.Doubt told AllNothing (λ _ o. o) k
+never_more n told Fate.Absent k = (one_longer n told Tells.Nothing k.0, k.1)
+
+-- under Never what is known is what is said
+never_says : (n : ℕ) (told : List Tells) (f : Fate) → fate_of Retry.Never false n told ≡ Some f → Says Retry.Never n told f
+never_says zero [] f e = subst (Says Retry.Never 0 []) (fate_is Fate.Absent f e) (refl, tt)
+never_says zero (t ∷ told) f e = cc
+never_says (suc n) [] f e = cc
+never_says (suc n) (Tells.Stands ∷ []) f e = subst (Says Retry.Never (suc n) (Tells.Stands ∷ [])) (fate_is Fate.Stands f e) (ends_at_once n Tells.Stands AllNothing tt)
+never_says (suc n) (Tells.Stands ∷ t ∷ told) f e = cc
+never_says (suc n) (Tells.Clash ∷ []) f e = subst (Says Retry.Never (suc n) (Tells.Clash ∷ [])) (fate_is Fate.Clash f e) (ends_at_once n Tells.Clash AllNothing tt)
+never_says (suc n) (Tells.Clash ∷ t ∷ told) f e = cc
+never_says (suc n) (Tells.Refused ∷ []) f e = subst (Says Retry.Never (suc n) (Tells.Refused ∷ [])) (fate_is Fate.Refused f e) (ends_at_once n Tells.Refused AllNothing tt)
+never_says (suc n) (Tells.Refused ∷ t ∷ told) f e = cc
+never_says (suc n) (Tells.Doubt ∷ []) f e = subst (Says Retry.Never (suc n) (Tells.Doubt ∷ [])) (fate_is Fate.Open f e) (ends_at_once n Tells.Doubt AllNothing tt)
+never_says (suc n) (Tells.Doubt ∷ t ∷ told) f e = cc
+never_says (suc n) (Tells.Nothing ∷ told) f e = never_more n told f (never_says n told f e)
+
 pub fates_say : FatesSay
-fates_say tries told f e = says false tries told f e
+fates_say Retry.Tokens tries told f e = says false tries told f e
+fates_say Retry.Never tries told f e = never_says tries told f e

@@ -2,20 +2,23 @@
 use Rattle.std.specs.Prelude.{◌≡◌, ◌≤◌, ℕ, zero, suc, Bool, true, false, if◌then◌else◌, Option, Some, None, List, [], ◌∷◌, ◌++◌, length}
 use Rattle.driver.specs.declared.attempts.Tells.{Tells}
 use Rattle.driver.specs.declared.attempts.Tells.TheVariants as tells
+use Rattle.driver.specs.declared.attempts.Retry.{Retry}
+use Rattle.driver.specs.declared.attempts.Retry.TheVariants as retry
 use Rattle.driver.specs.declared.attempts.Fate.{Fate}
 use Rattle.driver.specs.declared.attempts.Fate.TheVariants as fate
 
--- What is known after so many tries at most, if these are all the attempts that are made: none of them follows one by which it is known.
+-- The fate after at most so many tries, if these are all the attempts: none of them follows one that decides it, nor, under Never, a doubt.
 -- doubtful: an attempt before them may have committed.
-abbrev pub fate_of : Bool → ℕ → List Tells → Option Fate
-fate_of doubtful zero [] = Some (if doubtful then fate.Open else fate.Absent)
-fate_of doubtful (suc n) (tells.Stands ∷ []) = Some fate.Stands
-fate_of doubtful (suc n) (tells.Clash ∷ []) = Some fate.Clash
-fate_of false (suc n) (tells.Refused ∷ []) = Some fate.Refused
-fate_of true (suc n) (tells.Refused ∷ more) = fate_of true n more
-fate_of doubtful (suc n) (tells.Nothing ∷ more) = fate_of doubtful n more
-fate_of doubtful (suc n) (tells.Doubt ∷ more) = fate_of true n more
-fate_of doubtful n more = None
+abbrev pub fate_of : Retry → Bool → ℕ → List Tells → Option Fate
+fate_of r doubtful zero [] = Some (if doubtful then fate.Open else fate.Absent)
+fate_of r doubtful (suc n) (tells.Stands ∷ []) = Some fate.Stands
+fate_of r doubtful (suc n) (tells.Clash ∷ []) = Some fate.Clash
+fate_of r false (suc n) (tells.Refused ∷ []) = Some fate.Refused
+fate_of r true (suc n) (tells.Refused ∷ more) = fate_of r true n more
+fate_of r doubtful (suc n) (tells.Nothing ∷ more) = fate_of r doubtful n more
+fate_of retry.Tokens doubtful (suc n) (tells.Doubt ∷ more) = fate_of retry.Tokens true n more
+fate_of retry.Never doubtful (suc n) (tells.Doubt ∷ []) = Some fate.Open
+fate_of r doubtful n more = None
 
 -- none tells Stands or Clash
 abbrev pub AllOpen : List Tells → Type 0
@@ -43,16 +46,22 @@ pub record EndsWith (tries : ℕ) (told : List Tells) (t : Tells) (Before : List
   pub so : Before before
   pub within : length told ≤ tries
 
--- What each fate says of what was told: Stands and Clash are told by the last attempt, and none before it tells either; Refused by the last,
--- and those before it tell nothing; as Open and Absent all tries were made, some with a doubt, or none with anything.
-abbrev pub Says : ℕ → List Tells → Fate → Type 0
-Says tries told fate.Stands = EndsWith tries told tells.Stands AllOpen
-Says tries told fate.Clash = EndsWith tries told tells.Clash AllOpen
-Says tries told fate.Refused = EndsWith tries told tells.Refused AllNothing
-Says tries told fate.Open = (length told ≡ tries) × (HasDoubt told × AllOpen told)
-Says tries told fate.Absent = (length told ≡ tries) × AllNothing told
+-- The attempts before one that reports Stands or Clash: under Tokens none of them reports either, under Never each reports nothing.
+abbrev pub Undecided : Retry → List Tells → Type 0
+Undecided retry.Tokens told = AllOpen told
+Undecided retry.Never told = AllNothing told
+
+-- The meaning of each fate: the last attempt reports Stands, Clash or Refused. As Absent all tries were made, and each reports nothing. As Open
+-- under Tokens all tries were made, some with a doubt; under Never the last reports a doubt, and each before it nothing.
+abbrev pub Says : Retry → ℕ → List Tells → Fate → Type 0
+Says r tries told fate.Stands = EndsWith tries told tells.Stands (Undecided r)
+Says r tries told fate.Clash = EndsWith tries told tells.Clash (Undecided r)
+Says r tries told fate.Refused = EndsWith tries told tells.Refused AllNothing
+Says retry.Tokens tries told fate.Open = (length told ≡ tries) × (HasDoubt told × AllOpen told)
+Says retry.Never tries told fate.Open = EndsWith tries told tells.Doubt AllNothing
+Says r tries told fate.Absent = (length told ≡ tries) × AllNothing told
 
 -- If a fate is known by what was told, that is what was told.
 abbrev pub FatesSay : Type 0
-FatesSay = (tries : ℕ) (told : List Tells) (f : Fate) → fate_of false tries told ≡ Some f
-    → Says tries told f
+FatesSay = (r : Retry) (tries : ℕ) (told : List Tells) (f : Fate) → fate_of r false tries told ≡ Some f
+    → Says r tries told f

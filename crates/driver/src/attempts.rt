@@ -15,6 +15,15 @@ pub enum Tells {
     Doubt,
 }
 
+/// Says what happens after an attempt that may have committed.
+#[derive(Clone, Copy, Debug, PartialEq, Eq)]
+pub enum Retry {
+    /// The transaction is sent again under its token. The caller knows that each server that it connects to keeps tokens, over one ledger.
+    Tokens,
+    /// Nothing is sent again: the fate is Open at once. This is right for a server that keeps no tokens, or that may keep none.
+    Never,
+}
+
 /// What is known of a transaction under a token.
 #[derive(Clone, Copy, Debug, PartialEq, Eq)]
 pub enum Fate {
@@ -24,7 +33,7 @@ pub enum Fate {
     Clash,
     /// A request was refused for good, and no attempt may have committed.
     Refused,
-    /// The tries are used up, and an attempt may have committed.
+    /// An attempt may have committed, and nothing is sent again: the tries are used up, or the retry is Never.
     Open,
     /// The tries are used up, and no attempt may have committed.
     Absent,

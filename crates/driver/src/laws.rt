@@ -25,9 +25,13 @@ pub fn keeps_few_rows()
     ensures { KeepsFewRows }
 {}
 
-/// What a fate says of what attempts told. Stands and Clash: the last told it, and none before it told either. Refused: the last was refused,
-/// and those before it told nothing. Open and Absent: all tries were made, and none told Stands or Clash; as Open some told a doubt, as Absent
-/// all told nothing.
+/// States what each fate says of what the attempts report.
+///
+/// - Stands, Clash: the last attempt reports it. Under Tokens none before it reports either, under Never each before it reports nothing.
+/// - Refused: the last attempt is refused, and each before it reports nothing.
+/// - Open: under Tokens all tries were made, none reports Stands or Clash, and some report a doubt. Under Never the last attempt reports a doubt,
+///   and each before it nothing.
+/// - Absent: all tries were made, and each reports nothing.
 pub fn fates_say()
     ensures { FatesSay }
 {}

@@ -13,7 +13,7 @@ mod requests;
 mod telling;
 mod tracking;
 
-pub use attempts::{Fate, Tells};
+pub use attempts::{Fate, Retry, Tells};
 pub use faults::FeedFault;
 pub use requests::Rows;
 pub use tracking::TrackingClient;

@@ -4,7 +4,7 @@ ghost use Rattle.std.specs.Vec.{vec_len, vec_capacity};
 ghost use Rattle.messages.specs.View.{request_view, response_view};
 ghost use Rattle.client.specs.Rest.{begun, refuses, refuses_at_once, after_submit, feed_of, taken_out, losses, after_drop, awaits};
 ghost use Rattle.client.specs.Fits.{IsAccepted};
-ghost use Rattle.client.specs.Held.{WantsRoom};
+ghost use Rattle.client.specs.Held.{is_too_large, WantsRoom};
 ghost use Rattle.machine.specs.Limits.{max_waiting};
 ghost use Rattle.driver.specs.Account.{untold, keeps_row, with_row, with_summary, with_losses, settled};
 ghost use Rattle.driver.specs.Feeding.{is_idle, is_full, used_by, tracked_feed, UnlessMemory};
@@ -314,5 +314,12 @@ impl TrackingClient {
         ensures { result ≡ (rest_in self.now).knows.over }
     {
         self.client.has_ended()
+    }
+
+    /// Returns true if a message of the server passed 65,536 bytes, with which the client has ended. Takes no memory.
+    pub fn message_is_too_large(&self) -> bool
+        ensures { result ≡ is_too_large (rest_in self.now).item }
+    {
+        self.client.message_is_too_large()
     }
 }

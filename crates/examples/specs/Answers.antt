@@ -7,7 +7,7 @@ use Rattle.session.specs.declared.kinds.Worked.{Worked}
 use Rattle.server.specs.declared.kinds.Took.{Took}
 use Rattle.server.specs.Serving.{Rest, feed_at, work_at, take_out_at}
 
--- The session takes the piece, does a step, and these bytes of what it has put out then are taken out.
+-- The session takes the piece and does a step; then these bytes of its output are taken out.
 pub record Answers {G : Type 0}
     (answer : List EntryView → List WriteView → List ℕ → List ParameterView → QueryMode
     → Result AnswerView QueryFault)

@@ -8,7 +8,7 @@ use bytes::Bytes;
 use engine::{Engine, Gate};
 use server::{Refused, Server};
 
-/// Feeds a piece to a session, has it do one step, and gives what is to be sent then, at most `max` bytes.
+/// Feeds a piece to a session, does one step of it, and returns the next bytes to send, at most `max`.
 pub fn answer<E: Engine, G: Gate>(
     server: &mut Server<E, G>,
     conn: u64,

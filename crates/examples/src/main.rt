@@ -13,7 +13,9 @@ mod serving;
 mod tracked;
 mod values;
 
+use driver::Retry;
 use prints::fill_closed;
+use querying::Sending;
 use std::io;
 use std::process::ExitCode;
 
@@ -22,10 +24,43 @@ fn port_of(word: Option<&String>) -> Option<u16> {
     word?.parse::<u16>().ok()
 }
 
+/// Returns the count that a word names.
+fn count_of(word: Option<&String>) -> Option<u32> {
+    word?.parse::<u32>().ok()
+}
+
+/// Returns what the query's program does after a doubt: it sends nothing again, unless its last word is `tokens`.
+fn retry_of(word: Option<&String>) -> Option<Retry> {
+    match word {
+        None => Some(Retry::Never),
+        Some(word) if word.as_str() == "tokens" => Some(Retry::Tokens),
+        Some(_) => None,
+    }
+}
+
+/// Runs the query's program by these words. Returns the exit status.
+fn query(rt: &HostRuntime, port: u16, words: &[String]) -> u8 {
+    if let Some(token) = words.get(3)
+        && let Some(tries) = count_of(words.get(4))
+        && let Some(puts) = count_of(words.get(5))
+        && let Some(retry) = retry_of(words.get(6))
+    {
+        let token = token.as_str();
+        let sending = Sending {
+            token,
+            puts,
+            retry,
+            tries,
+        };
+        return querying::run(rt, port, &sending);
+    }
+    refuse(rt)
+}
+
 /// Says how the programs are used. It answers the exit status of words that name none.
 fn refuse(rt: &HostRuntime) -> u8 {
     let _told = eprintln!(rt;
-        "usage: examples query PORT TOKEN TRIES PUTS, examples driver PORT, examples server PORT or examples engine"
+        "usage: examples query PORT TOKEN TRIES PUTS [tokens], examples driver PORT, examples server PORT or examples engine"
     );
     2
 }
@@ -38,15 +73,7 @@ fn run(rt: &HostRuntime, words: &[String]) -> io::Result<u8> {
     };
     match (name, port_of(words.get(2)), words.len()) {
         ("driver", Some(port), 3) => return driving::drive(rt, port),
-        ("query", Some(port), 6) => {
-            if let [_, _, _, token, tries, puts] = words
-                && let Some(tries) = tries.parse::<u32>().ok()
-                && let Some(puts) = puts.parse::<u32>().ok()
-            {
-                return Ok(querying::run(rt, port, token, tries, puts));
-            }
-            return Ok(refuse(rt));
-        }
+        ("query", Some(port), 6 | 7) => return Ok(query(rt, port, words)),
         ("server", Some(port), 3) => serving::serve(rt, port)?,
         ("engine", _, 2) => noting::note_all(rt)?,
         _ => return Ok(refuse(rt)),

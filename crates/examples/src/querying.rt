@@ -1,9 +1,9 @@
 //! Sends a transaction under a token to a port of this machine until it is known, and then runs a query and prints its rows.
-ghost use Rattle.std.specs.Prelude.{⊤};
-
 use client::ClientFault;
-use connects::{Asked, Connection, Connects, Fault, Query, text_cell, until_known};
-use driver::{Fate, Rows};
+use connects::{
+    Asked, BadToken, Break, Connection, Connects, Fault, Log, Query, Step, text_cell, until_known,
+};
+use driver::{Fate, Retry, Rows};
 use messages::{Auth, Count, Mode};
 use prints::escape;
 use std::alloc::{AllocError, Global};
@@ -20,6 +20,7 @@ enum Stopped {
     Memory,
     Io(io::Error),
     Fault(Fault),
+    Token(BadToken),
 }
 
 impl From<AllocError> for Stopped {
@@ -43,6 +44,12 @@ impl From<io::Error> for Stopped {
 impl From<Fault> for Stopped {
     fn from(fault: Fault) -> Stopped {
         Stopped::Fault(fault)
+    }
+}
+
+impl From<BadToken> for Stopped {
+    fn from(fault: BadToken) -> Stopped {
+        Stopped::Token(fault)
     }
 }
 
@@ -74,6 +81,16 @@ struct Port<'a> {
     rt: &'a HostRuntime,
     port: u16,
     silence: Duration,
+    log: Log,
+}
+
+impl Port<'_> {
+    fn streams(&self) -> Option<(TcpStream, TcpStream)> {
+        let stream = TcpStream::connect(self.rt, ("127.0.0.1", self.port)).ok()?;
+        stream.set_read_timeout(Some(self.silence)).ok()?;
+        let other = stream.try_clone().ok()?;
+        Some((stream, other))
+    }
 }
 
 impl Connects for Port<'_> {
@@ -81,14 +98,37 @@ impl Connects for Port<'_> {
 
     type Out = Over<TcpStream>;
 
-    // Nothing can be said of what a socket gives.
-    ghost opens = { λ _ _ _. ⊤ };
+    ghost log = { λ s. s.log.past.0 };
+
+    ghost out = { λ s. s.log.past.1 };
 
     fn connect(&mut self) -> Option<(Over<TcpStream>, Over<TcpStream>)> {
-        let stream = TcpStream::connect(self.rt, ("127.0.0.1", self.port)).ok()?;
-        stream.set_read_timeout(Some(self.silence)).ok()?;
-        let other = stream.try_clone().ok()?;
-        Some((Over::new(stream), Over::new(other)))
+        match self.streams() {
+            Some((stream, other)) => {
+                self.log = self.log.then(&Step::Opened);
+                Some((Over::new(stream), Over::new(other)))
+            }
+            None => {
+                self.log = self.log.then(&Step::Missed);
+                None
+            }
+        }
+    }
+
+    fn closed(
+        &mut self,
+        source: Over<TcpStream>,
+        sink: Over<TcpStream>,
+        broken: Result<(), Break>,
+    ) {
+        self.log = self.log.then(&Step::Closed {
+            given: source.moved(),
+            put: sink.moved(),
+            ended: source.has_ended(),
+            read_failed: source.error().is_some(),
+            write_failed: sink.error().is_some(),
+            broken,
+        });
     }
 }
 
@@ -108,18 +148,30 @@ fn asked(alloc: Global, token: &str, puts: u32) -> Result<Asked, AllocError> {
     })
 }
 
-/// Puts a value so many times under a token, and gets it. The answer is what is known of the transaction; `known` has it too, whatever fails
-/// behind it.
+/// The transaction and its tries, as the command line names them.
+#[derive(Drop)]
+pub(crate) struct Sending<'a> {
+    pub token: &'a str,
+    pub puts: u32,
+    pub retry: Retry,
+    pub tries: u32,
+}
+
+/// Puts a value so many times under a token, and gets it. Returns the fate of the transaction, which `known` has too, whatever fails after it.
 fn put_and_get(
     rt: &HostRuntime,
     port: &mut Port<'_>,
-    token: &str,
-    tries: u32,
-    puts: u32,
+    sending: &Sending<'_>,
     known: &mut Option<Fate>,
 ) -> Result<Fate, Stopped> {
     let alloc = rt.alloc();
-    let fate = until_known(alloc, &asked(alloc, token, puts)?, port, tries);
+    let &Sending {
+        token,
+        puts,
+        retry,
+        tries,
+    } = sending;
+    let fate = until_known(alloc, &asked(alloc, token, puts)?, retry, port, tries)?;
     *known = Some(fate);
     println!(rt; "{fate:?}")?;
 
@@ -142,6 +194,7 @@ fn why(alloc: Global, stopped: &Stopped) -> Result<String, AllocError> {
         Stopped::Memory => return Err(AllocError),
         Stopped::Io(error) => format!(in alloc; "{error}")?,
         Stopped::Fault(fault) => format!(in alloc; "{fault}")?,
+        Stopped::Token(fault) => format!(in alloc; "{fault}")?,
     };
     escape(alloc, text.as_str())
 }
@@ -159,21 +212,50 @@ fn tell(rt: &HostRuntime, known: Option<Fate>, stopped: &Stopped) {
     };
 }
 
-/// Puts a value and gets it, at a port. It answers the exit status: 0 if the transaction stands and all is printed, 3 if it stands and something
-/// failed behind it, 1 if it isn't known to stand. What isn't 0 is told on standard error, with what is known of the transaction.
-pub(crate) fn run(rt: &HostRuntime, port: u16, token: &str, tries: u32, puts: u32) -> u8 {
+/// Returns what a fate means.
+fn meaning(fate: Fate) -> &'static str {
+    match fate {
+        Fate::Stands => "the transaction is committed, once",
+        Fate::Clash => "other writes have the token",
+        Fate::Refused => "the server refused it; no attempt committed, and none will",
+        Fate::Open => "an attempt may have committed, once or not at all",
+        Fate::Absent => "no attempt committed, and none will",
+    }
+}
+
+/// Returns the exit status for a fate: 0 for a transaction that is committed if all is printed, 3 if something failed after it; 4 for Clash, 5
+/// for Refused, 6 for Open, 7 for Absent; 1 if no fate is known.
+fn status(known: Option<Fate>, is_printed: bool) -> u8 {
+    match known {
+        Some(Fate::Stands) if is_printed => 0,
+        None => 1,
+        Some(Fate::Stands) => 3,
+        Some(Fate::Clash) => 4,
+        Some(Fate::Refused) => 5,
+        Some(Fate::Open) => 6,
+        Some(Fate::Absent) => 7,
+    }
+}
+
+/// Puts a value and gets it, at a port. Returns the exit status. Standard error has the meaning of each fate but Stands, and what failed.
+pub(crate) fn run(rt: &HostRuntime, port: u16, sending: &Sending<'_>) -> u8 {
     let silence = Duration::from_secs(10);
     let mut known = None;
-    let mut port = Port { rt, port, silence };
-    match put_and_get(rt, &mut port, token, tries, puts, &mut known) {
-        Ok(Fate::Stands) => return 0,
-        Ok(_) => {
-            let _told = eprintln!(rt; "Error: not known to be committed");
-        }
-        Err(stopped) => tell(rt, known, &stopped),
+    let log = Log::new();
+    let mut port = Port {
+        rt,
+        port,
+        silence,
+        log,
+    };
+    let done = put_and_get(rt, &mut port, sending, &mut known);
+    if let Some(fate) = known
+        && fate != Fate::Stands
+    {
+        let _told = eprintln!(rt; "{fate:?}: {}", meaning(fate));
     }
-    match known {
-        Some(Fate::Stands) => 3,
-        _ => 1,
+    if let Err(stopped) = &done {
+        tell(rt, known, stopped);
     }
+    status(known, done.is_ok())
 }

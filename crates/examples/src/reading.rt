@@ -27,9 +27,9 @@ pub fn read_int<S: Source + Drop, T: Sink + Drop>(
 ) -> Result<Option<i64>, Fault>
     ensures says { Says
         (place (stand_of connection.old.tracking)
-        (S.left connection.old.source) (T.taken connection.old.sink))
+        (S.given connection.old.source) (T.put connection.old.sink))
         (place (stand_of connection.new.tracking)
-        (S.left connection.new.source) (T.taken connection.new.sink))
+        (S.given connection.new.source) (T.put connection.new.sink))
         (query_run Mode.Read (query_view query.now) ∷ RequestView.Pull Count.All ∷ []) result }
     ensures first { IfOk result (λ n. n
         ≡ first_int (rows_told (stand_of connection.old.tracking) (stand_of connection.new.tracking))) }

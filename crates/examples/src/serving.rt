@@ -7,8 +7,8 @@ use std::io;
 use std::io::ErrorKind;
 use streams::Over;
 
-/// How many milliseconds a client may be silent, take to log on, and send behind its end; and how many steps and reads a connection has in
-/// its turn.
+/// The milliseconds that a client may be idle, may take to log in, and may still send after its session's end; and the most steps and reads
+/// of a connection in one turn.
 const LIMITS: Limits = Limits {
     silence: 10_000,
     arrival: 10_000,

@@ -1,11 +1,13 @@
--- The headline for one caller.
-use Rattle.std.proofs.Common.{◌≡◌, refl, sym, ◌∙◌, ap, subst, ℕ, zero, suc, ◌<◌, ◌==◌, Bool, true, false, not, ◌&&◌, if◌then◌else◌, Option, Some, None, List, [], ◌∷◌, length, map, arith, ⊎_elim, eqb-true}
+-- The main law for one caller.
+use Rattle.std.proofs.Common.{◌≡◌, refl, sym, ◌∙◌, ap, subst, ℕ, zero, suc, ◌<◌, ◌==◌, Bool, true, false, not, ◌&&◌, if◌then◌else◌, Option, Some, None, List, [], ◌∷◌, length, map, arith, ⊎_elim, inl, inr, eqb-true}
 use Rattle.std.proofs.lemmas.Bool.{and_parts, cases_Bool, eqb-false}
 use Rattle.engine.specs.Prelude.{EntryView}
 use Rattle.client.specs.declared.Outcome.{Outcome}
 use Rattle.session.specs.Prelude.{Setting}
 use Rattle.world.specs.Prelude.{World, Reached, Each}
+use Rattle.world.proofs.Limits.{commits_once}
 use Rattle.driver.specs.declared.Tells.{Tells}
+use Rattle.driver.specs.declared.Retry.{Retry}
 use Rattle.driver.specs.declared.Fate.{Fate}
 use Rattle.driver.specs.Fates.{fate_of}
 use Rattle.driver.specs.Telling.{adds_nothing, is_committed, is_refused, all_nothing}
@@ -39,7 +41,7 @@ was_refused (Some Outcome.Lost) h = cc
 was_refused (Some Outcome.Unknown) h = cc
 was_refused None h = cc
 
--- what the tests were, by what is told
+-- The test that gave each report: `c` that the COMMIT committed, `k` that it clashed, `a` that each request committed nothing.
 abbrev pub tested : Bool → Bool → Bool → Tells → Type 0
 tested c k a Tells.Stands = c ≡ true
 tested c k a Tells.Clash = k ≡ true
@@ -67,8 +69,8 @@ module _ (S : Setting) (brought : List EntryView) (w : World) (r : Reached S bro
       connection = is.connection;
       is_last = refl;
       here = is.at.here;
-      commits = is.commits h;
-      stands = attempt_stands S brought w r t m.conn is.connection m.attempt is.at is.under m.commit (is.commits h) (was_committed (told_of m.attempt m.commit) (tests Tells.Stands h));
+      commits = is.commits (inl h);
+      stands = attempt_stands S brought w r t m.conn is.connection m.attempt is.at is.under m.commit (is.commits (inl h)) (was_committed (told_of m.attempt m.commit) (tests Tells.Stands h));
     }
 
     made_clashes : IsMade t w m → tells m ≡ Tells.Clash → OneClashes S t w (Some m ∷ [])
@@ -78,13 +80,14 @@ module _ (S : Setting) (brought : List EntryView) (w : World) (r : Reached S bro
       connection = is.connection;
       is_last = refl;
       here = is.at.here;
-      clashes = λ asks. attempt_clashes S brought w r t m.conn is.connection m.attempt is.at is.under m.commit asks (was_refused (told_of m.attempt m.commit) (and_parts _ _ (tests Tells.Clash h)).0);
+      commits = is.commits (inr h);
+      clashes = attempt_clashes S brought w r t m.conn is.connection m.attempt is.at is.under m.commit (is.commits (inr h)) (was_refused (told_of m.attempt m.commit) (and_parts _ _ (tests Tells.Clash h)).0);
     }
 
     made_adds_none : IsMade t w m → all_nothing (told_of m.attempt) (length m.attempt.sent) ≡ true → AddsNone w (Some m)
     made_adds_none is h = attempt_adds_none S brought w r m.conn is.connection m.attempt is.at (each_nothing (told_of m.attempt) (length m.attempt.sent) h)
 
-  -- what the last attempt tells where it is the last by which anything is known
+  -- The fate that one attempt alone decides, if it does.
   abbrev last_fate : Tells → Option Fate
   last_fate Tells.Stands = Some Fate.Stands
   last_fate Tells.Clash = Some Fate.Clash
@@ -103,7 +106,7 @@ module _ (S : Setting) (brought : List EntryView) (w : World) (r : Reached S bro
   it_did_nothing None is h = tt
   it_did_nothing (Some m) is h = made_adds_none m is (tests m Tells.Nothing h)
 
-  -- What an attempt says alone by which a fate is known, it says behind others too.
+  -- If a fate follows from the last attempt alone, its meaning follows with others before it too.
   module _ (f : Fate) (s : is_last f ≡ true) (Says : List (Option Made) → Type 0) (alone : (m : Made) → IsMade t w m → last_fate (tells m) ≡ Some f → Says (Some m ∷ []))
       (behind : (o : Option Made) (ms : List (Option Made)) → Says ms → Says (o ∷ ms)) where
     it_says : (o : Option Made) → IsTry t w o → last_fate (tells_in o) ≡ Some f → Says (o ∷ [])
@@ -113,31 +116,35 @@ module _ (S : Setting) (brought : List EntryView) (w : World) (r : Reached S bro
     not_last : (g : Fate) → is_last g ≡ false → Some g ≡ Some f → ⊥
     not_last g n e = let same : g ≡ f = cc in let no : true ≡ false = sym s ∙ ap is_last (sym same) ∙ n in cc
 
-    last_in : (d : Bool) (n : ℕ) (ms : List (Option Made)) → Each (IsTry t w) ms → fate_of d n (map tells_in ms) ≡ Some f → Says ms
-    last_in true zero [] h e = absurd (not_last Fate.Open refl e)
-    last_in false zero [] h e = absurd (not_last Fate.Absent refl e)
-    last_in true zero (m ∷ ms) h e = cc
-    last_in false zero (m ∷ ms) h e = cc
-    last_in true (suc n) [] h e = cc
-    last_in false (suc n) [] h e = cc
-    last_in d (suc n) (m ∷ ms) h e = go (tells_in m) refl d ms (λ d. last_in d n ms h.1) e
+    last_in : (again : Retry) (d : Bool) (n : ℕ) (ms : List (Option Made)) → Each (IsTry t w) ms → fate_of again d n (map tells_in ms) ≡ Some f → Says ms
+    last_in again true zero [] h e = absurd (not_last Fate.Open refl e)
+    last_in again false zero [] h e = absurd (not_last Fate.Absent refl e)
+    last_in again true zero (m ∷ ms) h e = cc
+    last_in again false zero (m ∷ ms) h e = cc
+    last_in again true (suc n) [] h e = cc
+    last_in again false (suc n) [] h e = cc
+    last_in again d (suc n) (m ∷ ms) h e = go (tells_in m) refl again d ms (λ d. last_in again d n ms h.1) e
       where
-        go : (x : Tells) → tells_in m ≡ x → (d : Bool) (ms : List (Option Made)) → ((d : Bool) → fate_of d n (map tells_in ms) ≡ Some f → Says ms) → fate_of d (suc n) (x ∷ map tells_in ms) ≡ Some f → Says (m ∷ ms)
-        go Tells.Stands p true [] later e = it_says m h.0 (ap last_fate p ∙ e)
-        go Tells.Stands p false [] later e = it_says m h.0 (ap last_fate p ∙ e)
-        go Tells.Stands p true (y ∷ ms) later e = cc
-        go Tells.Stands p false (y ∷ ms) later e = cc
-        go Tells.Clash p true [] later e = it_says m h.0 (ap last_fate p ∙ e)
-        go Tells.Clash p false [] later e = it_says m h.0 (ap last_fate p ∙ e)
-        go Tells.Clash p true (y ∷ ms) later e = cc
-        go Tells.Clash p false (y ∷ ms) later e = cc
-        go Tells.Refused p false [] later e = absurd (not_last Fate.Refused refl e)
-        go Tells.Refused p false (y ∷ ms) later e = cc
-        go Tells.Refused p true ms later e = behind m ms (later true e)
-        go Tells.Nothing p true ms later e = behind m ms (later true e)
-        go Tells.Nothing p false ms later e = behind m ms (later false e)
-        go Tells.Doubt p true ms later e = behind m ms (later true e)
-        go Tells.Doubt p false ms later e = behind m ms (later true e)
+        go : (x : Tells) → tells_in m ≡ x → (again : Retry) (d : Bool) (ms : List (Option Made)) → ((d : Bool) → fate_of again d n (map tells_in ms) ≡ Some f → Says ms) → fate_of again d (suc n) (x ∷ map tells_in ms) ≡ Some f → Says (m ∷ ms)
+        go Tells.Stands p again true [] later e = it_says m h.0 (ap last_fate p ∙ e)
+        go Tells.Stands p again false [] later e = it_says m h.0 (ap last_fate p ∙ e)
+        go Tells.Stands p again true (y ∷ ms) later e = cc
+        go Tells.Stands p again false (y ∷ ms) later e = cc
+        go Tells.Clash p again true [] later e = it_says m h.0 (ap last_fate p ∙ e)
+        go Tells.Clash p again false [] later e = it_says m h.0 (ap last_fate p ∙ e)
+        go Tells.Clash p again true (y ∷ ms) later e = cc
+        go Tells.Clash p again false (y ∷ ms) later e = cc
+        go Tells.Refused p again false [] later e = absurd (not_last Fate.Refused refl e)
+        go Tells.Refused p again false (y ∷ ms) later e = cc
+        go Tells.Refused p again true ms later e = behind m ms (later true e)
+        go Tells.Nothing p again true ms later e = behind m ms (later true e)
+        go Tells.Nothing p again false ms later e = behind m ms (later false e)
+        go Tells.Doubt p Retry.Tokens true ms later e = behind m ms (later true e)
+        go Tells.Doubt p Retry.Tokens false ms later e = behind m ms (later true e)
+        go Tells.Doubt p Retry.Never true [] later e = absurd (not_last Fate.Open refl e)
+        go Tells.Doubt p Retry.Never false [] later e = absurd (not_last Fate.Open refl e)
+        go Tells.Doubt p Retry.Never true (y ∷ ms) later e = cc
+        go Tells.Doubt p Retry.Never false (y ∷ ms) later e = cc
 
   stands_last : (x : Tells) (m : Made) → tells m ≡ x → last_fate x ≡ Some Fate.Stands → tells m ≡ Tells.Stands
   stands_last Tells.Stands m h e = h
@@ -149,52 +156,59 @@ module _ (S : Setting) (brought : List EntryView) (w : World) (r : Reached S bro
   clashes_last Tells.Stands m h e = cc
   clashes_last _ m h e = cc
 
-  stands_in : (n : ℕ) (ms : List (Option Made)) → Each (IsTry t w) ms → fate_of false n (map tells_in ms) ≡ Some Fate.Stands → OneStands S t w ms
-  stands_in =
+  stands_in : (again : Retry) (n : ℕ) (ms : List (Option Made)) → Each (IsTry t w) ms → fate_of again false n (map tells_in ms) ≡ Some Fate.Stands → OneStands S t w ms
+  stands_in again =
       last_in Fate.Stands refl (OneStands S t w) (λ m is h. made_stands m is (stands_last (tells m) m refl h))
-      (λ o ms s. record { before = o ∷ s.before; last = s.last; connection = s.connection; is_last = ap (λ z. o ∷ z) s.is_last; here = s.here; commits = s.commits; stands = s.stands }) false
+      (λ o ms s. record { before = o ∷ s.before; last = s.last; connection = s.connection; is_last = ap (λ z. o ∷ z) s.is_last; here = s.here; commits = s.commits; stands = s.stands }) again false
 
-  clashes_in : (n : ℕ) (ms : List (Option Made)) → Each (IsTry t w) ms → fate_of false n (map tells_in ms) ≡ Some Fate.Clash → OneClashes S t w ms
-  clashes_in =
+  clashes_in : (again : Retry) (n : ℕ) (ms : List (Option Made)) → Each (IsTry t w) ms → fate_of again false n (map tells_in ms) ≡ Some Fate.Clash → OneClashes S t w ms
+  clashes_in again =
       last_in Fate.Clash refl (OneClashes S t w) (λ m is h. made_clashes m is (clashes_last (tells m) m refl h))
-      (λ o ms s. record { before = o ∷ s.before; last = s.last; connection = s.connection; is_last = ap (λ z. o ∷ z) s.is_last; here = s.here; clashes = s.clashes }) false
+      (λ o ms s. record { before = o ∷ s.before; last = s.last; connection = s.connection; is_last = ap (λ z. o ∷ z) s.is_last; here = s.here; commits = s.commits; clashes = s.clashes }) again false
 
   abbrev is_sure : Fate → Bool
   is_sure Fate.Refused = true
   is_sure Fate.Absent = true
   is_sure _ = false
 
-  -- after a doubt it is never sure that nothing was added
-  no_more : (n : ℕ) (xs : List Tells) (f : Fate) → fate_of true n xs ≡ Some f → is_sure f ≡ true → ⊥
-  no_more zero [] f e s = let same : Fate.Open ≡ f = cc in let no : true ≡ false = sym s ∙ ap is_sure (sym same) in cc
-  no_more zero (x ∷ xs) f e s = cc
-  no_more (suc n) [] f e s = cc
-  no_more (suc n) (Tells.Stands ∷ []) f e s = let same : Fate.Stands ≡ f = cc in let no : true ≡ false = sym s ∙ ap is_sure (sym same) in cc
-  no_more (suc n) (Tells.Stands ∷ y ∷ xs) f e s = cc
-  no_more (suc n) (Tells.Clash ∷ []) f e s = let same : Fate.Clash ≡ f = cc in let no : true ≡ false = sym s ∙ ap is_sure (sym same) in cc
-  no_more (suc n) (Tells.Clash ∷ y ∷ xs) f e s = cc
-  no_more (suc n) (Tells.Refused ∷ xs) f e s = no_more n xs f e s
-  no_more (suc n) (Tells.Nothing ∷ xs) f e s = no_more n xs f e s
-  no_more (suc n) (Tells.Doubt ∷ xs) f e s = no_more n xs f e s
+  not_sure : (g f : Fate) → is_sure g ≡ false → Some g ≡ Some f → is_sure f ≡ true → ⊥
+  not_sure g f n e s = let same : g ≡ f = cc in let no : true ≡ false = sym s ∙ ap is_sure (sym same) ∙ n in cc
 
-  none_in : (n : ℕ) (ms : List (Option Made)) (f : Fate) → Each (IsTry t w) ms → fate_of false n (map tells_in ms) ≡ Some f → is_sure f ≡ true → NoneAdded w ms
-  none_in n [] f h e s = tt
-  none_in zero (m ∷ ms) f h e s = cc
-  none_in (suc n) (m ∷ ms) f h e s = go (tells_in m) refl ms (λ e. none_in n ms f h.1 e s) e
+  -- After a doubt no fate says that nothing was added.
+  no_more : (again : Retry) (n : ℕ) (xs : List Tells) (f : Fate) → fate_of again true n xs ≡ Some f → is_sure f ≡ true → ⊥
+  no_more again zero [] f e s = not_sure Fate.Open f refl e s
+  no_more again zero (x ∷ xs) f e s = cc
+  no_more again (suc n) [] f e s = cc
+  no_more again (suc n) (Tells.Stands ∷ []) f e s = not_sure Fate.Stands f refl e s
+  no_more again (suc n) (Tells.Stands ∷ y ∷ xs) f e s = cc
+  no_more again (suc n) (Tells.Clash ∷ []) f e s = not_sure Fate.Clash f refl e s
+  no_more again (suc n) (Tells.Clash ∷ y ∷ xs) f e s = cc
+  no_more again (suc n) (Tells.Refused ∷ xs) f e s = no_more again n xs f e s
+  no_more again (suc n) (Tells.Nothing ∷ xs) f e s = no_more again n xs f e s
+  no_more Retry.Tokens (suc n) (Tells.Doubt ∷ xs) f e s = no_more Retry.Tokens n xs f e s
+  no_more Retry.Never (suc n) (Tells.Doubt ∷ []) f e s = not_sure Fate.Open f refl e s
+  no_more Retry.Never (suc n) (Tells.Doubt ∷ y ∷ xs) f e s = cc
+
+  none_in : (again : Retry) (n : ℕ) (ms : List (Option Made)) (f : Fate) → Each (IsTry t w) ms → fate_of again false n (map tells_in ms) ≡ Some f → is_sure f ≡ true → NoneAdded w ms
+  none_in again n [] f h e s = tt
+  none_in again zero (m ∷ ms) f h e s = cc
+  none_in again (suc n) (m ∷ ms) f h e s = go (tells_in m) refl again ms (λ e. none_in again n ms f h.1 e s) e
     where
-      go : (x : Tells) → tells_in m ≡ x → (ms : List (Option Made)) → (fate_of false n (map tells_in ms) ≡ Some f → NoneAdded w ms) → fate_of false (suc n) (x ∷ map tells_in ms) ≡ Some f → NoneAdded w (m ∷ ms)
-      go Tells.Stands p [] later e = let same : Fate.Stands ≡ f = cc in let no : true ≡ false = sym s ∙ ap is_sure (sym same) in cc
-      go Tells.Stands p (y ∷ ms) later e = cc
-      go Tells.Clash p [] later e = let same : Fate.Clash ≡ f = cc in let no : true ≡ false = sym s ∙ ap is_sure (sym same) in cc
-      go Tells.Clash p (y ∷ ms) later e = cc
-      go Tells.Refused p [] later e = (it_refused m h.0 p, tt)
-      go Tells.Refused p (y ∷ ms) later e = cc
-      go Tells.Nothing p ms later e = (it_did_nothing m h.0 p, later e)
-      go Tells.Doubt p ms later e = absurd (no_more n (map tells_in ms) f e s)
+      go : (x : Tells) → tells_in m ≡ x → (again : Retry) (ms : List (Option Made)) → (fate_of again false n (map tells_in ms) ≡ Some f → NoneAdded w ms) → fate_of again false (suc n) (x ∷ map tells_in ms) ≡ Some f → NoneAdded w (m ∷ ms)
+      go Tells.Stands p again [] later e = absurd (not_sure Fate.Stands f refl e s)
+      go Tells.Stands p again (y ∷ ms) later e = cc
+      go Tells.Clash p again [] later e = absurd (not_sure Fate.Clash f refl e s)
+      go Tells.Clash p again (y ∷ ms) later e = cc
+      go Tells.Refused p again [] later e = (it_refused m h.0 p, tt)
+      go Tells.Refused p again (y ∷ ms) later e = cc
+      go Tells.Nothing p again ms later e = (it_did_nothing m h.0 p, later e)
+      go Tells.Doubt p Retry.Tokens ms later e = absurd (no_more Retry.Tokens n (map tells_in ms) f e s)
+      go Tells.Doubt p Retry.Never [] later e = absurd (not_sure Fate.Open f refl e s)
+      go Tells.Doubt p Retry.Never (y ∷ ms) later e = cc
 
 pub one_caller_may_rely : OneCallerMayRely
-one_caller_may_rely S brought w r t made h tries Fate.Stands e = stands_in S brought w r t tries made h e
-one_caller_may_rely S brought w r t made h tries Fate.Refused e = none_in S brought w r t tries made Fate.Refused h e refl
-one_caller_may_rely S brought w r t made h tries Fate.Absent e = none_in S brought w r t tries made Fate.Absent h e refl
-one_caller_may_rely S brought w r t made h tries Fate.Clash e = clashes_in S brought w r t tries made h e
-one_caller_may_rely S brought w r t made h tries Fate.Open e = tt
+one_caller_may_rely S brought w r t made h again tries Fate.Stands e = stands_in S brought w r t again tries made h e
+one_caller_may_rely S brought w r t made h again tries Fate.Refused e = none_in S brought w r t again tries made Fate.Refused h e refl
+one_caller_may_rely S brought w r t made h again tries Fate.Absent e = none_in S brought w r t again tries made Fate.Absent h e refl
+one_caller_may_rely S brought w r t made h again tries Fate.Clash e = clashes_in S brought w r t again tries made h e
+one_caller_may_rely S brought w r t made h again tries Fate.Open e = commits_once S brought w r t

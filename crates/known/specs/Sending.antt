@@ -1,30 +1,31 @@
--- What `until_known` of `connects` tells of the ledger.
+-- The meaning of a call of `until_known` of `connects` for the ledger.
 use Rattle.std.specs.Prelude.{◌≡◌, ℕ, false, Option, Some, None, List, map}
 use Rattle.engine.specs.Views.{EntryView}
 use Rattle.session.specs.Session.{Setting}
+use Rattle.driver.specs.declared.Retry.{Retry}
 use Rattle.driver.specs.declared.Fate.{Fate}
 use Rattle.driver.specs.Attempts.{Made, tells_in}
 use Rattle.driver.specs.Fates.{fate_of}
-use Rattle.connects.specs.Attempting.{AskedView, Streams}
-use Rattle.connects.specs.Retrying.{AreTries}
+use Rattle.connects.specs.Attempting.{AskedView}
+use Rattle.connects.specs.Retrying.{Ending, AreTries}
 use Rattle.world.specs.Connections.{Connection}
 use Rattle.world.specs.World.{World, Reached}
 use Rattle.world.specs.Good.{Each}
 use Rattle.known.specs.Tied.{IsAt}
 use Rattle.known.specs.OneCaller.{Means}
 
--- The connection of the world that has its number is the attempt, if its requests were sent.
+-- If there is an attempt, it is the connection with its number.
 abbrev pub IsMet : World → Option Made → Type 0
 IsMet w None = Unit {0}
 IsMet w (Some m) = (k : Connection) × IsAt w m.conn k m.attempt
 
--- In every reached world in which the attempts of a call over the connections that it opened are connections of ours, whoever else uses its token,
--- what is known by them is so.
+-- A call made these attempts, by the log of the connections that it used. In every reached world in which each attempt is the connection with its
+-- number, the fate of the attempts means this for the ledger, under each `Retry`. Other callers may use the token too.
 abbrev pub SentUntilKnown : Type 0
 SentUntilKnown =
     (S : Setting) (brought : List EntryView) (w : World) → Reached S brought w
-    → (a : AskedView) (conns : ℕ → ℕ) (used : List (Option (Streams × Streams)))
+    → (a : AskedView) (conns : ℕ → ℕ) (used : List (Option Ending))
     → (made : List (Option Made)) → AreTries a conns 0 used made
     → Each (IsMet w) made
-    → (tries : ℕ) (f : Fate) → fate_of false tries (map tells_in made) ≡ Some f
+    → (again : Retry) (tries : ℕ) (f : Fate) → fate_of again false tries (map tells_in made) ≡ Some f
     → Means S a.token w made f

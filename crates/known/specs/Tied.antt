@@ -1,4 +1,4 @@
--- An attempt as its caller saw it, and the connection of a world that it is.
+-- An attempt as its caller sees it, and the connection of a world that it is.
 use Rattle.std.specs.Prelude.{◌≡◌, ℕ, ◌<◌, true, Some, List, [], ◌∷◌, length, slice_get}
 use Rattle.messages.specs.View.{RequestView}
 use Rattle.engine.specs.Views.{EntryView}
@@ -12,8 +12,8 @@ use Rattle.driver.specs.Telling.{adds_nothing}
 use Rattle.driver.specs.Attempts.{Attempt, told_of}
 use Rattle.known.specs.Attempts.{BeginsUnder, OthersStand}
 
--- The connection of this number in the world is the attempt: its client is one of ours, of this wish, submitted these requests, and was
--- given these bytes.
+-- The connection with this number in the world is the attempt. Its client is one of this library, and it has the attempt's wish. It submitted the
+-- same requests and took the same bytes, and it is lost if the attempt's client is.
 pub record IsAt (w : World) (c : ℕ) (k : Connection) (a : Attempt) : Type 0 where
   pub here : slice_get w.conns c ≡ Some k
   pub ours : k.peer ≡ Ours a.wish
@@ -21,14 +21,14 @@ pub record IsAt (w : World) (c : ℕ) (k : Connection) (a : Attempt) : Type 0 wh
   pub took : bytes_delivered k ≡ a.took
   pub lost : k.client_lost ≡ a.lost
 
--- What a caller was told of a request is what its connection reports.
+-- If an attempt reports an outcome for a request, its connection has this outcome for it.
 abbrev pub TellsOutcomes : Type 0
 TellsOutcomes =
     (S : Setting) (brought : List EntryView) (w : World) → Reached S brought w
     → (c : ℕ) (k : Connection) (a : Attempt) → IsAt w c k a
     → (i : ℕ) (o : Outcome) → told_of a i ≡ Some o → outcome k i ≡ Some o
 
--- An attempt was told that its COMMIT committed: exactly one entry of the whole ledger has the token, with its transaction's writes.
+-- If an attempt reports Committed for its COMMIT, exactly one entry of the whole ledger has the token. The entry has the transaction's writes.
 abbrev pub AttemptStands : Type 0
 AttemptStands =
     (S : Setting) (brought : List EntryView) (w : World) → Reached S brought w → (t : List ℕ)
@@ -37,7 +37,7 @@ AttemptStands =
     → told_of a i ≡ Some Outcome.Committed
     → under_token t (ledger w) ≡ (change S w k i).writes ∷ []
 
--- An attempt was told that its COMMIT was refused: exactly one entry of the whole ledger has the token, with other writes than those of its
+-- If an attempt reports Refused for its COMMIT, exactly one entry of the whole ledger has the token. The entry has other writes than the
 -- transaction.
 abbrev pub AttemptClashes : Type 0
 AttemptClashes =
@@ -47,18 +47,18 @@ AttemptClashes =
     → told_of a i ≡ Some Outcome.Refused
     → OthersStand t w (change S w k i).writes
 
--- each request of the attempt was told to have committed nothing
+-- The attempt reports for each of its requests that it committed nothing.
 abbrev pub IsRefused : Attempt → Type 0
 IsRefused a = (i : ℕ) → i < length a.sent → adds_nothing (told_of a i) ≡ true
 
--- Such an attempt added no entry.
+-- Such an attempt adds no entry to the ledger.
 abbrev pub AttemptAddsNone : Type 0
 AttemptAddsNone =
     (S : Setting) (brought : List EntryView) (w : World) → Reached S brought w
     → (c : ℕ) (k : Connection) (a : Attempt) → IsAt w c k a → IsRefused a
     → Each (λ e. e.conn ≡ c → ⊥) w.since
 
--- An attempt whose client was lost is the same connection after each further event: it is told nothing more, and sends nothing more.
+-- If an attempt's client is lost, the attempt is the same connection after each further event. The client sends and takes nothing more.
 abbrev pub LostStays : Type 0
 LostStays =
     (S : Setting) (brought : List EntryView) (w : World) → Reached S brought w

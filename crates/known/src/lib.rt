@@ -1,6 +1,6 @@
-//! What attempts of one transaction under one token tell of the ledger, whoever else uses the token.
+//! Laws of what attempts at one transaction under one token mean for the ledger. Other callers may use the token too.
 //!
-//! What one caller may rely on is [`laws::one_caller_may_rely`].
+//! The main law for one caller is [`laws::one_caller_may_rely`].
 #![tactic(auto)]
 
 pub mod laws;

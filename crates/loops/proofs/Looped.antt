@@ -26,7 +26,7 @@ pub use Rattle.serves.specs.declared.liveness.Liveness.{Liveness}
 pub use Rattle.one_by_one.proofs.Served.{found_by}
 pub use Rattle.loops.specs.Prelude.{AreQuiet, Breaks, BreaksAt, BreaksAtSource, BreaksIn, Comes, EndsAt, Goes, HasHeard, HearsFront, HearsUpTo, HasLooped, IsHeardAll, IsQuiet, LetsReadWaiting, Meets}
 pub use Rattle.loops.specs.Prelude.{Numbers, Outset, Passes, ReadsUpTo, Sits, StandsAt, TellsLine, Turns, Way, Ways, all_sent, answer_to, asked, due, end, exchanged, next_turn, no_turns, outset}
-pub use Rattle.loops.specs.Prelude.{HandsOver, place_by, stage, talk_for, text_by, turns_of, with_item, with_line, LetBothRead, Pair}
+pub use Rattle.loops.specs.Prelude.{buffer_of, HandsOver, place_by, stage, talk_for, text_by, turns_of, with_item, with_line, LetBothRead, Pair}
 
 pub ruleset parts = (take-append-drop, length-take)
 
@@ -160,12 +160,12 @@ Left r conn Now out t = (u : Opened) × Now (with_talk r conn u t.ledger t.kept)
 
 module _ {G : Type 0} (r : Rest G) (conn : ℕ) (S : Setting) (Now : Rest G → Type 0) (up : List ℕ) where
   pub sits_talk : (out : List ℕ) (liveness : Liveness) → Sits r conn S Now up out liveness → Left r conn Now out (talk_for S conn r.ledger up)
-  sits_talk out Liveness.Open s = subst (Left r conn Now out) (sym (talk_by_items S conn r.ledger up)) (state at_server at_server.start up, s.0.0, s.0.1)
+  sits_talk out Liveness.Open s = subst (Left r conn Now out) (sym (talk_by_items S conn r.ledger up)) (state at_server at_server.start up, s.0.0, s.0.1.grows)
   sits_talk out Liveness.Over s =
       let same = sym (told_over r conn S s.front s.rest s.over) ∙ ap (told_by r conn S) s.parts ∙ sym (talk_by_items S conn r.ledger up) in
-      subst (Left r conn Now out) same (state at_server at_server.start s.front, s.stands.0, s.stands.1)
+      subst (Left r conn Now out) same (state at_server at_server.start s.front, s.stands.0, s.stands.1.grows)
 
-  pub sits_takes : (piece out : List ℕ) (liveness : Liveness) → TakesPiece r conn S Now (Some []) (Some out) up piece (Ok liveness)
+  pub sits_takes : (piece out : List ℕ) (liveness : Liveness) → TakesPiece r conn S Now (buffer_of []) (buffer_of out) up piece (Ok liveness)
       → Sits r conn S Now (up ++ piece) out liveness
   sits_takes piece out Liveness.Open h = h
   sits_takes piece out Liveness.Over h = record { front = up ++ h.front; rest = h.rest; parts = rw (append_assoc, h.parts) refl; stands = h.stands; over = h.over }

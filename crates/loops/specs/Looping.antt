@@ -23,6 +23,7 @@ use Rattle.serves.specs.Conversing.{Talk, with_talk}
 use Rattle.streams.specs.Fronts.{AppendsFront}
 use Rattle.streams.specs.Limits.{max_piece}
 use Rattle.serves.specs.Settling.{Grows, Stands, TakesUp}
+use Rattle.serves.specs.Views.{SinkView}
 use Rattle.prints.specs.Telling.{entries_text}
 
 -- a stop at a line that can't be read has the number of the first such line
@@ -116,11 +117,15 @@ Goes r conn start now Now Came There (Ok x) = Came
 Goes r conn start now Now Came There (Err fault) =
     Grows r conn Now × HasCause (Broken fault) start now × There
 
+-- a buffer with these bytes, as a sink
+abbrev pub buffer_of : List ℕ → SinkView
+buffer_of bytes = record { put = bytes; taken = Some bytes }
+
 module _ {G : Type 0} (r : Rest G) (conn : ℕ) (S : Setting) where
-  -- The session took these bytes of its client, whole or up to its end, and this is all that it has put out.
+  -- The session took these bytes of its client, up to its end, and this is all that it has put out.
   abbrev pub Sits : (Rest G → Type 0) → List ℕ → List ℕ → Liveness → Type 0
   Sits Now sent put_out liveness =
-      TakesUp r conn S (Stands r conn S Now (Some []) (Some put_out)) [] sent liveness
+      TakesUp r conn S (Stands r conn S Now (buffer_of []) (buffer_of put_out)) [] sent liveness
 
   -- Both have come so far, and all passed over the streams and is printed. The session lives, and the ledger has at most grown.
   pub record Comes (start now : Ways) (t : Turns) (pair : Pair) (Now : Rest G → Type 0) : Type 0

@@ -4,6 +4,6 @@ pub use Rattle.loops.specs.Turns.{given, exchanged, next_turn, stage, turns_of, 
 pub use Rattle.loops.specs.Ways.{Way, Ways}
 pub use Rattle.loops.specs.Passing.{GivesNoMore, GivesSome, Passes, Alters, BreaksAtSource, FailsToRead, FailsToWrite, AreWaiting, LetsReadWaiting, LetBothRead}
 pub use Rattle.loops.specs.Looping.{Numbers, TellsLine, HasLooped, HearsFront, ReadsUpTo, Outset, HearsUpTo, with_item, StandsAt, IsHeardAll, HasHeard, HandsOver}
-pub use Rattle.loops.specs.Looping.{HasCause, Goes, Sits, Comes, outset, Meets, IsOpened, end, whole_talk, all_text, Loops}
+pub use Rattle.loops.specs.Looping.{buffer_of, HasCause, Goes, Sits, Comes, outset, Meets, IsOpened, end, whole_talk, all_text, Loops}
 pub use Rattle.loops.specs.Breaking.{BreaksIn, BreaksAt, Exchanges, RunsLines, BreaksBehind, Breaks, EndsAt}
 pub use Rattle.loops.specs.declared.loops.Pair.{Pair}

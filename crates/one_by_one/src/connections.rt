@@ -1,4 +1,4 @@
-//! A server of one connection after another.
+//! Serves one connection after another.
 ghost use Rattle.std.specs.Prelude.{◌≡◌, [], true, IfErr, IfOk, MatchResult, OnOk, OnErr, IsErrOf};
 ghost use Rattle.std.specs.Io.KnownBytes.{Appends};
 ghost use Rattle.server.specs.Serving.{Rest, opened, setting};
@@ -15,7 +15,7 @@ use std::alloc::Global;
 use std::marker::Model;
 use streams::{Sink, Source, StreamFault};
 
-/// The streams of a connection at its server's end: what comes of its client, and what is sent there.
+/// The streams of a connection at its server's end: the client's bytes come from the source, and the answers go to the sink.
 #[derive(Drop)]
 pub struct ServerStreams<I: Source, O: Sink> {
     pub source: I,
@@ -31,8 +31,10 @@ impl<I: Source, O: Sink> Model for ServerStreams<I, O> {
     ghost view = { λ w. record {
       held = (w.source, w.sink);
       at = record {
+        given = I.given w.source;
         left = I.left w.source;
         reads = I.reads w.source;
+        put = O.put w.sink;
         written = O.taken w.sink;
         read_failed = I.has_failed w.source;
         write_failed = O.has_failed w.sink;
@@ -40,20 +42,25 @@ impl<I: Source, O: Sink> Model for ServerStreams<I, O> {
     } };
 }
 
-/// How a connection has ended.
+/// The end of a connection.
 #[derive(Clone, Copy, Debug, PartialEq, Eq)]
 pub struct ServedOne {
-    /// The cause of its session's end; `Lost` where a fault came, and where the input ended first.
+    /// The cause of the session's end: `Lost` if a fault came or the input ended first.
     pub cause: Cause,
-    /// What broke the conversation off: a stream that failed, or want of memory. None if the peer or the session ended it.
+    /// The fault that ended the conversation: a failed stream, or out of memory. None if the peer or the session ended it.
     pub fault: Option<StreamFault>,
 }
 
-/// Serves one connection, of a server that has no other: opens a session, serves it to its end or that of the input, gives it up, and
-/// prints `conn K En`, its number and the cause of its end. A connection of which a stream fails, or for which memory runs out, is lost, E8,
-/// and that is no fault of the server: it can go on with the next. The answer has that fault beside the cause, so that want of memory and a
-/// stream that failed are told from a peer that left. I2 is a failure of `out` alone, I3 want of memory or of a number to open a session, or
-/// of memory to tell its end.
+/// Serves one connection of a server that has no other. It opens a session, serves it to its end or to that of the input, and gives it up. Then
+/// it prints `conn K En`: the connection's number and the cause of its end.
+///
+/// If a stream of the connection fails, or memory runs out for it, the cause is E8 and the answer has the fault beside it. The server can go on
+/// with the next connection.
+///
+/// # Errors
+///
+/// - I2 if `out` fails.
+/// - I3 if no memory or no number is left to open a session, or no memory to print its end.
 pub fn serve_next<E: Engine, G: Gate, I: Source, O: Sink, P: Sink>(
     alloc: Global,
     server: &mut Server<E, G>,
@@ -68,11 +75,11 @@ pub fn serve_next<E: Engine, G: Gate, I: Source, O: Sink, P: Sink>(
     // .. also after a fault, if a session was opened.
     ensures err { (r : Rest G) → Fits E.entries server.old r → r.sessions ≡ []
         → OnErr result (MayHaveServed r (Fits E.entries server.new)) }
-    // What is printed is the connection's number and its cause.
+    // It prints the connection's number and its cause.
     ensures told { (r : Rest G) → Fits E.entries server.old r
         → IfOk result (λ told. Appends (P.taken out.old) (P.taken out.new)
         (conn_line r.next told.cause)) }
-    // What the client was answered, the ledger, the cause and the fault are those of its conversation, for the bytes that were read.
+    // The answers to the client, the ledger, the cause and the fault are those of the conversation for the bytes that the source gave.
     ensures serves { (r : Rest G) → Fits E.entries server.old r → r.sessions ≡ []
         → IfOk result (ServesSo (opened r) r.next (setting E.answer G.welcomes r)
         (Fits E.entries server.new) streams.old.at streams.new.at) }
@@ -90,7 +97,11 @@ pub fn serve_next<E: Engine, G: Gate, I: Source, O: Sink, P: Sink>(
     }
 }
 
-/// Opens a session, and answers its number; or I3, for want of memory or of a number.
+/// Opens a session and returns its number.
+///
+/// # Errors
+///
+/// I3 if no memory or no number is left.
 #[tactic(auto, using(crate::proofs::Served::not_opened))]
 pub fn open_session<E: Engine, G: Gate>(server: &mut Server<E, G>) -> Result<u64, StreamFault>
     ensures opens { (r : Rest G) → Fits E.entries server.old r
@@ -104,7 +115,7 @@ pub fn open_session<E: Engine, G: Gate>(server: &mut Server<E, G>) -> Result<u64
     }
 }
 
-/// Serves a session that was opened, and gives it up. If a stream fails, or memory runs out, it was lost, by that fault.
+/// Serves a session that was opened, and gives it up. If a stream fails or memory runs out, the end is `Lost` with that fault.
 #[tactic(auto, using(crate::proofs::Served::served, crate::proofs::Served::found_by))]
 fn serve_opened<E: Engine, G: Gate, I: Source, O: Sink>(
     alloc: Global,
@@ -123,7 +134,7 @@ fn serve_opened<E: Engine, G: Gate, I: Source, O: Sink>(
     told_of(served)
 }
 
-/// How a connection has ended that was served so.
+/// Returns the end of a connection that was served with this result.
 fn told_of(served: Result<Cause, StreamFault>) -> ServedOne
     ensures { result ≡ told_of served }
 {
@@ -136,15 +147,16 @@ fn told_of(served: Result<Cause, StreamFault>) -> ServedOne
     }
 }
 
-/// How many bytes are read at once of what a peer still sends after the end, and how often at most.
+/// The most bytes that `drain` reads at once.
 const LAST_PIECE: usize = 1024;
 
+/// The most reads that `drain` makes.
 const LAST_READS: u32 = 64;
 
-/// Reads what still comes and drops it, to the end of the input or a failure: 65,536 bytes at most, by 64 reads at most.
+/// Reads what the peer still sends and drops it, to the end of the input or a failure: at most 65,536 bytes, by at most 64 reads.
 ///
-/// A connection that is closed while bytes of its peer are unread is reset, which throws away what was written and hasn't arrived. So whoever
-/// serves stops writing, drains, and then closes.
+/// If a connection is closed while bytes of its peer are unread, it is reset, and bytes that were written and haven't arrived are lost. So a
+/// server stops writing, drains, and then closes.
 pub fn drain<I: Source, O: Sink>(streams: &mut ServerStreams<I, O>)
     ensures { Drains streams.old.at streams.new.at }
 {

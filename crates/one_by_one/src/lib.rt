@@ -1,4 +1,4 @@
-//! A server of one connection after another, over streams.
+//! Serves one connection after another, over streams.
 #![tactic(auto)]
 
 mod connections;

@@ -9,12 +9,14 @@ use Rattle.server.proofs.Runs.{find_replaced, find-conn}
 use Rattle.engine.specs.Prelude.{EntryView, WriteView, ParameterView, AnswerView, QueryFault, Welcome}
 use Rattle.wire.specs.Prelude.{Opened, Item, at_server, Took as TookOf, takes, outputs}
 use Rattle.session.specs.Prelude.{Kept, worked_of, work_kept, commit_entries, shut, full, after_item}
-use Rattle.serves.specs.Prelude.{Talk, with_talk, heard_out, without_talk, LeavesOthers, Grows, GrowsOn, LivesOn, Puts, said_by, Feeds, Holds, HoldsPart, StandsOver}
-use Rattle.streams.specs.Prelude.{AppendsFront}
+use Rattle.serves.specs.Prelude.{Talk, with_talk, heard_out, without_talk, LeavesOthers, Grows, GrowsOn, LivesOn, Puts, said_by, Feeds, IsPartOut, Holds, HoldsPart, StandsOver, SinkView, PutsBytes, PutsFront}
+use Rattle.streams.specs.Moving.{Grows as HasGrown}
 use Rattle.engine.specs.declared.answer.Mode.{Mode as QueryMode}
 use Rattle.session.specs.declared.kinds.Worked.{Worked}
 use Rattle.std.specs.Io.KnownBytes.{Appends}
 use Rattle.std.proofs.KnownBytes.{Appends-trans}
+use Rattle.streams.proofs.Moving.{Grows-trans}
+use Rattle.serves.proofs.Views.{puts_trans, part_after, part_all, part_front, part_held, part_taken, part_then}
 use Rattle.streams.specs.declared.fault.StreamFault.{StreamFault}
 use Rattle.wire.proofs.Readers.{reads_pieces, takes_outputs}
 use Rattle.server.specs.declared.kinds.Took.{Took}
@@ -61,13 +63,11 @@ some_first a x b y e = ap (λ o. (unwrap_or o (pair a b)).0) e
 pub some_second : {A B : Type 0} (a x : A) (b y : B) → Some (pair a b) ≡ Some (pair x y) → b ≡ y
 some_second a x b y e = ap (λ o. (unwrap_or o (pair a b)).1) e
 
--- A beginning of what the session has said is out, and it holds what follows of that, or nothing more.
-pub record PutsFront {G : Type 0} (Now : Rest G → Type 0) (r : Rest G) (conn : ℕ) (u : Opened) (ledger : List EntryView) (k : Kept) (before taken : Option (List ℕ)) : Type 0 where
+-- A prefix of what the session has said is out. It holds what follows that, or nothing.
+pub record PutsPart {G : Type 0} (Now : Rest G → Type 0) (r : Rest G) (conn : ℕ) (u : Opened) (ledger : List EntryView) (k : Kept) (before taken : SinkView) : Type 0 where
   pub left : Kept
-  pub gone : List ℕ
-  pub lost : List ℕ
-  pub parts : gone ++ (left.unsent ++ lost) ≡ k.unsent
-  pub took : Appends before taken gone
+  pub grows : IsPartOut (HasGrown before.put taken.put) left.unsent k.unsent
+  pub known : IsPartOut (Appends before.taken taken.taken) left.unsent k.unsent
   pub now : Now (with_talk r conn u ledger left)
 
 module _ {G : Type 0} (r : Rest G) (conn : ℕ) (lives : IsSome (find conn r.sessions)) (u : Opened) (ledger : List EntryView) (k : Kept) where
@@ -94,20 +94,20 @@ module _ {G : Type 0} (r : Rest G) (conn : ℕ) (lives : IsSome (find conn r.ses
       let model = sym e ∙ ap (option_map (λ (s : Live). after_step s (work_kept (setting answer welcomes W) s.conn ledger s.kept s.kept.ended) W)) (talk-found r conn lives u ledger k) ∙ ap (λ z. Some (pair (worked_of d.answer) z)) (seated u after d.kept) in
       (some_first x (worked_of d.answer) new (with_talk r conn u after d.kept) model, some_second x (worked_of d.answer) new (with_talk r conn u after d.kept) model)
 
-  -- all that the session has said is out, or a beginning of it
-  module _ (old new : Rest G) (before taken : Option (List ℕ)) (stood : old ≡ W) where
+  -- all that the session has said is out, or a prefix of it
+  module _ (old new : Rest G) (before taken : SinkView) (stood : old ≡ W) where
     put : (out : List ℕ) → on_live said_by conn old ≡ Some (out, new) → (out ≡ k.unsent) × (new ≡ with_talk r conn u ledger (heard_out k))
     put out e = called said_by u (heard_out k) refl out new (ap (on_live said_by conn) (sym stood) ∙ e)
 
-    pub put_whole : Puts conn old new before taken (Ok tt) → (new ≡ with_talk r conn u ledger (heard_out k)) × Appends before taken k.unsent
-    put_whole h = let p = put h.0 h.1 in (p.1, subst (Appends before taken) p.0 h.2)
+    pub put_whole : Puts conn old new before taken (Ok tt) → (new ≡ with_talk r conn u ledger (heard_out k)) × PutsBytes before taken k.unsent
+    put_whole h = let p = put h.0 h.1 in (p.1, subst (PutsBytes before taken) p.0 h.2)
 
-    pub put_front : (fault : StreamFault) → Puts conn old new before taken (Err fault) → PutsFront (λ x. new ≡ x) r conn u ledger k before taken
-    put_front fault (inl h) = record { left = k; gone = []; lost = []; parts = append-nil k.unsent; took = h.1; now = h.0 ∙ stood }
+    pub put_front : (fault : StreamFault) → Puts conn old new before taken (Err fault) → PutsPart (λ x. new ≡ x) r conn u ledger k before taken
+    put_front fault (inl h) = record { left = k; grows = part_held [] refl h.1.grows; known = part_held [] refl h.1.known; now = h.0 ∙ stood }
     put_front fault (inr h) =
         let p = put h.0 h.1 in
-        let w = h.2 in
-        record { left = heard_out k; gone = w.0; lost = w.1; parts = w.2 ∙ p.0; took = w.3; now = p.1 }
+        let w = subst (PutsFront before taken) p.0 h.2 in
+        record { left = heard_out k; grows = part_front w.grows; known = part_front w.known; now = p.1 }
 
 -- the server once a session has these bytes left
 abbrev left : {G : Type 0} → Rest G → Live → List ℕ → Rest G
@@ -255,44 +255,49 @@ module _ {G : Type 0} (conn : ℕ) where
       (g.more, (gone (lost_at conn) o mid new lost (with_talk r conn g.unfinished (r.ledger ++ g.more) g.kept) g.now).1 ∙ lost_rest r conn i g.unfinished (r.ledger ++ g.more) g.kept)
 
 -- What a session holds is put out.
-module _ {G : Type 0} {r : Rest G} {conn : ℕ} (i : IsSome (find conn r.sessions)) {t : Talk} (before mid taken : Option (List ℕ)) (old new : Rest G) where
+module _ {G : Type 0} {r : Rest G} {conn : ℕ} (i : IsSome (find conn r.sessions)) {t : Talk} (before mid taken : SinkView) (old new : Rest G) where
   module _ {u : Opened} (h : Holds r conn u t (λ x. old ≡ x) before mid) where
     -- all of it
-    pub held_out : Puts conn old new mid taken (Ok tt) → (new ≡ with_talk r conn u t.ledger (heard_out t.kept)) × Appends before taken t.out
+    pub held_out : Puts conn old new mid taken (Ok tt) → (new ≡ with_talk r conn u t.ledger (heard_out t.kept)) × PutsBytes before taken t.out
     held_out puts =
         let p = put_whole r conn i u t.ledger (record t.kept { unsent = h.held }) old new mid taken h.now puts in
-        (p.0, subst (Appends before taken) h.parts (Appends-trans before mid taken h.gone h.held h.took p.1))
+        (p.0, subst (PutsBytes before taken) h.parts (puts_trans before mid taken h.gone h.held h.took p.1))
 
     -- so it holds nothing
     pub holds_none : Puts conn old new mid taken (Ok tt) → Holds r conn u t (λ x. new ≡ x) before taken
     holds_none puts = let p = held_out puts in record { gone = t.out; held = []; parts = append-nil t.out; took = p.1; now = p.0 }
 
-    -- or a beginning of it
+    -- or a prefix of it
     pub holds_some : (fault : StreamFault) → Puts conn old new mid taken (Err fault) → HoldsPart r conn (λ x. new ≡ x) before taken t
     holds_some fault puts =
         let p = put_front r conn i u t.ledger (record t.kept { unsent = h.held }) old new mid taken h.now fault puts in
         record {
           unfinished = u;
           kept = p.left;
-          gone = h.gone ++ p.gone;
-          lost = p.lost;
-          parts = append_assoc h.gone p.gone (p.left.unsent ++ p.lost) ∙ ap (λ (z : List ℕ). h.gone ++ z) p.parts ∙ h.parts;
-          took = Appends-trans before mid taken h.gone p.gone h.took p.took;
+          grows = part_after (Grows-trans before.put mid.put taken.put) h.gone h.parts h.took.grows p.grows;
+          known = part_after (Appends-trans before.taken mid.taken taken.taken) h.gone h.parts h.took.known p.known;
           now = p.now;
         }
 
-  -- where it holds a part
-  pub part_out : HoldsPart r conn (λ x. old ≡ x) before mid t → (done : Result (Unit {0}) StreamFault) → Puts conn old new mid taken done → StandsOver r conn (λ x. new ≡ x) t.ledger × AppendsFront before taken t.out
+  -- if it holds a part
+  pub part_out : HoldsPart r conn (λ x. old ≡ x) before mid t → (done : Result (Unit {0}) StreamFault) → Puts conn old new mid taken done → StandsOver r conn (λ x. new ≡ x) t.ledger × PutsFront before taken t.out
   part_out h (Ok done) puts =
-      let p = put_whole r conn i h.unfinished t.ledger h.kept old new mid taken h.now puts in
-      (record { unfinished = h.unfinished; kept = heard_out h.kept; now = p.0 }, (h.gone ++ h.kept.unsent, h.lost, append_assoc h.gone h.kept.unsent h.lost ∙ h.parts, Appends-trans before mid taken h.gone h.kept.unsent h.took p.1))
+      let p = put_whole r conn i h.unfinished t.ledger h.kept old new mid taken h.now puts in (
+        record { unfinished = h.unfinished; kept = heard_out h.kept; now = p.0 },
+        record {
+          grows = part_taken {Took = HasGrown before.put taken.put} (part_then (Grows-trans before.put mid.put taken.put) h.grows (part_all h.kept.unsent p.1.grows));
+          known = part_taken {Took = Appends before.taken taken.taken} (part_then (Appends-trans before.taken mid.taken taken.taken) h.known (part_all h.kept.unsent p.1.known));
+        },
+      )
   part_out h (Err fault) puts =
-      let p = put_front r conn i h.unfinished t.ledger h.kept old new mid taken h.now fault puts in
-      let more = (p.left.unsent ++ p.lost) ++ h.lost in
-      let parts : (h.gone ++ p.gone) ++ more ≡ t.out =
-      append_assoc h.gone p.gone more ∙ ap (λ (z : List ℕ). h.gone ++ z) (sym (append_assoc p.gone (p.left.unsent ++ p.lost) h.lost) ∙ ap (λ (z : List ℕ). z ++ h.lost) p.parts) ∙ h.parts in
-      (record { unfinished = h.unfinished; kept = p.left; now = p.now }, (h.gone ++ p.gone, more, parts, Appends-trans before mid taken h.gone p.gone h.took p.took))
+      let p = put_front r conn i h.unfinished t.ledger h.kept old new mid taken h.now fault puts in (
+        record { unfinished = h.unfinished; kept = p.left; now = p.now },
+        record {
+          grows = part_taken {Took = HasGrown before.put taken.put} (part_then (Grows-trans before.put mid.put taken.put) h.grows p.grows);
+          known = part_taken {Took = Appends before.taken taken.taken} (part_then (Appends-trans before.taken mid.taken taken.taken) h.known p.known);
+        },
+      )
 
 -- a part as it is held
-pub part_stands : {G : Type 0} {r : Rest G} {conn : ℕ} {t : Talk} {before taken : Option (List ℕ)} {Now : Rest G → Type 0} → HoldsPart r conn Now before taken t → StandsOver r conn Now t.ledger × AppendsFront before taken t.out
-part_stands h = (record { unfinished = h.unfinished; kept = h.kept; now = h.now }, (h.gone, h.kept.unsent ++ h.lost, h.parts, h.took))
+pub part_stands : {G : Type 0} {r : Rest G} {conn : ℕ} {t : Talk} {before taken : SinkView} {Now : Rest G → Type 0} → HoldsPart r conn Now before taken t → StandsOver r conn Now t.ledger × PutsFront before taken t.out
+part_stands h = (record { unfinished = h.unfinished; kept = h.kept; now = h.now }, record { grows = part_taken h.grows; known = part_taken h.known })

@@ -1,23 +1,23 @@
 -- A conversation with the bytes of a source, and what waits to go behind it.
 use Rattle.std.proofs.Common.{◌≡◌, refl, sym, ap, subst, ◌∙◌, ℕ, List, [], ◌++◌, append_assoc, append-nil, Option, Some, None, Result, Ok, Err, Bool, false, true≢false, ◌⊎◌, inl, inr, IsSome, IfErr, true}
-use Rattle.std.specs.Io.KnownBytes.{Appends, Keeps, Consumes, IsAtEnd}
-use Rattle.std.proofs.KnownBytes.{Appends-nil, Consumes-kept, Consumes-trans, Consumes-nil}
+use Rattle.std.specs.Io.KnownBytes.{Consumes, IsAtEnd}
+use Rattle.std.proofs.lemmas.List.{append_cancel_left}
+use Rattle.streams.specs.Prelude.{Grows, MovesFront}
 use Rattle.session.specs.Prelude.{Setting, Kept, begun}
 use Rattle.wire.specs.Prelude.{state, at_server, opening}
 use Rattle.server.specs.Prelude.{Rest, Live, find, fresh}
 use Rattle.serves.specs.declared.liveness.Liveness.{Liveness}
 use Rattle.serves.specs.declared.liveness.Liveness.TheVariants.{Open, Over}
 use Rattle.streams.specs.declared.fault.StreamFault.{StreamFault}
-use Rattle.streams.specs.Prelude.{AppendsFront}
-use Rattle.serves.specs.Prelude.{StandsOver, told_by, BreaksIn, Stands, HoldsAfter, BreaksHolding, TakesItems, TakesPiece, taken_and_put, Puts, IsDueTo, Talk, conversation, with_talk, IsTurn, IsBrokenOff, IsFront, Converses, ConversesFront}
+use Rattle.serves.specs.Prelude.{StandsOver, told_by, BreaksIn, Stands, HoldsAfter, BreaksHolding, TakesItems, TakesPiece, taken_and_put, Puts, IsDueTo, Talk, conversation, with_talk, IsTurn, IsBrokenOff, IsFront, Converses, ConversesWhole, ConversesFront, SourceView, SinkView, GivesBytes, PutsBytes, PutsFront}
 use Rattle.serves.proofs.Talks.{breaks_more, breaks_whole, comes_by_items, talk_by_items, told_over, told_rests}
 use Rattle.serves.proofs.Stepping.{breaks_off, heard_same}
-use Rattle.streams.proofs.Fronts.{front_whole}
+use Rattle.serves.proofs.Views.{gives_nil, gives_trans, puts_nil, puts_whole}
 use Rattle.streams.specs.declared.fault.StreamFault.TheVariants as stream_fault
 use Rattle.serves.proofs.Called.{replace-itself, held_out, holds_some, part_out, part_stands}
 
 -- Before a piece nothing is held.
-pub begins_held : {G : Type 0} (r : Rest G) (conn : ℕ) (S : Setting) {before taken : Option (List ℕ)} (up : List ℕ) {Now : Rest G → Type 0} → Stands r conn S Now before taken up → HoldsAfter r conn S Now before taken up
+pub begins_held : {G : Type 0} (r : Rest G) (conn : ℕ) (S : Setting) {before taken : SinkView} (up : List ℕ) {Now : Rest G → Type 0} → Stands r conn S Now before taken up → HoldsAfter r conn S Now before taken up
 begins_held r conn S up {Now = Now} s = record {
   gone = (told_by r conn S up).out;
   held = [];
@@ -27,7 +27,7 @@ begins_held r conn S up {Now = Now} s = record {
 }
 
 -- A piece was taken, and what the session says is put out.
-module _ {G : Type 0} (r : Rest G) (conn : ℕ) (i : IsSome (find conn r.sessions)) (S : Setting) (before mid taken : Option (List ℕ)) (up : List ℕ) (old new : Rest G) where
+module _ {G : Type 0} (r : Rest G) (conn : ℕ) (i : IsSome (find conn r.sessions)) (S : Setting) (before mid taken : SinkView) (up : List ℕ) (old new : Rest G) where
   held_stands : (used : List ℕ) → HoldsAfter r conn S (λ x. old ≡ x) before mid used → Puts conn old new mid taken (Ok tt) → Stands r conn S (λ x. new ≡ x) before taken used
   held_stands used h puts =
       let p = held_out i before mid taken old new h puts in
@@ -62,7 +62,7 @@ module _ {G : Type 0} (r : Rest G) (conn : ℕ) (S : Setting) where
   by_read read = sym (talk_by_items S conn r.ledger read)
 
   -- what broke off the one by its items broke off the other
-  abbrev broken_by_read : (read : List ℕ) (Now : Rest G → Type 0) (old new : Option (List ℕ)) → BreaksIn r conn S read Now old new → IsBrokenOff r conn S read (StandsOver r conn Now) old new
+  abbrev broken_by_read : (read : List ℕ) (Now : Rest G → Type 0) (old new : SinkView) → BreaksIn r conn S read Now old new → IsBrokenOff r conn S read (StandsOver r conn Now) old new
   broken_by_read read Now old new b = record { so_far = b.so_far; comes = comes_by_items S conn r.ledger read b.so_far b.comes; is_so = b.is_so; front = subst (IsFront b.so_far) (by_read read) b.front }
 
   -- what was read of known bytes leads to what all of them lead to, where the reading ended with them or with the session
@@ -73,75 +73,91 @@ module _ {G : Type 0} (r : Rest G) (conn : ℕ) (S : Setting) where
       let ended : IsSome (told_by r conn S read).kept.ended = subst (λ (t : Talk). IsSome t.kept.ended) (sym (by_read read)) over in
       sym (by_read read) ∙ sym (told_over r conn S read rest ended) ∙ ap (told_by r conn S) (sym h) ∙ by_read bytes
 
-  module _ (left before : Option (List ℕ)) where
-    -- bytes were read, the session goes on after them, and all that they make due is out
-    pub record Reads (Now : Rest G → Type 0) (taken left_now : Option (List ℕ)) : Type 0 where
+  module _ (from : SourceView) (before : SinkView) where
+    -- Bytes were read, the session goes on after them, and all that they make due is out.
+    pub record Reads (Now : Rest G → Type 0) (taken : SinkView) (to : SourceView) : Type 0 where
       pub up : List ℕ
-      pub input : Consumes left left_now up
+      pub input : GivesBytes from to up
       pub live : (told_by r conn S up).kept.ended ≡ None
       pub stands : Stands r conn S Now before taken up
 
     -- before the first
-    pub reads_begun : (Now : Rest G → Type 0) → Now r → find conn r.sessions ≡ Some (fresh conn) → Reads Now before left
+    pub reads_begun : (Now : Rest G → Type 0) → Now r → find conn r.sessions ≡ Some (fresh conn) → Reads Now before from
     reads_begun Now h f =
         let same : with_talk r conn (opening []) r.ledger begun ≡ r = ap (λ (ss : List Live). record { sessions = ss; next = r.next; ledger = r.ledger; gate = r.gate }) (replace-itself conn (fresh conn) r.sessions f) in
-        record { up = []; input = Consumes-nil left; live = refl; stands = (subst Now (sym same) h, Appends-nil before) }
+        record { up = []; input = gives_nil from; live = refl; stands = (subst Now (sym same) h, puts_nil before) }
 
     -- the sink took all of it, and the session is as these bytes leave it
-    ends_with : (Now : Rest G → Type 0) (taken left_now : Option (List ℕ)) (read used : List ℕ) → Consumes left left_now read → told_by r conn S used ≡ told_by r conn S read → IsAtEnd left_now ⊎ IsSome (told_by r conn S used).kept.ended → Stands r conn S Now before taken used
-        → Converses r conn S Now left left_now before taken (Ok tt)
-    ends_with Now taken left_now read used i same e s =
+    ends_with : (Now : Rest G → Type 0) (taken : SinkView) (to : SourceView) (read used : List ℕ) → GivesBytes from to read → told_by r conn S used ≡ told_by r conn S read → IsAtEnd to.left ⊎ IsSome (told_by r conn S used).kept.ended → Stands r conn S Now before taken used
+        → Converses r conn S Now from to before taken (Ok tt)
+    ends_with Now taken to read used i same e s =
         let t = same ∙ by_read read in
         record {
           read = read;
           unfinished = state at_server at_server.start used;
           input = i;
-          ends = subst (λ (t : Talk). IsAtEnd left_now ⊎ IsSome t.kept.ended) t e;
+          ends = subst (λ (t : Talk). IsAtEnd to.left ⊎ IsSome t.kept.ended) t e;
           now = subst (λ (t : Talk). Now (with_talk r conn (state at_server at_server.start used) t.ledger t.kept)) t s.0;
-          took = subst (λ (t : Talk). Appends before taken t.out) t s.1;
+          took = subst (λ (t : Talk). PutsBytes before taken t.out) t s.1;
         }
 
-module _ {G : Type 0} {r : Rest G} {conn : ℕ} {S : Setting} {left before taken left_now : Option (List ℕ)} {Now : Rest G → Type 0} (p : Reads r conn S left before Now taken left_now) where
+module _ {G : Type 0} {r : Rest G} {conn : ℕ} {S : Setting} {from to : SourceView} {before taken : SinkView} {Now : Rest G → Type 0} (p : Reads r conn S from before Now taken to) where
   abbrev t : Talk
   t = conversation S conn r.ledger p.up
 
-  out : Appends before taken t.out
-  out = subst (λ (t : Talk). Appends before taken t.out) (by_read r conn S p.up) p.stands.1
+  out : PutsBytes before taken t.out
+  out = subst (λ (t : Talk). PutsBytes before taken t.out) (by_read r conn S p.up) p.stands.1
 
   -- it is the client's turn
-  pub reads_turn : IsTurn r conn S left left_now before taken
-  reads_turn = record { read = p.up; input = p.input; goes_on = subst (λ (t : Talk). t.kept.ended ≡ None) (by_read r conn S p.up) p.live; answered = out }
+  pub reads_turn : IsTurn r conn S from.left to.left before.taken taken.taken
+  reads_turn = record { read = p.up; input = p.input.known; goes_on = subst (λ (t : Talk). t.kept.ended ≡ None) (by_read r conn S p.up) p.live; answered = out.known }
 
   -- the input ends
-  pub reads_whole : (new : Option (List ℕ)) → Consumes left_now new [] → IsAtEnd new → Converses r conn S Now left new before taken (Ok tt)
-  reads_whole new h e = ends_with r conn S left before Now taken new p.up p.up (subst (Consumes left new) (append-nil p.up) (Consumes-trans left left_now new p.up [] p.input h)) refl (inl e) p.stands
+  pub reads_whole : (new : SourceView) → GivesBytes to new [] → IsAtEnd new.left → Converses r conn S Now from new before taken (Ok tt)
+  reads_whole new h e = ends_with r conn S from before Now taken new p.up p.up (subst (GivesBytes from new) (append-nil p.up) (gives_trans from to new p.up [] p.input h)) refl (inl e) p.stands
 
   -- a fault comes before more is read
-  pub reads_none : (new : Option (List ℕ)) → Keeps left_now new → (fault : StreamFault) → ConversesFront r conn S Now left new before taken fault
+  pub reads_none : (new : SourceView) → GivesBytes to new [] → (fault : StreamFault) → ConversesFront r conn S Now from new before taken fault
   reads_none new h fault = record {
     read = p.up;
-    input = Consumes-kept left left_now new p.up p.input h;
-    broken = broken_by_read r conn S p.up Now before taken (breaks_whole r conn S {IsSo = λ (s : Talk). StandsOver r conn Now s.ledger × AppendsFront before taken s.out} p.up (record { unfinished = state at_server at_server.start p.up; kept = (told_by r conn S p.up).kept; now = p.stands.0 }, front_whole before taken (told_by r conn S p.up).out p.stands.1));
+    input = subst (GivesBytes from new) (append-nil p.up) (gives_trans from to new p.up [] p.input h);
+    broken = broken_by_read r conn S p.up Now before taken (breaks_whole r conn S {IsSo = λ (s : Talk). StandsOver r conn Now s.ledger × PutsFront before taken s.out} p.up (record { unfinished = state at_server at_server.start p.up; kept = (told_by r conn S p.up).kept; now = p.stands.0 }, puts_whole before taken (told_by r conn S p.up).out p.stands.1));
     whole = λ e. (ap (λ (t : Talk). t.ledger) (by_read r conn S p.up), out);
   }
 
   -- a piece more is read
-  module _ (next : Option (List ℕ)) (piece : List ℕ) (c : Consumes left_now next piece) (Then : Rest G → Type 0) (new : Option (List ℕ)) where
-    all_of : Consumes left next (p.up ++ piece)
-    all_of = Consumes-trans left left_now next p.up piece p.input c
+  module _ (next : SourceView) (piece : List ℕ) (c : GivesBytes to next piece) (Then : Rest G → Type 0) (new : SinkView) where
+    all_of : GivesBytes from next (p.up ++ piece)
+    all_of = gives_trans from to next p.up piece p.input c
 
-    pub reads_more : TakesPiece r conn S Then before new p.up piece (Ok Open) → Reads r conn S left before Then new next
+    pub reads_more : TakesPiece r conn S Then before new p.up piece (Ok Open) → Reads r conn S from before Then new next
     reads_more h = record { up = p.up ++ piece; input = all_of; live = h.1; stands = h.0 }
 
-    pub reads_over : TakesPiece r conn S Then before new p.up piece (Ok Over) → Converses r conn S Then left next before new (Ok tt)
+    pub reads_over : TakesPiece r conn S Then before new p.up piece (Ok Over) → Converses r conn S Then from next before new (Ok tt)
     reads_over h =
         let same : (p.up ++ h.front) ++ h.rest ≡ p.up ++ piece = append_assoc p.up h.front h.rest ∙ ap (λ z. p.up ++ z) h.parts in
-        ends_with r conn S left before Then new next (p.up ++ piece) (p.up ++ h.front) all_of (sym (told_over r conn S (p.up ++ h.front) h.rest h.over) ∙ ap (told_by r conn S) same) (inr h.over) h.stands
+        ends_with r conn S from before Then new next (p.up ++ piece) (p.up ++ h.front) all_of (sym (told_over r conn S (p.up ++ h.front) h.rest h.over) ∙ ap (told_by r conn S) same) (inr h.over) h.stands
 
     -- a fault comes in what it makes due
-    pub reads_broken : (fault : StreamFault) → (fault ≡ stream_fault.ReadFailed → ⊥) → TakesPiece r conn S Then before new p.up piece (Err fault) → ConversesFront r conn S Then left next before new fault
+    pub reads_broken : (fault : StreamFault) → (fault ≡ stream_fault.ReadFailed → ⊥) → TakesPiece r conn S Then before new p.up piece (Err fault) → ConversesFront r conn S Then from next before new fault
     reads_broken fault never h =
         record { read = p.up ++ piece; input = all_of; broken = broken_by_read r conn S (p.up ++ piece) Then before new h; whole = λ e. absurd (never e) }
+
+-- The sink took what the conversation for all that the source gave says.
+pub put_by_given : {G : Type 0} {r : Rest G} {conn : ℕ} {S : Setting} {Now : Rest G → Type 0} {from to : SourceView} {old new : SinkView} (bytes : List ℕ) → Grows from.given to.given bytes
+    → ConversesWhole r conn S Now from to old new → Grows old.put new.put (conversation S conn r.ledger bytes).out
+put_by_given {r = r} {conn = conn} {S = S} {from = from} {old = old} bytes grows h =
+    let all : h.read ≡ bytes = append_cancel_left from.given h.read bytes (sym h.input.grows ∙ grows) in
+    h.took.grows ∙ ap (λ (l : List ℕ). old.put ++ (conversation S conn r.ledger l).out) all
+
+-- After a fault it took a prefix of that.
+pub front_by_given : {G : Type 0} {r : Rest G} {conn : ℕ} {S : Setting} {Now : Rest G → Type 0} {from to : SourceView} {old new : SinkView} (bytes : List ℕ) → Grows from.given to.given bytes
+    → (fault : StreamFault) → ConversesFront r conn S Now from to old new fault → MovesFront old.put new.put (conversation S conn r.ledger bytes).out
+front_by_given {r = r} {conn = conn} {S = S} {from = from} bytes grows fault h =
+    let all : h.read ≡ bytes = append_cancel_left from.given h.read bytes (sym h.input.grows ∙ grows) in
+    let f = h.broken.front in
+    let w = h.broken.is_so.1.grows in
+    (w.0, w.1 ++ f.rest, sym (append_assoc w.0 w.1 f.rest) ∙ ap (λ (l : List ℕ). l ++ f.rest) w.2 ∙ f.due ∙ ap (λ (l : List ℕ). (conversation S conn r.ledger l).out) all, w.3)
 
 -- a fault that is due to the sink or to memory alone isn't one of the source
 pub never_read : (fault : StreamFault) (output : Bool) → IsDueTo fault false output → fault ≡ stream_fault.ReadFailed → ⊥

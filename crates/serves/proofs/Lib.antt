@@ -1,3 +1,4 @@
+pub mod Views
 pub mod Called
 pub mod Stepping
 pub mod Rows

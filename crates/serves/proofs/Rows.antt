@@ -8,7 +8,7 @@ use Rattle.session.specs.declared.kinds.Worked.TheVariants as worked
 use Rattle.session.specs.Prelude.{Kept, Snapshot, StepsRow, WritesRows, work_kept}
 use Rattle.server.specs.Prelude.{Live, Rest, find, replace, with_kept, with_session, with_sessions, setting, after_step, work_at, WritesAt}
 use Rattle.server.proofs.Runs.{find-conn, find_replaced}
-use Rattle.serves.specs.Prelude.{Talk, GoesOn, GrowsOn}
+use Rattle.serves.specs.Prelude.{Talk, GoesOn, GrowsOn, SinkView}
 use Rattle.serves.specs.declared.due.Next.TheVariants as next
 use Rattle.serves.proofs.Called.{by_option, grows_same, grows_worked, replace-itself, replace-replace}
 use Rattle.serves.proofs.Stepping.{goes_by}
@@ -56,7 +56,7 @@ grows_rows conn answer welcomes zero old new e = grows_same conn old new e
 grows_rows conn answer welcomes (suc n) old new w = λ r i g. grows_worked conn answer welcomes w.0 new worked.Row w.2 r i (grows_rows conn answer welcomes n old w.0 w.1 r i g)
 
 -- and goes on by so many steps
-pub goes_rows : {G : Type 0} {r : Rest G} {conn : ℕ} (i : IsSome (find conn r.sessions)) {u : Opened} {t : Talk} {before taken : Option (List ℕ)} (answer : List EntryView → List WriteView → List ℕ → List ParameterView → QueryMode → Result AnswerView QueryFault) (welcomes : G → Welcome) (n : ℕ) (old new : Rest G) → TellsRows (work_at answer welcomes conn) n old new
+pub goes_rows : {G : Type 0} {r : Rest G} {conn : ℕ} (i : IsSome (find conn r.sessions)) {u : Opened} {t : Talk} {before taken : SinkView} (answer : List EntryView → List WriteView → List ℕ → List ParameterView → QueryMode → Result AnswerView QueryFault) (welcomes : G → Welcome) (n : ℕ) (old new : Rest G) → TellsRows (work_at answer welcomes conn) n old new
     → GoesOn r conn u t (setting answer welcomes r) (λ x. old ≡ x) before taken → GoesOn r conn u t (setting answer welcomes r) (λ x. new ≡ x) before taken
 goes_rows {r = r} {conn = conn} i {u = u} {t = t} {before = before} {taken = taken} answer welcomes zero old new e o = subst (λ m. GoesOn r conn u t (setting answer welcomes r) (λ x. m ≡ x) before taken) (sym e) o
 goes_rows i answer welcomes (suc n) old new w o = goes_by i answer welcomes (goes_rows i answer welcomes n old w.0 w.1 o) new next.Step (worked.Row, w.2, refl)

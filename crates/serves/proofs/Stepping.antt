@@ -10,13 +10,14 @@ use Rattle.session.specs.declared.kinds.Cause.{Cause}
 use Rattle.session.specs.Prelude.{Setting, Open, no_result, Tx, Reply, OneRow, Summary, Bye, no_tx, serve, Kept, rests, ends, turns, serves, reset_among, Done, Idle, Full, WroteRow, Wrote, Ended, Step, work_kept, replies, after_interrupt, after_item, version_of, commit_entries, worked_of}
 use Rattle.session.proofs.Served.{Served, writes_row, serving}
 use Rattle.machine.specs.declared.kinds.Kind.{Kind}
-use Rattle.serves.specs.Prelude.{Talk, silent, after_bytes, talk_then, heard_out, step_then, steps, steps_due, with_talk, IsPlaced, due, next_of, Works, Holds, HoldsPart, settled, IsPartSettled, GoesOn, BreaksAt, IsFront}
+use Rattle.serves.specs.Prelude.{Talk, silent, after_bytes, talk_then, heard_out, step_then, steps, steps_due, with_talk, IsPlaced, due, next_of, Works, Holds, HoldsPart, settled, IsPartSettled, GoesOn, BreaksAt, IsFront, SinkView}
 use Rattle.serves.specs.declared.due.Next.{Next}
 use Rattle.serves.specs.declared.due.Next.TheVariants as next
 use Rattle.wire.specs.Prelude.{Opened}
 use Rattle.server.specs.Prelude.{Rest, find, setting, work_at}
 use Rattle.engine.specs.declared.answer.Mode.{Mode as QueryMode}
 use Rattle.serves.proofs.Called.{by_option, stepped_talk}
+use Rattle.serves.proofs.Views.{part_held}
 
 -- A row that is written leaves fewer.
 pub Lessens : ℕ → Reply → Type 0
@@ -235,12 +236,12 @@ abbrev pub breaks_off : {whole : Talk} {Comes IsSo Then : Talk → Type 0} → B
 breaks_off b f = record { so_far = b.so_far; comes = b.comes; is_so = f b.so_far b.is_so; front = b.front }
 
 -- before the first step
-pub goes_first : {G : Type 0} {r : Rest G} {conn : ℕ} {u : Opened} {S : Setting} {before taken : Option (List ℕ)} {Now : Rest G → Type 0} (t : Talk) → t.kept.unsent ≡ [] → IsPlaced t.kept.waiting → Holds r conn u t Now before taken → GoesOn r conn u t S Now before taken
+pub goes_first : {G : Type 0} {r : Rest G} {conn : ℕ} {u : Opened} {S : Setting} {before taken : SinkView} {Now : Rest G → Type 0} (t : Talk) → t.kept.unsent ≡ [] → IsPlaced t.kept.waiting → Holds r conn u t Now before taken → GoesOn r conn u t S Now before taken
 goes_first t s p h = record { most = due t.kept; so_far = t; follows = refl; comes = λ n. (n, refl); sent = s; placed = p; enough = omega arith; holds = h }
 
-module _ {G : Type 0} {r : Rest G} {conn : ℕ} {u : Opened} {S : Setting} {t : Talk} {before taken : Option (List ℕ)} {Now : Rest G → Type 0} (g : GoesOn r conn u t S Now before taken) where
+module _ {G : Type 0} {r : Rest G} {conn : ℕ} {u : Opened} {S : Setting} {t : Talk} {before taken : SinkView} {Now : Rest G → Type 0} (g : GoesOn r conn u t S Now before taken) where
   -- what it holds was put out
-  pub goes_with : {Then : Rest G → Type 0} {new : Option (List ℕ)} → Holds r conn u g.so_far Then before new → GoesOn r conn u t S Then before new
+  pub goes_with : {Then : Rest G → Type 0} {new : SinkView} → Holds r conn u g.so_far Then before new → GoesOn r conn u t S Then before new
   goes_with h = record { most = g.most; so_far = g.so_far; follows = g.follows; comes = g.comes; sent = g.sent; placed = g.placed; enough = g.enough; holds = h }
 
   -- nothing more is done
@@ -250,28 +251,26 @@ module _ {G : Type 0} {r : Rest G} {conn : ℕ} {u : Opened} {S : Setting} {t : 
       (record { gone = g.holds.gone; held = g.holds.held; parts = g.holds.parts ∙ sym (append-nil g.so_far.out); took = g.holds.took; now = now })
 
   -- a fault comes
-  pub goes_wrong : {Then : Rest G → Type 0} {new : Option (List ℕ)} → HoldsPart r conn Then before new g.so_far → BreaksAt (settled S conn t) (IsPartSettled S conn t) (HoldsPart r conn Then before new)
+  pub goes_wrong : {Then : Rest G → Type 0} {new : SinkView} → HoldsPart r conn Then before new g.so_far → BreaksAt (settled S conn t) (IsPartSettled S conn t) (HoldsPart r conn Then before new)
   goes_wrong {Then = Then} {new = new} p =
       subst (λ (x : Talk). BreaksAt x (IsPartSettled S conn t) (HoldsPart r conn Then before new)) (sym g.follows)
       (record { so_far = g.so_far; comes = subst (IsPartSettled S conn t) (silent_same g.so_far) (g.comes 0); is_so = p; front = front_then g.so_far (steps S conn g.most) (steps_grow S conn g.most g.so_far.ledger g.so_far.kept) })
 
 -- all that it holds is a part
-pub holds_part : {G : Type 0} {r : Rest G} {conn : ℕ} {u : Opened} {t : Talk} {before taken : Option (List ℕ)} {Now : Rest G → Type 0} → Holds r conn u t Now before taken → HoldsPart r conn Now before taken t
+pub holds_part : {G : Type 0} {r : Rest G} {conn : ℕ} {u : Opened} {t : Talk} {before taken : SinkView} {Now : Rest G → Type 0} → Holds r conn u t Now before taken → HoldsPart r conn Now before taken t
 holds_part {u = u} {t = t} h = record {
   unfinished = u;
   kept = record t.kept { unsent = h.held };
-  gone = h.gone;
-  lost = [];
-  parts = ap (λ (z : List ℕ). h.gone ++ z) (append-nil h.held) ∙ h.parts;
-  took = h.took;
+  grows = part_held h.gone h.parts h.took.grows;
+  known = part_held h.gone h.parts h.took.known;
   now = h.now;
 }
 
 -- and nothing was done
-pub holds_same : {G : Type 0} {r : Rest G} {conn : ℕ} {u : Opened} {t : Talk} {before taken : Option (List ℕ)} {old new : Rest G} → new ≡ old → Holds r conn u t (λ x. old ≡ x) before taken → Holds r conn u t (λ x. new ≡ x) before taken
+pub holds_same : {G : Type 0} {r : Rest G} {conn : ℕ} {u : Opened} {t : Talk} {before taken : SinkView} {old new : Rest G} → new ≡ old → Holds r conn u t (λ x. old ≡ x) before taken → Holds r conn u t (λ x. new ≡ x) before taken
 holds_same e h = record { gone = h.gone; held = h.held; parts = h.parts; took = h.took; now = e ∙ h.now }
 
-module _ {G : Type 0} {r : Rest G} {conn : ℕ} (i : IsSome (find conn r.sessions)) {u : Opened} (answer : List EntryView → List WriteView → List ℕ → List ParameterView → QueryMode → Result AnswerView QueryFault) (welcomes : G → Welcome) {t : Talk} {before taken : Option (List ℕ)} {old : Rest G}
+module _ {G : Type 0} {r : Rest G} {conn : ℕ} (i : IsSome (find conn r.sessions)) {u : Opened} (answer : List EntryView → List WriteView → List ℕ → List ParameterView → QueryMode → Result AnswerView QueryFault) (welcomes : G → Welcome) {t : Talk} {before taken : SinkView} {old : Rest G}
     (g : GoesOn r conn u t (setting answer welcomes r) (λ x. old ≡ x) before taken) (new : Rest G) where
   abbrev S : Setting
   S = setting answer welcomes r

@@ -9,8 +9,9 @@ use Rattle.session.specs.Prelude.{Setting, Kept, after_item, after_interrupt, ve
 use Rattle.server.specs.declared.kinds.Took.{Took as AnyTook}
 use Rattle.server.specs.Prelude.{arrives, arrival as arrival_of, Rest, feed_at, find, takes_item}
 use Rattle.serves.proofs.Called.{by_option, fed_item, fed_none}
+use Rattle.serves.proofs.Views.{part_held}
 use Rattle.streams.specs.declared.fault.StreamFault.{StreamFault}
-use Rattle.serves.specs.Prelude.{Talk, silent, after_bytes, heard_out, steps, steps_due, talk_of_due, unless_ended, talk_then, with_talk, talk_of_arrivals, conversation, IsPartOfDue, due_of, ComesTo, nothing_yet, part_of_first, after_first, as_it_is, ConversationComesTo, IsPlaced, due, as_item, item_talk, liveness_of, rest_after, Holds, HoldsPart, settled, IsPartSettled, SettlesWhole, BreaksAt, IsFront, told_by, told_to, HoldsAfter, BreaksHolding, TakesOne, TakesFront, TakesItems, Feeds}
+use Rattle.serves.specs.Prelude.{Talk, silent, after_bytes, heard_out, steps, steps_due, talk_of_due, unless_ended, talk_then, with_talk, talk_of_arrivals, conversation, IsPartOfDue, due_of, ComesTo, nothing_yet, part_of_first, after_first, as_it_is, ConversationComesTo, IsPlaced, due, as_item, item_talk, liveness_of, rest_after, Holds, HoldsPart, settled, IsPartSettled, SettlesWhole, BreaksAt, IsFront, told_by, told_to, HoldsAfter, BreaksHolding, TakesOne, TakesFront, TakesItems, Feeds, SinkView}
 use Rattle.serves.proofs.Stepping.{Grown, Rested, RestsAs, after_twice, steps_grow, steps_none, steps_rest, behind, heard_same, item_behind, silent_same, front_later, front_same, front_then}
 use Rattle.wire.proofs.Readers.{outputs-append, state-append, takes_outputs}
 use Rattle.serves.specs.declared.liveness.Liveness.{Liveness}
@@ -212,7 +213,7 @@ module _ {G : Type 0} (r : Rest G) (conn : ℕ) (S : Setting) where
     all_next = told_next ∙ after_twice (told up).out next.unsent (steps S conn (due next) (told up).ledger (heard_out next))
 
     -- the session holds what it held, and what it says to the item
-    pub fed_holds : (i : IsSome (find conn r.sessions)) {before taken : Option (List ℕ)} (old new : Rest G) → (h : HoldsAfter r conn S (λ x. old ≡ x) before taken up) → (took : AnyTook) → 0 < took.used → Feeds (feed_at conn piece) old new (Ok took)
+    pub fed_holds : (i : IsSome (find conn r.sessions)) {before taken : SinkView} (old new : Rest G) → (h : HoldsAfter r conn S (λ x. old ≡ x) before taken up) → (took : AnyTook) → 0 < took.used → Feeds (feed_at conn piece) old new (Ok took)
         → (took ≡ (takes_item (told up).kept t).took) × Holds r conn t.rest fed (λ x. new ≡ x) before taken
     fed_holds i old new h took some feeds =
         let o = arrival_of (told up).kept t.item in
@@ -228,7 +229,7 @@ module _ {G : Type 0} (r : Rest G) (conn : ℕ) (S : Setting) where
           },
         )
 
-    module _ {Now : Rest G → Type 0} {before taken : Option (List ℕ)} where
+    module _ {Now : Rest G → Type 0} {before taken : SinkView} where
       pub one_taken : (used : ℕ) (liveness : Liveness) → used ≡ t.used → SettlesWhole r conn t.rest (settled S conn fed) Now before taken liveness → TakesOne r conn S Now before taken up piece (Ok (record { used = used; liveness = liveness }))
       one_taken used liveness e h =
           subst (λ (n : ℕ). TakesOne r conn S Now before taken up piece (Ok (record { used = n; liveness = liveness }))) (sym e)
@@ -254,11 +255,11 @@ module _ {G : Type 0} (r : Rest G) (conn : ℕ) (S : Setting) where
           subst (λ (z : List ℕ). BreaksHolding r conn S Now before taken z) (append_assoc up (take t.used piece) (drop t.used piece) ∙ ap (λ z. up ++ z) (take-append-drop t.used piece)) (breaks_more (up ++ take t.used piece) (drop t.used piece) b)
 
     -- where nothing was taken
-    pub none_taken : (i : IsSome (find conn r.sessions)) {before taken : Option (List ℕ)} (old new : Rest G) → HoldsAfter r conn S (λ x. old ≡ x) before taken up → (fault : StreamFault) → Feeds (feed_at conn piece) old new (Err fault) → BreaksHolding r conn S (λ x. new ≡ x) before taken (up ++ piece)
+    pub none_taken : (i : IsSome (find conn r.sessions)) {before taken : SinkView} (old new : Rest G) → HoldsAfter r conn S (λ x. old ≡ x) before taken up → (fault : StreamFault) → Feeds (feed_at conn piece) old new (Err fault) → BreaksHolding r conn S (λ x. new ≡ x) before taken (up ++ piece)
     none_taken i old new h fault feeds =
         let k : Kept = record (told up).kept { unsent = h.held } in
         let e = fed_none r conn i (kept_at up) (told up).ledger k piece old new h.now fault feeds in
-        breaks_more up piece (breaks_whole up (record { unfinished = e.0; kept = k; gone = h.gone; lost = []; parts = ap (λ (z : List ℕ). h.gone ++ z) (append-nil h.held) ∙ h.parts; took = h.took; now = e.1 }))
+        breaks_more up piece (breaks_whole up (record { unfinished = e.0; kept = k; grows = part_held h.gone h.parts h.took.grows; known = part_held h.gone h.parts h.took.known; now = e.1 }))
 
 pub open_goes_on : (o : Option Cause) → Open ≡ liveness_of o → o ≡ None
 open_goes_on None e = refl
@@ -269,18 +270,18 @@ over_ended None e = cc
 over_ended (Some c) e = refl
 
 -- A front of a piece is taken, and the session goes on.
-pub record Partly {G : Type 0} (r : Rest G) (conn : ℕ) (S : Setting) (before : Option (List ℕ)) (up piece : List ℕ) (Now : Rest G → Type 0) (taken : Option (List ℕ)) (rest : List ℕ) : Type 0 where
+pub record Partly {G : Type 0} (r : Rest G) (conn : ℕ) (S : Setting) (before : SinkView) (up piece : List ℕ) (Now : Rest G → Type 0) (taken : SinkView) (rest : List ℕ) : Type 0 where
   pub done : List ℕ
   pub parts : done ++ rest ≡ piece
   pub live : (told_by r conn S (up ++ done)).kept.ended ≡ None
   pub stands : HoldsAfter r conn S Now before taken (up ++ done)
 
-pub partly_begun : {G : Type 0} {r : Rest G} {conn : ℕ} {S : Setting} {before taken : Option (List ℕ)} {up piece : List ℕ} {Now : Rest G → Type 0} → (told_by r conn S up).kept.ended ≡ None → HoldsAfter r conn S Now before taken up → Partly r conn S before up piece Now taken piece
+pub partly_begun : {G : Type 0} {r : Rest G} {conn : ℕ} {S : Setting} {before taken : SinkView} {up piece : List ℕ} {Now : Rest G → Type 0} → (told_by r conn S up).kept.ended ≡ None → HoldsAfter r conn S Now before taken up → Partly r conn S before up piece Now taken piece
 partly_begun {r = r} {conn = conn} {S = S} {before = before} {taken = taken} {up = up} {Now = Now} e s =
     let same : up ≡ up ++ [] = sym (append-nil up) in
     record { done = []; parts = refl; live = subst (λ (z : List ℕ). (told_by r conn S z).kept.ended ≡ None) same e; stands = subst (HoldsAfter r conn S Now before taken) same s }
 
-module _ {G : Type 0} {r : Rest G} {conn : ℕ} {S : Setting} {before old new : Option (List ℕ)} {up piece rest : List ℕ} {Now Then : Rest G → Type 0} (p : Partly r conn S before up piece Now old rest) where
+module _ {G : Type 0} {r : Rest G} {conn : ℕ} {S : Setting} {before old new : SinkView} {up piece rest : List ℕ} {Now Then : Rest G → Type 0} (p : Partly r conn S before up piece Now old rest) where
   pub partly_more : (taken : Taken) (after : List ℕ) → after ≡ drop taken.used rest → taken.liveness ≡ Open → TakesOne r conn S Then before new (up ++ p.done) rest (Ok taken) → Partly r conn S before up piece Then new after
   partly_more taken after a o h =
       let joined = append_assoc up p.done (take taken.used rest) in
@@ -305,7 +306,7 @@ module _ {G : Type 0} {r : Rest G} {conn : ℕ} {S : Setting} {before old new : 
   pub partly_broken : BreaksHolding r conn S Then before new ((up ++ p.done) ++ rest) → BreaksHolding r conn S Then before new (up ++ piece)
   partly_broken h = subst (λ (z : List ℕ). BreaksHolding r conn S Then before new z) (append_assoc up p.done rest ∙ ap (λ z. up ++ z) p.parts) h
 
-pub partly_whole : {G : Type 0} {r : Rest G} {conn : ℕ} {S : Setting} {before taken : Option (List ℕ)} {up piece rest : List ℕ} {Now : Rest G → Type 0} → rest ≡ [] → Partly r conn S before up piece Now taken rest → TakesItems r conn S Now before taken up piece (Ok Open)
+pub partly_whole : {G : Type 0} {r : Rest G} {conn : ℕ} {S : Setting} {before taken : SinkView} {up piece rest : List ℕ} {Now : Rest G → Type 0} → rest ≡ [] → Partly r conn S before up piece Now taken rest → TakesItems r conn S Now before taken up piece (Ok Open)
 partly_whole {r = r} {conn = conn} {S = S} {before = before} {taken = taken} {up = up} {Now = Now} e p =
     let same = sym (append-nil p.done) ∙ ap (λ z. p.done ++ z) (sym e) ∙ p.parts in
     (subst (λ (z : List ℕ). HoldsAfter r conn S Now before taken (up ++ z)) same p.stands, subst (λ (z : List ℕ). (told_by r conn S (up ++ z)).kept.ended ≡ None) same p.live)

@@ -1,11 +1,11 @@
--- How far a conversation has come if it is broken off.
-use Rattle.std.specs.Prelude.{◌≡◌, ℕ, List, ◌∷◌, ◌++◌, Option, Some, None}
+-- The moments at which a conversation may be broken off.
+use Rattle.std.specs.Prelude.{◌≡◌, ℕ, List, ◌∷◌, ◌++◌, Some, None}
 use Rattle.messages.specs.Arrivals.{Arrival, arrivals}
 use Rattle.engine.specs.Views.{EntryView}
 use Rattle.session.specs.Session.{Setting}
 use Rattle.session.specs.Rest.{Kept, begun, after_item}
-use Rattle.streams.specs.Fronts.{AppendsFront}
 use Rattle.serves.specs.Conversing.{Talk, silent, after_bytes, heard_out, steps, talk_of_due}
+use Rattle.serves.specs.Views.{SinkView, PutsFront}
 
 -- all that is unsent, and then some of the steps that are due
 abbrev pub IsPartOfDue : Setting → ℕ → List EntryView → Kept → Talk → Type 0
@@ -47,16 +47,16 @@ pub record IsFront (so_far whole : Talk) : Type 0 where
   pub grown : so_far.ledger ++ more ≡ whole.ledger
   pub due : so_far.out ++ rest ≡ whole.out
 
--- A conversation was broken off at some moment of it, of which this is so.
+-- A conversation was broken off at some moment, and this holds of that moment.
 pub record BreaksAt (whole : Talk) (Comes IsSo : Talk → Type 0) : Type 0 where
   pub so_far : Talk
   pub comes : Comes so_far
   pub is_so : IsSo so_far
   pub front : IsFront so_far whole
 
--- A conversation was broken off: the sink took a beginning of what was put out by some moment of it, and the ledger is the one of that same
--- moment: a commit of whose answer anything was taken stands there. Both are a beginning of the whole.
-abbrev pub BreaksOff : Talk → (Talk → Type 0) → (List EntryView → Type 0) → Option (List ℕ)
-    → Option (List ℕ) → Type 0
+-- A conversation was broken off at some moment: the sink took a prefix of what was said by then, and the ledger is the one of that moment. So
+-- the ledger has each commit whose answer was written, even in part. Both are prefixes of the whole.
+abbrev pub BreaksOff : Talk → (Talk → Type 0) → (List EntryView → Type 0) → SinkView → SinkView
+    → Type 0
 BreaksOff whole Comes Stands old new =
-    BreaksAt whole Comes (λ s. Stands s.ledger × AppendsFront old new s.out)
+    BreaksAt whole Comes (λ s. Stands s.ledger × PutsFront old new s.out)

@@ -1,3 +1,4 @@
+pub mod Views
 pub mod Conversing
 pub mod Breaking
 pub mod Putting

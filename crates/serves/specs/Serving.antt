@@ -11,15 +11,15 @@ use Rattle.streams.specs.declared.fault.StreamFault.TheVariants as stream_fault
 use Rattle.serves.specs.Conversing.{Talk, conversation, with_talk, without_talk}
 use Rattle.serves.specs.Breaking.{ConversationComesTo, BreaksOff}
 use Rattle.serves.specs.Settling.{StandsOver}
+use Rattle.serves.specs.Views.{SourceView, SinkView, GivesBytes, PutsBytes}
 
 module _ {G : Type 0} (r : Rest G) (conn : ℕ) (S : Setting) where
   -- what the session does with these bytes of its client
   abbrev pub talk_for : List ℕ → Talk
   talk_for bytes = conversation S conn r.ledger bytes
 
-  -- Broken off at some moment of it: the sink took a beginning of what was put out by then, and the ledger is the one of then.
-  abbrev pub IsBrokenOff : List ℕ → (List EntryView → Type 0) → Option (List ℕ) → Option (List ℕ)
-      → Type 0
+  -- It was broken off at some moment: the sink took a prefix of what was said by then, and the ledger is the one of that moment.
+  abbrev pub IsBrokenOff : List ℕ → (List EntryView → Type 0) → SinkView → SinkView → Type 0
   IsBrokenOff bytes Stands old new =
       BreaksOff (talk_for bytes) (ConversationComesTo S conn r.ledger bytes) Stands old new
 
@@ -34,48 +34,47 @@ module _ {G : Type 0} (r : Rest G) (conn : ℕ) (S : Setting) where
   abbrev pub EndsReading : List ℕ → Option (List ℕ) → Type 0
   EndsReading read left_now = IsAtEnd left_now ⊎ IsSome (talk_for read).kept.ended
 
-  module _ (Now : Rest G → Type 0) (left left_now old new : Option (List ℕ)) where
-    -- The sink took all that is due for the bytes that were read, and the session is as they leave it.
+  module _ (Now : Rest G → Type 0) (from to : SourceView) (old new : SinkView) where
+    -- The sink took all that is due for the bytes that the source gave, and the session is as they leave it.
     pub record ConversesWhole : Type 0 where
       pub read : List ℕ
       pub unfinished : Opened
-      pub input : Consumes left left_now read
-      pub ends : EndsReading read left_now
+      pub input : GivesBytes from to read
+      pub ends : EndsReading read to.left
       pub now : Now (with_talk r conn unfinished (talk_for read).ledger (talk_for read).kept)
-      pub took : Appends old new (talk_for read).out
+      pub took : PutsBytes old new (talk_for read).out
 
-    -- A fault came: the session's conversation for the bytes that were read was broken off. If the source failed, all that they make due
-    -- was done and put out.
+    -- A fault came: the conversation for the bytes that the source gave was broken off. If the source failed, all that they make due was done
+    -- and written.
     pub record ConversesFront (fault : StreamFault) : Type 0 where
       pub read : List ℕ
-      pub input : Consumes left left_now read
+      pub input : GivesBytes from to read
       pub broken : IsBrokenOff read (StandsOver r conn Now) old new
       pub whole : fault ≡ stream_fault.ReadFailed
-          → (broken.so_far.ledger ≡ (talk_for read).ledger) × Appends old new (talk_for read).out
+          → (broken.so_far.ledger ≡ (talk_for read).ledger) × PutsBytes old new (talk_for read).out
 
     -- all of it went well, or a fault came
     abbrev pub Converses : Result (Unit {0}) StreamFault → Type 0
     Converses (Ok done) = ConversesWhole
     Converses (Err fault) = ConversesFront fault
 
-    -- The sink took all that is due for the bytes that were read, the cause is that of the end to which they lead, and the session lives
-    -- no more.
+    -- The sink took all that is due for the bytes that the source gave, the cause is that of the end to which they lead, and the session is gone.
     pub record ServesWhole (cause : Cause) : Type 0 where
       pub read : List ℕ
-      pub input : Consumes left left_now read
-      pub ends : EndsReading read left_now
+      pub input : GivesBytes from to read
+      pub ends : EndsReading read to.left
       pub ended : cause ≡ cause_or (talk_for read).kept.ended
       pub now : Now (without_talk r conn (talk_for read).ledger)
-      pub took : Appends old new (talk_for read).out
+      pub took : PutsBytes old new (talk_for read).out
 
-    -- A fault came: the conversation for the bytes that were read was broken off, and the session lives no more. If the source failed, all
-    -- that they make due was done and put out.
+    -- A fault came: the conversation for the bytes that the source gave was broken off, and the session is gone. If the source failed, all that
+    -- they make due was done and written.
     pub record ServesFront (fault : StreamFault) : Type 0 where
       pub read : List ℕ
-      pub input : Consumes left left_now read
+      pub input : GivesBytes from to read
       pub broken : IsBrokenOff read (λ ledger. Now (without_talk r conn ledger)) old new
       pub whole : fault ≡ stream_fault.ReadFailed
-          → (broken.so_far.ledger ≡ (talk_for read).ledger) × Appends old new (talk_for read).out
+          → (broken.so_far.ledger ≡ (talk_for read).ledger) × PutsBytes old new (talk_for read).out
 
     -- all of it went well, or a fault came
     abbrev pub Serves : Result Cause StreamFault → Type 0

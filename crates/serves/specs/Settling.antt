@@ -1,6 +1,7 @@
--- What parts of a conversation do to a server and to a sink, with or without a fault.
+-- The effects of the parts of a conversation on a server and a sink, with or without a fault.
 use Rattle.std.specs.Prelude.{◌≡◌, ◌≤◌, ℕ, length, Bool, true, List, [], ◌∷◌, ◌++◌, take, Option, Some, None, IsSome, ◌⊎◌, Result, Ok, Err}
 use Rattle.std.specs.Io.KnownBytes.{Appends}
+use Rattle.streams.specs.Moving.{Grows as HasGrown}
 use Rattle.wire.specs.Reader.{state}
 use Rattle.wire.specs.Framing.{Item, Opened, at_server, items_received}
 use Rattle.messages.specs.Arrivals.{Arrival, Asked, Unread, TooLong}
@@ -26,8 +27,9 @@ use Rattle.serves.specs.declared.liveness.Liveness.{Liveness}
 use Rattle.serves.specs.declared.liveness.Liveness.TheVariants.{Open, Over}
 use Rattle.serves.specs.Conversing.{Talk, silent, steps, steps_due, talk_of_due, unless_ended, talk_then, with_talk}
 use Rattle.serves.specs.Breaking.{BreaksAt, BreaksOff, ComesTo}
+use Rattle.serves.specs.Views.{SinkView, PutsBytes}
 
--- a stream is told to have failed only if it has
+-- a stream is reported as failed only if it has failed
 abbrev pub IsDueTo : StreamFault → Bool → Bool → Type 0
 IsDueTo ReadFailed input output = input ≡ true
 IsDueTo WriteFailed input output = output ≡ true
@@ -37,18 +39,18 @@ IsDueTo Memory input output = Unit {0}
 abbrev pub IsLive : {E G : Type 0} → (E → List EntryView) → ℕ → Server E G → Type 0
 IsLive {G = G} entries conn s = (r : Rest G) × Fits entries s r × IsSome (find conn r.sessions)
 
--- how a session stands: over where its end has a cause, and else open
+-- a session's liveness: over if its end has a cause, else open
 abbrev pub liveness_of : Option Cause → Liveness
 liveness_of None = Open
 liveness_of (Some cause) = Over
 
--- what follows a step that did this
+-- the action after a step with this result
 abbrev pub next_of : Worked → Next
 next_of worked.Row = next.Step
 next_of worked.Full = next.Room
 next_of _ = next.Rest
 
--- how a session stands after this ended with the bytes that it took; none where a step may be due
+-- a session's liveness after it took bytes with this result; none if a step may be due
 abbrev pub rest_after : What → Option Liveness
 rest_after what.Part = Some Open
 rest_after what.Noop = Some Open
@@ -57,7 +59,7 @@ rest_after (what.Handshake None) = Some Over
 rest_after what.BadMagic = Some Over
 rest_after _ = None
 
--- what was taken and put out, and the first fault where there was any
+-- the liveness, or the first fault of the two if there was one
 abbrev pub taken_and_put : Result Liveness StreamFault → Result (Unit {0}) StreamFault
     → Result Liveness StreamFault
 taken_and_put (Ok liveness) (Ok done) = Ok liveness
@@ -65,14 +67,14 @@ taken_and_put (Ok liveness) (Err fault) = Err fault
 taken_and_put (Err fault) put = Err fault
 
 module _ {G : Type 0} where
-  -- A step was worked, and what follows it is told; or nothing was done.
+  -- A step was done, and this is the action after it; or nothing was done.
   abbrev pub Works : (Rest G → Option (Worked × Rest G)) → Rest G → Rest G
       → Result Next StreamFault → Type 0
   Works work r after (Ok next) =
       (w : Worked) × (work r ≡ Some (w, after)) × (next ≡ next_of w)
   Works work r after (Err fault) = after ≡ r
 
-  -- A piece was fed, and this is told of it; or none of its bytes were used; or nothing was done.
+  -- A piece was fed with this result; or none of its bytes were used; or nothing was done.
   abbrev pub Feeds : (Rest G → Option (Took × Rest G)) → Rest G → Rest G → Result Took StreamFault
       → Type 0
   Feeds feed r after (Ok took) = feed r ≡ Some (took, after)
@@ -110,57 +112,61 @@ item_talk S c (x ∷ xs) ledger k =
     unless_ended k.ended (silent ledger k)
     (talk_then (talk_of_due S c ledger (after_item k (Some (as_item k x)))) (item_talk S c xs))
 
+-- A sink took a prefix of the output. The session buffers the bytes after the prefix, and the rest is lost.
+pub record IsPartOut (Took : List ℕ → Type 0) (unsent out : List ℕ) : Type 0 where
+  pub gone : List ℕ
+  pub lost : List ℕ
+  pub parts : gone ++ (unsent ++ lost) ≡ out
+  pub took : Took gone
+
 module _ {G : Type 0} (r : Rest G) (conn : ℕ) where
-  -- The session stands somehow, over this ledger.
+  -- The session is in some state, over this ledger.
   pub record StandsOver (Now : Rest G → Type 0) (ledger : List EntryView) : Type 0 where
     pub unfinished : Opened
     pub kept : Kept
     pub now : Now (with_talk r conn unfinished ledger kept)
 
-  -- The session stands somehow, the others as before, and the ledger has grown by some entries, or by none.
+  -- The session is in some state, the others are as before, and the ledger has grown by some entries, or by none.
   pub record Grows (Now : Rest G → Type 0) : Type 0 where
     pub unfinished : Opened
     pub kept : Kept
     pub more : List EntryView
     pub now : Now (with_talk r conn unfinished (r.ledger ++ more) kept)
 
-  -- The session stands as the talk leaves it, but that it holds the end of what was put out: the sink took what went before.
-  pub record Holds (u : Opened) (t : Talk) (Now : Rest G → Type 0) (before taken : Option (List ℕ))
+  -- The session is as the talk leaves it, but it still buffers the last bytes of the output. The sink took those before.
+  pub record Holds (u : Opened) (t : Talk) (Now : Rest G → Type 0) (before taken : SinkView)
       : Type 0 where
     pub gone : List ℕ
     pub held : List ℕ
     pub parts : gone ++ held ≡ t.out
-    pub took : Appends before taken gone
+    pub took : PutsBytes before taken gone
     pub now : Now (with_talk r conn u t.ledger (record t.kept { unsent = held }))
 
-  -- The session stands somehow, over the talk's ledger, and holds a part of what was put out: the sink took what went before.
-  pub record HoldsPart (Now : Rest G → Type 0) (before taken : Option (List ℕ)) (t : Talk)
-      : Type 0 where
+  -- The session is in some state over the talk's ledger, and buffers a part of the output. The sink took a prefix of it.
+  pub record HoldsPart (Now : Rest G → Type 0) (before taken : SinkView) (t : Talk) : Type 0 where
     pub unfinished : Opened
     pub kept : Kept
-    pub gone : List ℕ
-    pub lost : List ℕ
-    pub parts : gone ++ (kept.unsent ++ lost) ≡ t.out
-    pub took : Appends before taken gone
+    pub grows : IsPartOut (HasGrown before.put taken.put) kept.unsent t.out
+    pub known : IsPartOut (Appends before.taken taken.taken) kept.unsent t.out
     pub now : Now (with_talk r conn unfinished t.ledger kept)
 
-  -- The session stands as told.
+  -- All that was due is done, and the session is in the state that this liveness says.
   pub record SettlesWhole (u : Opened) (t : Talk) (Now : Rest G → Type 0)
-      (before taken : Option (List ℕ)) (liveness : Liveness) : Type 0 where
+      (before taken : SinkView) (liveness : Liveness) : Type 0 where
     pub holds : Holds u t Now before taken
     pub stands : liveness ≡ liveness_of t.kept.ended
 
-  -- All that is due after a talk was worked, or a fault came.
-  abbrev pub Settles : Opened → Talk → Setting → (Rest G → Type 0) → Option (List ℕ)
-      → Option (List ℕ) → Result Liveness StreamFault → Type 0
+  -- All that is due after a talk was done, or a fault came.
+  abbrev pub Settles : Opened → Talk → Setting → (Rest G → Type 0) → SinkView
+      → SinkView → Result Liveness StreamFault → Type 0
   Settles u t S Now before taken (Ok liveness) =
       SettlesWhole u (settled S conn t) Now before taken liveness
   Settles u t S Now before taken (Err fault) =
       BreaksAt (settled S conn t) (IsPartSettled S conn t) (HoldsPart Now before taken)
 
-  -- Some of what is due after a talk was worked, and the rest follows from what the session keeps.
+  -- Some of what is due after a talk was done, and the rest follows from what the session keeps.
   pub record GoesOn (u : Opened) (t : Talk) (S : Setting) (Now : Rest G → Type 0)
-      (before taken : Option (List ℕ)) : Type 0 where
+      (before taken : SinkView) : Type 0 where
     pub most : ℕ
     pub so_far : Talk
     pub follows : settled S conn t ≡ talk_then so_far (steps S conn most)
@@ -170,9 +176,9 @@ module _ {G : Type 0} (r : Rest G) (conn : ℕ) where
     pub enough : due so_far.kept ≤ most
     pub holds : Holds u so_far Now before taken
 
-  -- One step more was worked, and the rest follows; or nothing is due, and the session stands so; or a fault came.
-  abbrev pub Steps : Opened → Talk → Setting → (Rest G → Type 0) → Option (List ℕ)
-      → Option (List ℕ) → Result (Option Liveness) StreamFault → Type 0
+  -- One more step was done, and the rest follows; or nothing is due, and the session has this liveness; or a fault came.
+  abbrev pub Steps : Opened → Talk → Setting → (Rest G → Type 0) → SinkView
+      → SinkView → Result (Option Liveness) StreamFault → Type 0
   Steps u t S Now before taken (Ok None) = GoesOn u t S Now before taken
   Steps u t S Now before taken (Ok (Some liveness)) =
       SettlesWhole u (settled S conn t) Now before taken liveness
@@ -188,30 +194,30 @@ module _ {G : Type 0} (r : Rest G) (conn : ℕ) where
     abbrev pub told_to : List ℕ → Talk → Type 0
     told_to up = ComesTo as_item S conn (items_received up) r.ledger begun
 
-    -- A fault came in the midst of it.
-    abbrev pub BreaksIn : List ℕ → (Rest G → Type 0) → Option (List ℕ) → Option (List ℕ) → Type 0
+    -- A fault came during it.
+    abbrev pub BreaksIn : List ℕ → (Rest G → Type 0) → SinkView → SinkView → Type 0
     BreaksIn up Now before new =
         BreaksOff (told_by up) (told_to up) (StandsOver Now) before new
 
     -- the server and the sink are as it has them
-    abbrev pub Stands : (Rest G → Type 0) → Option (List ℕ) → Option (List ℕ) → List ℕ → Type 0
+    abbrev pub Stands : (Rest G → Type 0) → SinkView → SinkView → List ℕ → Type 0
     Stands Now before new up =
         Now (with_talk r conn (state at_server at_server.start up) (told_by up).ledger
-        (told_by up).kept) × Appends before new (told_by up).out
+        (told_by up).kept) × PutsBytes before new (told_by up).out
 
-    -- the same, but that the session holds the end of what was put out
-    abbrev pub HoldsAfter : (Rest G → Type 0) → Option (List ℕ) → Option (List ℕ) → List ℕ → Type 0
+    -- a server and a sink after these bytes, while the session still buffers the last bytes of the output
+    abbrev pub HoldsAfter : (Rest G → Type 0) → SinkView → SinkView → List ℕ → Type 0
     HoldsAfter Now before taken up =
         Holds (state at_server at_server.start up) (told_by up) Now before taken
 
-    -- A fault came in the midst of it, and the session holds a part of what was put out.
-    abbrev pub BreaksHolding : (Rest G → Type 0) → Option (List ℕ) → Option (List ℕ) → List ℕ
+    -- A fault came during it, and the session buffers a part of the output.
+    abbrev pub BreaksHolding : (Rest G → Type 0) → SinkView → SinkView → List ℕ
         → Type 0
     BreaksHolding Now before taken up =
         BreaksAt (told_by up) (told_to up) (HoldsPart Now before taken)
 
     -- So many bytes of a piece were taken, to the end of an item; or a fault came.
-    abbrev pub TakesOne : (Rest G → Type 0) → Option (List ℕ) → Option (List ℕ) → List ℕ → List ℕ
+    abbrev pub TakesOne : (Rest G → Type 0) → SinkView → SinkView → List ℕ → List ℕ
         → Result Taken StreamFault → Type 0
     TakesOne Now before taken up piece (Ok t) =
         HoldsAfter Now before taken (up ++ take t.used piece)
@@ -232,15 +238,15 @@ module _ {G : Type 0} (r : Rest G) (conn : ℕ) where
         IsSo (up ++ piece) × ((told_by (up ++ piece)).kept.ended ≡ None)
     TakesUp IsSo up piece Over = TakesFront IsSo up piece
 
-    -- A piece was taken so, and the session holds the end of what was put out; or a fault came.
-    abbrev pub TakesItems : (Rest G → Type 0) → Option (List ℕ) → Option (List ℕ) → List ℕ → List ℕ
+    -- A piece was taken so, and the session buffers the last bytes of the output; or a fault came.
+    abbrev pub TakesItems : (Rest G → Type 0) → SinkView → SinkView → List ℕ → List ℕ
         → Result Liveness StreamFault → Type 0
     TakesItems Now before taken up piece (Ok liveness) =
         TakesUp (HoldsAfter Now before taken) up piece liveness
     TakesItems Now before taken up piece (Err fault) = BreaksHolding Now before taken (up ++ piece)
 
     -- A piece was taken so, and all of it was put out; or a fault came.
-    abbrev pub TakesPiece : (Rest G → Type 0) → Option (List ℕ) → Option (List ℕ) → List ℕ → List ℕ
+    abbrev pub TakesPiece : (Rest G → Type 0) → SinkView → SinkView → List ℕ → List ℕ
         → Result Liveness StreamFault → Type 0
     TakesPiece Now before new up piece (Ok liveness) =
         TakesUp (Stands Now before new) up piece liveness

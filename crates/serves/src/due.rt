@@ -1,8 +1,9 @@
-//! All that is due of a session is worked, and what it has said is written.
-ghost use Rattle.std.specs.Prelude.{◌≡◌, ℕ, List, [], Option, None, IsSome, IfErr, IsErrOf, false, true};
+//! Processes all that is due of a session, and writes what the session says.
+ghost use Rattle.std.specs.Prelude.{◌≡◌, [], Option, None, IsSome, IfErr, IsErrOf, false, true};
 ghost use Rattle.wire.specs.Framing.{Opened};
 ghost use Rattle.server.specs.Serving.{Rest, cause_at, find, setting, work_at};
 ghost use Rattle.server.specs.Views.{rest_of, Fits};
+ghost use Rattle.serves.specs.Views.{SinkView, sink_view};
 ghost use Rattle.serves.specs.Conversing.{Talk};
 ghost use Rattle.serves.specs.Putting.{Puts};
 ghost use Rattle.serves.specs.Settling.{GrowsOn, IsDueTo, IsPlaced, GoesOn, Holds, Settles, Steps, Works, next_of, liveness_of};
@@ -12,19 +13,23 @@ use engine::{Engine, Gate};
 use server::{Server, Worked};
 use streams::{Sink, StreamFault, write_all};
 
-/// What follows a step.
+/// The action after a step.
 #[derive(Clone, Copy)]
 enum Next {
     /// A further step.
     Step,
-    /// What waits to go has to be written before a further step.
+    /// The session's output must be written before a further step.
     Room,
-    /// Nothing: no step is due.
+    /// None: no step is due.
     Rest,
 }
 
-/// Writes all that waits to go of a session, where it lies, and then lets it go. I2 where the sink fails, with a beginning of it written; I3
-/// if no session has the number, and then nothing has changed. Takes no memory of its own.
+/// Writes all of a session's output from its buffer, and then takes it out. Takes no memory.
+///
+/// # Errors
+///
+/// - I2 if the sink fails. A prefix was written then.
+/// - I3 if no session has the number. Nothing has changed then.
 pub(crate) fn put_out<E: Engine, G: Gate, O: Sink>(
     server: &mut Server<E, G>,
     conn: u64,
@@ -32,7 +37,7 @@ pub(crate) fn put_out<E: Engine, G: Gate, O: Sink>(
 ) -> Result<(), StreamFault>
     ensures grows { GrowsOn conn (Fits E.entries server.old) (Fits E.entries server.new) }
     ensures puts { Puts conn (rest_of E.entries server.old) (rest_of E.entries server.new)
-        (O.taken sink.old) (O.taken sink.new) result }
+        (sink_view O.put O.taken sink.old) (sink_view O.put O.taken sink.new) result }
     ensures unknown { IsErrOf result StreamFault.Memory
         → find conn (rest_of E.entries server.old).sessions ≡ None }
     ensures failed { IfErr result (λ e. IsDueTo e false (O.has_failed sink.new)) }
@@ -53,18 +58,18 @@ pub(crate) fn put_out<E: Engine, G: Gate, O: Sink>(
 /// A bound on steps by which the loop ends for the prover. It is never reached.
 const MOST_STEPS: u64 = u64::MAX;
 
-/// Works until nothing is due. What the session says waits there, and is written only if so much waits that no step is done.
+/// Processes requests until nothing is due. The output stays in the session's buffer, and is written only if the buffer is too full for a step.
 pub(crate) fn settle<E: Engine, G: Gate, O: Sink>(
     server: &mut Server<E, G>,
     conn: u64,
     sink: &mut O,
 ) -> Result<Liveness, StreamFault>
     ensures grows { GrowsOn conn (Fits E.entries server.old) (Fits E.entries server.new) }
-    ensures settles { (r : Rest G) (u : Opened) (t : Talk) (before : Option (List ℕ))
+    ensures settles { (r : Rest G) (u : Opened) (t : Talk) (before : SinkView)
         → IsSome (find conn r.sessions) → t.kept.unsent ≡ [] → IsPlaced t.kept.waiting
-        → Holds r conn u t (Fits E.entries server.old) before (O.taken sink.old)
+        → Holds r conn u t (Fits E.entries server.old) before (sink_view O.put O.taken sink.old)
         → Settles r conn u t (setting E.answer G.welcomes r) (Fits E.entries server.new) before
-        (O.taken sink.new) result }
+        (sink_view O.put O.taken sink.new) result }
     ensures failed { IfErr result (λ e. IsDueTo e false (O.has_failed sink.new)) }
 {
     for _ in 0..MOST_STEPS {
@@ -77,20 +82,20 @@ pub(crate) fn settle<E: Engine, G: Gate, O: Sink>(
     Err(StreamFault::Memory)
 }
 
-/// Works a step, and writes the rows behind a first one; or makes room for it by writing what waits to go; or answers how the session
-/// stands if nothing is due.
+/// Does a step, and encodes the rows after a first one; or writes the session's output if its buffer is too full for a step. Returns the
+/// session's liveness if nothing is due.
 fn work_once<E: Engine, G: Gate, O: Sink>(
     server: &mut Server<E, G>,
     conn: u64,
     sink: &mut O,
 ) -> Result<Option<Liveness>, StreamFault>
     ensures grows { GrowsOn conn (Fits E.entries server.old) (Fits E.entries server.new) }
-    ensures steps { (r : Rest G) (u : Opened) (t : Talk) (before : Option (List ℕ))
+    ensures steps { (r : Rest G) (u : Opened) (t : Talk) (before : SinkView)
         → IsSome (find conn r.sessions)
         → GoesOn r conn u t (setting E.answer G.welcomes r) (Fits E.entries server.old) before
-        (O.taken sink.old)
+        (sink_view O.put O.taken sink.old)
         → Steps r conn u t (setting E.answer G.welcomes r) (Fits E.entries server.new) before
-        (O.taken sink.new) result }
+        (sink_view O.put O.taken sink.new) result }
     ensures failed { IfErr result (λ e. IsDueTo e false (O.has_failed sink.new)) }
 {
     match work_step(server, conn) {
@@ -107,7 +112,11 @@ fn work_once<E: Engine, G: Gate, O: Sink>(
     }
 }
 
-/// Works a step. I3 for want of memory, and then nothing has changed.
+/// Does a step.
+///
+/// # Errors
+///
+/// I3 if memory runs out. Nothing has changed then.
 fn work_step<E: Engine, G: Gate>(server: &mut Server<E, G>, conn: u64) -> Result<Next, StreamFault>
     ensures grows { GrowsOn conn (Fits E.entries server.old) (Fits E.entries server.new) }
     ensures works { Works (work_at E.answer G.welcomes conn) (rest_of E.entries server.old)
@@ -120,7 +129,7 @@ fn work_step<E: Engine, G: Gate>(server: &mut Server<E, G>, conn: u64) -> Result
     Ok(next_after(worked))
 }
 
-/// What follows a step that did this. One at most waits: after its summary nothing is due.
+/// Returns the action after a step with this result. At most one request is pending, so nothing is due after its summary.
 fn next_after(worked: Worked) -> Next
     ensures { result ≡ next_of worked }
 {
@@ -131,7 +140,7 @@ fn next_after(worked: Worked) -> Next
     }
 }
 
-/// How a session stands.
+/// Returns a session's liveness: `Over` if its end has a cause.
 fn liveness<E: Engine, G: Gate>(server: &Server<E, G>, conn: u64) -> Liveness
     ensures { result ≡ liveness_of (cause_at conn (rest_of E.entries server.now)) }
 {

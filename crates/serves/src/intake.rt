@@ -1,7 +1,8 @@
-//! A client's bytes are taken, one item at a time, what they make due is worked, and what the session says is written.
+//! Feeds a client's bytes to its session, one item at a time, processes what they make due, and writes what the session says.
 ghost use Rattle.std.specs.Prelude.{◌≡◌, ◌<◌, ◌≤◌, ℕ, List, Option, None, length, IsSome, IfOk, IfErr, false};
 ghost use Rattle.server.specs.Serving.{Rest, find, feed_at, setting};
 ghost use Rattle.server.specs.Views.{rest_of, Fits};
+ghost use Rattle.serves.specs.Views.{SinkView, sink_view};
 ghost use Rattle.serves.specs.Settling.{GrowsOn, IsDueTo, IsLive, LivesOn, Feeds, HoldsAfter, Stands, TakesOne, TakesItems, TakesPiece, rest_after, taken_and_put, told_by};
 
 use crate::due::{put_out, settle};
@@ -11,16 +12,20 @@ use server::{Server, Took};
 use session::What;
 use streams::{Sink, StreamFault};
 
-/// How many bytes of a piece were used, and how the session stands then.
+/// The number of bytes of a piece that were used, and the session's liveness after them.
 #[derive(Clone, Copy)]
 struct Taken {
     used: usize,
     liveness: Liveness,
 }
 
-/// Takes a piece, item by item, up to the end of a session that lives, works what it makes due, and writes what the session says: all of it at
-/// once, or before that where 65,536 bytes or more wait to go. It answers whether the session goes on. I2 if the sink fails, with a beginning
-/// written; I3 for want of memory or if no ordinal is left.
+/// Feeds a piece to a live session, item by item, up to the session's end, processes what it makes due, and writes what the session says. The
+/// output goes out at once, or earlier whenever 65,536 bytes or more of it are buffered. Returns the session's liveness.
+///
+/// # Errors
+///
+/// - I2 if the sink fails. A prefix was written then.
+/// - I3 if memory runs out or no ordinal is left.
 pub fn take_piece<E: Engine, G: Gate, O: Sink>(
     server: &mut Server<E, G>,
     conn: u64,
@@ -30,13 +35,13 @@ pub fn take_piece<E: Engine, G: Gate, O: Sink>(
     requires { IsLive E.entries conn server.old }
     ensures live { IsLive E.entries conn server.new }
     ensures grows { LivesOn conn (Fits E.entries server.old) (Fits E.entries server.new) }
-    ensures takes { (r : Rest G) (before : Option (List ℕ)) (up : List ℕ)
+    ensures takes { (r : Rest G) (before : SinkView) (up : List ℕ)
         → IsSome (find conn r.sessions)
         → (told_by r conn (setting E.answer G.welcomes r) up).kept.ended ≡ None
         → Stands r conn (setting E.answer G.welcomes r) (Fits E.entries server.old) before
-        (O.taken sink.old) up
+        (sink_view O.put O.taken sink.old) up
         → TakesPiece r conn (setting E.answer G.welcomes r) (Fits E.entries server.new) before
-        (O.taken sink.new) up piece.now result }
+        (sink_view O.put O.taken sink.new) up piece.now result }
     ensures failed { IfErr result (λ e. IsDueTo e false (O.has_failed sink.new)) }
 {
     let taken = take_items(server, conn, piece, sink);
@@ -44,7 +49,7 @@ pub fn take_piece<E: Engine, G: Gate, O: Sink>(
     both_of(taken, put)
 }
 
-/// What was taken and put out; the first fault where there was any.
+/// Returns the liveness, or the first fault of the two if there was one.
 fn both_of(
     taken: Result<Liveness, StreamFault>,
     put: Result<(), StreamFault>,
@@ -61,7 +66,7 @@ fn both_of(
     }
 }
 
-/// Takes a piece, item by item, up to the end of the session, and works what each makes due.
+/// Feeds a piece, item by item, up to the session's end, and processes what each item makes due.
 fn take_items<E: Engine, G: Gate, O: Sink>(
     server: &mut Server<E, G>,
     conn: u64,
@@ -69,13 +74,13 @@ fn take_items<E: Engine, G: Gate, O: Sink>(
     sink: &mut O,
 ) -> Result<Liveness, StreamFault>
     ensures grows { GrowsOn conn (Fits E.entries server.old) (Fits E.entries server.new) }
-    ensures takes { (r : Rest G) (before : Option (List ℕ)) (up : List ℕ)
+    ensures takes { (r : Rest G) (before : SinkView) (up : List ℕ)
         → IsSome (find conn r.sessions)
         → (told_by r conn (setting E.answer G.welcomes r) up).kept.ended ≡ None
         → HoldsAfter r conn (setting E.answer G.welcomes r) (Fits E.entries server.old) before
-        (O.taken sink.old) up
+        (sink_view O.put O.taken sink.old) up
         → TakesItems r conn (setting E.answer G.welcomes r) (Fits E.entries server.new) before
-        (O.taken sink.new) up piece.now result }
+        (sink_view O.put O.taken sink.new) up piece.now result }
     ensures failed { IfErr result (λ e. IsDueTo e false (O.has_failed sink.new)) }
 {
     let mut rest = piece;
@@ -94,7 +99,7 @@ fn take_items<E: Engine, G: Gate, O: Sink>(
     Ok(Liveness::Open)
 }
 
-/// Takes one item at most of a piece, and works what it makes due.
+/// Feeds at most one item of a piece, and processes what it makes due.
 fn take_one<E: Engine, G: Gate, O: Sink>(
     server: &mut Server<E, G>,
     conn: u64,
@@ -103,13 +108,13 @@ fn take_one<E: Engine, G: Gate, O: Sink>(
 ) -> Result<Taken, StreamFault>
     ensures grows { GrowsOn conn (Fits E.entries server.old) (Fits E.entries server.new) }
     ensures bound { IfOk result (λ taken. (0 < taken.used) × (taken.used ≤ length piece.now)) }
-    ensures takes { (r : Rest G) (before : Option (List ℕ)) (up : List ℕ)
+    ensures takes { (r : Rest G) (before : SinkView) (up : List ℕ)
         → IsSome (find conn r.sessions)
         → (told_by r conn (setting E.answer G.welcomes r) up).kept.ended ≡ None
         → HoldsAfter r conn (setting E.answer G.welcomes r) (Fits E.entries server.old) before
-        (O.taken sink.old) up
+        (sink_view O.put O.taken sink.old) up
         → TakesOne r conn (setting E.answer G.welcomes r) (Fits E.entries server.new) before
-        (O.taken sink.new) up piece.now result }
+        (sink_view O.put O.taken sink.new) up piece.now result }
     ensures failed { IfErr result (λ e. IsDueTo e false (O.has_failed sink.new)) }
 {
     let took = match feed_one(server, conn, piece) {
@@ -129,7 +134,7 @@ fn take_one<E: Engine, G: Gate, O: Sink>(
     })
 }
 
-/// How a session stands after this ended with the bytes that it took; none where a step may be due.
+/// Returns a session's liveness after it took bytes with this result, or none if a step may be due.
 fn liveness_after(what: What) -> Option<Liveness>
     ensures { result ≡ rest_after what }
 {
@@ -140,8 +145,11 @@ fn liveness_after(what: What) -> Option<Liveness>
     }
 }
 
-/// Feeds one item at most of a piece, and answers how many bytes were used, and what ended with them. None are used if no ordinal is left:
-/// that is I3, as is want of memory.
+/// Feeds at most one item of a piece. Returns how many bytes were used, and what ended with them.
+///
+/// # Errors
+///
+/// I3 if memory runs out, or if no ordinal is left, so that no byte is used.
 fn feed_one<E: Engine, G: Gate>(
     server: &mut Server<E, G>,
     conn: u64,

@@ -1,4 +1,4 @@
-//! A session of a server is served over a source and a sink.
+//! Serves a session of a server over a source and a sink.
 #![tactic(auto)]
 
 mod due;

@@ -25,7 +25,7 @@ pub use Rattle.streams.specs.Reading.{LetsRead}
 pub use Rattle.streams.specs.declared.fault.StreamFault.{StreamFault}
 pub use Rattle.streams.specs.declared.fault.StreamFault.TheVariants.{WriteFailed, Memory, ReadFailed}
 pub use Rattle.asks.specs.Asking.{hears_all, after_all, IsNeeded, IsTurn, given_up, losses_then, PutsOut}
-pub use Rattle.asks.specs.Prelude.{FeedsPiece, HearsPiece, ReadsPiece, Tale, Writes, after_notes, all_answered, notes_of, tale_of}
+pub use Rattle.asks.specs.Prelude.{SourceView, SinkView, GivesBytes, FeedsPiece, HearsPiece, ReadsPiece, Tale, Writes, after_notes, all_answered, notes_of, tale_of}
 pub use Rattle.scripts.specs.Meant.{meant}
 pub use Rattle.scripts.specs.Prelude.{said_requests, script_request_view}
 pub use Rattle.scripts.specs.Rows.{request_line_of}

@@ -1,5 +1,6 @@
 pub mod Limits
 pub mod Fronts
+pub mod Moving
 pub mod Failing
 pub mod Reading
 pub mod Reasons

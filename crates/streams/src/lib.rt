@@ -1,13 +1,15 @@
-//! Bytes that come from a source and go to a sink.
+//! Streams of bytes: sources that are read, and sinks that are written to.
 #![tactic(auto)]
 
 mod fault;
+mod history;
 mod memory;
 mod over;
 mod traits;
 mod writer;
 
 pub use fault::StreamFault;
+pub use history::History;
 pub use memory::{Buffer, Slice};
 pub use over::Over;
 pub use traits::{Failed, PeerSource, Sink, Source};

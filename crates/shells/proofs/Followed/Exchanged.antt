@@ -2,6 +2,13 @@
 pub mod Words
 pub use Words.*
 
+-- a sink and a source by what was moved and what is known
+abbrev pub sink_at : List ℕ → Option (List ℕ) → SinkView
+sink_at put taken = record { put = put; taken = taken }
+
+abbrev pub source_at : List ℕ → Option (List ℕ) → SourceView
+source_at given left = record { given = given; left = left }
+
 -- all of it
 pub puts_whole : (w : Bool) (a b : Option (List ℕ)) (xs : List ℕ) → Appends a b xs → Puts w a b xs
 puts_whole w a b xs h = record { front = front_whole a b xs h; all = λ _. h }
@@ -19,15 +26,21 @@ pub moves_printed : (fault : Option StreamFault) (a : Streams) (printed : Option
 moves_printed fault a printed failed text h sound = search (moves_none {fault = fault} a)
 
 -- what waits is written, or some of it
-pub moves_sent : (fault : Option StreamFault) (a : Streams) (now : Option (List ℕ)) (failed : Bool) (bytes : List ℕ) (out : ℕ)
-    → Writes bytes out fault a.written now → ((fault ≡ Some WriteFailed → ⊥) → StaysSound a.write_failed failed)
+pub moves_sent : (fault : Option StreamFault) (a : Streams) (put put_now : List ℕ) (now : Option (List ℕ)) (failed : Bool) (bytes : List ℕ) (out : ℕ)
+    → Writes bytes out fault (sink_at put a.written) (sink_at put_now now) → ((fault ≡ Some WriteFailed → ⊥) → StaysSound a.write_failed failed)
     → Moves fault a (record a { written = now; write_failed = failed }) (record (said [] []) { sent = bytes })
-moves_sent fault a now failed bytes out w sound = search (moves_none {fault = fault} a, puts fault w)
+moves_sent fault a put put_now now failed bytes out w sound = search (moves_none {fault = fault} a, puts fault w)
   where
-    puts : (f : Option StreamFault) → Writes bytes out f a.written now → Puts (is_printed f) a.written now bytes
-    puts (Some Memory) w = record { front = w; all = λ e. absurd cc }
-    puts (Some WriteFailed) w = record { front = w.0; all = λ e. absurd cc }
-    puts _ w = puts_whole true _ _ _ w.0
+    puts : (f : Option StreamFault) → Writes bytes out f (sink_at put a.written) (sink_at put_now now) → Puts (is_printed f) a.written now bytes
+    puts (Some Memory) w = puts_whole false _ _ _ w.0.known
+    puts (Some WriteFailed) w = record { front = w.0.known; all = λ e. absurd cc }
+    puts _ w = puts_whole true _ _ _ w.0.known
+
+-- memory runs out before anything of it is written
+pub moves_unsent : (a : Streams) (bytes : List ℕ) → Moves (Some Memory) a a (record (said [] []) { sent = bytes })
+moves_unsent a bytes =
+    let m = moves_none {fault = Some Memory} a in
+    record { read = m.read; sent = record { front = ([], bytes, refl, Appends-nil a.written); all = λ e. absurd cc }; printed = m.printed; told = m.told; source = m.source; sinks = m.sinks }
 
 -- one log after another
 abbrev pub and_then : Log → Log → Log
@@ -110,11 +123,11 @@ module _ {v : Version} {n : Note} {a : Sinks} where
 abbrev pub heard_none : {fault : Option StreamFault} {p : Place} → HeardUpTo fault p
 heard_none = record { fed = []; unheard = []; needed = inl refl; whole = λ _. inl refl; printed = []; told = []; cut = None; cuts = inl refl; prints = prints_none }
 
-pub written : {p : Place} {a : Streams} {k : Caller} (fault : Option StreamFault) (now : Option (List ℕ)) (failed : Bool)
-    → PutsOut p.rest a.written now (Fits k.client) fault → k.version ≡ p.version → ((fault ≡ Some WriteFailed → ⊥) → StaysSound a.write_failed failed)
+pub written : {p : Place} {a : Streams} {k : Caller} (put put_now : List ℕ) (fault : Option StreamFault) (now : Option (List ℕ)) (failed : Bool)
+    → PutsOut p.rest (sink_at put a.written) (sink_at put_now now) (Fits k.client) fault → k.version ≡ p.version → ((fault ≡ Some WriteFailed → ⊥) → StaysSound a.write_failed failed)
     → Hears fault p a (record a { written = now; write_failed = failed }) k
-written {p = p} {a = a} fault now failed (out, w, fits) version s =
-    let moves = moves_sent fault a now failed p.rest.unsent out w s in
+written {p = p} {a = a} put put_now fault now failed (out, w, fits) version s =
+    let moves = moves_sent fault a put put_now now failed p.rest.unsent out w s in
     record { out = out; heard = heard_none; moves = moves; at = record { fits = fits; version = version }; all = λ e. (rw e at w).1 }
 
 -- no fault comes while nothing is printed, so a source that fails isn't hidden by one
@@ -129,7 +142,7 @@ never_printed fault never = grind arith
 pub all_heard : {q : Place} (h : HeardUpTo None q) → awaits (hears_all q.rest h.fed).knows ≡ true → h.unheard ≡ []
 all_heard {q = q} h waits = ⊎_elim (λ e. e) (λ o. absurd (awaits_open (hears_all q.rest h.fed).knows waits o)) (h.whole refl)
 
-module _ {p : Place} {a b : Streams} {k : Caller} (c : Streams) (l : Caller) (new : List Note) (so : Hears None p a b k)
+module _ {p : Place} {a b : Streams} {k : Caller} (given given_now : List ℕ) (c : Streams) (l : Caller) (new : List Note) (so : Hears None p a b k)
     (waits : awaits (rest_of k.client).knows ≡ true) (version : l.version ≡ versions_after k.version new) (same : (c.written ≡ b.written) × (c.write_failed ≡ b.write_failed)) where
   abbrev here : Place
   here = heard_place so.heard
@@ -138,12 +151,12 @@ module _ {p : Place} {a b : Streams} {k : Caller} (c : Streams) (l : Caller) (ne
   New broken = PutsNotes k.version new broken (sinks_of b) (sinks_of c)
 
   abbrev Read : Bool → Type 0
-  Read whole = ReadsPiece here.rest b.left c.left [] new whole (Fits l.client)
+  Read whole = ReadsPiece here.rest (source_at given b.left) (source_at given_now c.left) [] new whole (Fits l.client)
 
   abbrev Piece : Result Bool StreamFault → Type 0
-  Piece done = HearsPiece here.rest b.left c.left [] new (Fits l.client) done
+  Piece done = HearsPiece here.rest (source_at given b.left) (source_at given_now c.left) [] new (Fits l.client) done
 
-  nothing : Consumes b.left c.left [] → new ≡ [] → Fits l.client here.rest → Read true
+  nothing : GivesBytes (source_at given b.left) (source_at given_now c.left) [] → new ≡ [] → Fits l.client here.rest → Read true
   nothing input told now =
       record { piece = []; input = input; short = omega arith; feeds = record { fed = []; unheard = []; parts = refl; told = told; now = now; ends = λ _. inl refl } }
 
@@ -151,7 +164,7 @@ module _ {p : Place} {a b : Streams} {k : Caller} (c : Streams) (l : Caller) (ne
   as_piece : (done : Result Bool StreamFault) → Piece done → Read (is_printed (result_err done))
   as_piece (Ok true) h = h
   as_piece (Ok false) h = nothing h.input h.told h.now
-  as_piece (Err ReadFailed) h = nothing (Consumes-kept _ _ _ [] (Consumes-nil _) h.input) h.told h.now
+  as_piece (Err ReadFailed) h = nothing h.input h.told h.now
   as_piece (Err WriteFailed) h = absurd h
   as_piece (Err Memory) h = h
 
@@ -166,7 +179,7 @@ module _ {p : Place} {a b : Streams} {k : Caller} (c : Streams) (l : Caller) (ne
       let sink : StaysSound b.write_failed c.write_failed = λ e. cc in
       let sent = puts_whole (is_printed fault) b.written c.written [] (rw same.0 (Appends-nil b.written)) in
       let read : Moves fault b c (record (said puts.printed puts.told) { read = f.fed ++ f.unheard }) =
-      search (rw f.parts at h.input, sent, puts, source, sound, sink) in
+      search (rw f.parts at h.input.known, sent, puts, source, sound, sink) in
       let before : Prints p.version None (hears_all (sent_out p so.out).rest was.fed).notes was.printed was.told =
       rw (⊎_elim (λ e. e) (λ z. absurd cc) was.cuts) at was.prints in
       let heard : HeardUpTo fault (sent_out p so.out) = record {

@@ -1,12 +1,12 @@
 use Rattle.std.proofs.Common.{refl, sym, ap, ◌∙◌, map, arith}
 use Rattle.client.specs.Prelude.{note, awaits, Fits, Rest}
-use Rattle.asks.specs.Prelude.{after_all}
+use Rattle.asks.specs.Prelude.{source_view, after_all}
 use Rattle.asks.proofs.Asked.{is_awaited, reads_none, stops_waiting, hears_more, hears_end, hears_fault}
 use Rattle.asks.proofs.client_end.read_on.Goals as goal
 
 pub loop-buffer-init : goal.loop-buffer-init
 loop-buffer-init g c = record {
-  reads = λ r f. reads_none r (g.I.PeerSource.left c.args.source.now) (map note c.args.heard.now.items) (Fits c.args.client.now) f;
+  reads = λ r f. reads_none r (source_view g.I.PeerSource.given g.I.PeerSource.left c.args.source.now) (map note c.args.heard.now.items) (Fits c.args.client.now) f;
   sound = λ h. h;
   stays = λ h. h;
 }
@@ -44,4 +44,4 @@ pub returns-in-Err-clause-reads : goal.returns-in-Err-clause-reads
 returns-in-Err-clause-reads g c = λ r f.
     let so = c.loop-buffer.invariant.reads r f in
     let waits = sym (c.awaits.ensures ∙ ap (λ (x : Rest). awaits x.knows) so.now) ∙ c.loop-buffer-test.true in
-    hears_fault so (g.I.PeerSource.left c.hear_into.new.source) (map note c.hear_into.new.heard.items) (Fits c.hear_into.new.client) c.in-Err.fault waits (c.in-Err.ensures.hears (after_all r so.fed) so.now)
+    hears_fault so (source_view g.I.PeerSource.given g.I.PeerSource.left c.hear_into.new.source) (map note c.hear_into.new.heard.items) (Fits c.hear_into.new.client) c.in-Err.fault waits (c.in-Err.ensures.hears (after_all r so.fed) so.now)

@@ -1,6 +1,7 @@
-use Rattle.std.proofs.Common.{inl, inr, sym, ◌∙◌, rules}
+use Rattle.std.proofs.Common.{inl, inr, sym, ◌∙◌, subst, Err, rules}
 use Rattle.std.proofs.lemmas.List.{nil_from_length}
-use Rattle.connects.specs.Prelude.{stand_of, heard_stand}
+use Rattle.connects.specs.declared.breaks.Break.{Break}
+use Rattle.connects.specs.Prelude.{stand_of, heard_stand, Feeds}
 use Rattle.connects.proofs.Reading.{stand_is, part_none, part_on, part_refused, part_done}
 use Rattle.connects.proofs.exchanging.feed_piece.Goals as goal
 
@@ -14,7 +15,9 @@ pub returns-clause-feeds : goal.returns-clause-feeds
 returns-clause-feeds c = part_done c.loop-rest.invariant (inl (nil_from_length c.loop-rest.rest.now (search rules)))
 
 pub returns-in-Err-clause-feeds : goal.returns-in-Err-clause-feeds
-returns-in-Err-clause-feeds c = part_refused c.loop-rest.invariant (stand_of c.feed.new.self) c.in-Err.fault c.break_of.result c.in-Err.ensures.fed c.in-Err.ensures.memory
+returns-in-Err-clause-feeds c =
+    subst (λ (e : Break). Feeds (stand_of c.args.tracking.now) (stand_of c.feed.new.self) c.args.piece.now (Err e)) (sym c.break_of.ensures.by)
+    (part_refused c.loop-rest.invariant (stand_of c.feed.new.self) c.in-Err.fault c.in-Err.ensures.fed c.in-Err.ensures.memory)
 
 pub loop-rest-preserved : goal.loop-rest-preserved
 loop-rest-preserved c =

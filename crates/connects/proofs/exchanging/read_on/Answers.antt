@@ -4,7 +4,7 @@ use Rattle.connects.proofs.Reading.{reads_none, reads_on, awaits_open}
 use Rattle.connects.proofs.exchanging.read_on.Goals as goal
 
 pub loop-buffer-init : goal.loop-buffer-init
-loop-buffer-init g c = record { reads = reads_none (stand_of c.args.tracking.now) (g.I.Source.left c.args.source.now); sound = λ h. h; stays = λ h. h }
+loop-buffer-init g c = record { reads = reads_none (stand_of c.args.tracking.now) (g.I.Source.given c.args.source.now); sound = λ h. h; stays = λ h. h }
 
 pub loop-buffer-preserved : goal.loop-buffer-preserved
 loop-buffer-preserved g c =

@@ -5,7 +5,7 @@ use Rattle.connects.proofs.exchanging.read_on.Given as goal
 
 abbrev pub invariant-loop-buffer : goal.invariant-loop-buffer
 invariant-loop-buffer g l = record {
-  reads : ReadsOn (stand_of l.fn.tracking) (stand_of l.tracking) (g.I.Source.left l.fn.source) (g.I.Source.left l.source) (Ok tt);
+  reads : ReadsOn (stand_of l.fn.tracking) (stand_of l.tracking) (g.I.Source.given l.fn.source) (g.I.Source.given l.source) (Ok tt);
   sound : StaysSound (g.I.Source.has_failed l.fn.source) (g.I.Source.has_failed l.source);
   stays : g.I.Source.has_failed l.fn.source ≡ true → g.I.Source.has_failed l.source ≡ true;
 }

@@ -7,13 +7,13 @@ use Rattle.connects.proofs.pipelines.say.Goals as goal
 
 pub returns-in-Err-clause-says : goal.returns-in-Err-clause-says
 returns-in-Err-clause-says g c =
-    let left = g.I.Source.left c.args.source.now in
-    let written = g.O.Sink.taken c.args.sink.now in
+    let left = g.I.Source.given c.args.source.now in
+    let written = g.O.Sink.put c.args.sink.now in
     none_said (place (stand_of c.args.tracking.now) left written) (place (stand_of c.give_up.new.tracking) left written) (request_view c.args.first ∷ map request_view c.args.others.items) (stand_of c.refresh.new.tracking) (stand_of c.ask_all.new.tracking) c.in-Err.rule
     c.refresh.ensures c.in-Err.ensures.asks (ap (λ (z : Stand). place z left written) c.give_up.ensures)
 
 pub returns-clause-says : goal.returns-clause-says
 returns-clause-says g c =
-    all_said (place (stand_of c.args.tracking.now) (g.I.Source.left c.args.source.now) (g.O.Sink.taken c.args.sink.now)) (place (stand_of c.exchange-broken.new.tracking) (g.I.Source.left c.exchange-broken.new.source) (g.O.Sink.taken c.exchange-broken.new.sink))
+    all_said (place (stand_of c.args.tracking.now) (g.I.Source.given c.args.source.now) (g.O.Sink.put c.args.sink.now)) (place (stand_of c.exchange-broken.new.tracking) (g.I.Source.given c.exchange-broken.new.source) (g.O.Sink.put c.exchange-broken.new.sink))
     (request_view c.args.first ∷ map request_view c.args.others.items) (stand_of c.refresh.new.tracking) (stand_of c.ask_all.new.tracking) c.exchange-broken.result c.told_of.result c.in-Ok.ordinal (c.len.result + 1)
     c.refresh.ensures (search rules) c.exchange-broken.ensures.exchanges c.in-Ok.ensures.ordinal (grind (arith, length-map)) c.told_of.ensures.told

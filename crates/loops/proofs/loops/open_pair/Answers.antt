@@ -16,7 +16,7 @@ returns-clause-opens g c = λ r f none.
       comes = λ a. record {
         lives = lives_same _ _ (opened r) o.now found;
         client = record { item = first_place.rest.item; at = c.in-Ok.ensures.new; same = λ e. refl };
-        session = ((subst (Fits g.E.Engine.entries c.open_session.new.server) (sym same) o.now, silent), refl);
+        session = ((subst (Fits g.E.Engine.entries c.open_session.new.server) (sym same) o.now, record { grows = silent; known = silent }), refl);
         up = passes_none;
         down = subst (Passes a.down a.down) (ap (λ (t : Talk). t.out) (sym (talk_by_items (setting g.E.Engine.answer g.G.Gate.welcomes r) c.in-Ok-open_session.conn r.ledger []))) passes_none;
         printed = Appends-nil a.out;

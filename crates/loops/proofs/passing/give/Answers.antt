@@ -1,4 +1,4 @@
-use Rattle.loops.proofs.Looped.{Fits, Some, [], append_assoc, refl, setting, sits_takes, ◌++◌}
+use Rattle.loops.proofs.Looped.{Fits, buffer_of, [], append_assoc, refl, setting, sits_takes, ◌++◌}
 use Rattle.loops.proofs.passing.give.Goals as goal
 
 pub returns-in-Over-clause-sits : goal.returns-in-Over-clause-sits
@@ -11,4 +11,4 @@ returns-in-Ok-clause-sits g c = λ r sent i h.
     let k = rw c.in-Open.is at h in
     let S = setting g.E.Engine.answer g.G.Gate.welcomes r in
     sits_takes r c.args.conn S (Fits g.E.Engine.entries c.take_piece.new.server) sent c.args.piece.now c.take_piece.new.sink.bytes.items c.in-Ok.after
-    (c.in-Ok.ensures.takes r (Some []) sent i k.1 k.0)
+    (c.in-Ok.ensures.takes r (buffer_of []) sent i k.1 k.0)

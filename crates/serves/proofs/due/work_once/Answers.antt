@@ -1,6 +1,6 @@
 use Rattle.std.proofs.Common.{◌∙◌, ap}
 use Rattle.server.specs.Prelude.{setting, rest_of}
-use Rattle.serves.specs.Prelude.{settled, liveness_of}
+use Rattle.serves.specs.Prelude.{settled, liveness_of, sink_view}
 use Rattle.serves.specs.declared.due.Next.TheVariants as next
 use Rattle.serves.proofs.Stepping.{goes_by, goes_with, goes_wrong, holds_part, holds_same}
 use Rattle.serves.proofs.Called.{ended_there, holds_none, holds_some}
@@ -31,13 +31,13 @@ pub returns-in-Ok-clause-steps : goal.returns-in-Ok-clause-steps
 returns-in-Ok-clause-steps g c = λ r u t before i o.
     let mid = rest_of g.E.Engine.entries c.work_step.new.server in
     let w = goes_by i g.E.Engine.answer g.G.Gate.welcomes o mid next.Room (rw c.in-Ok-Room.field-0-is at c.in-Ok-Room.ensures.works) in
-    goes_with w (holds_none i {t = w.so_far} before (g.O.Sink.taken c.args.sink.now) (g.O.Sink.taken c.put_out.new.sink) mid (rest_of g.E.Engine.entries c.put_out.new.server) w.holds c.in-Ok.ensures.puts)
+    goes_with w (holds_none i {t = w.so_far} before (sink_view g.O.Sink.put g.O.Sink.taken c.args.sink.now) (sink_view g.O.Sink.put g.O.Sink.taken c.put_out.new.sink) mid (rest_of g.E.Engine.entries c.put_out.new.server) w.holds c.in-Ok.ensures.puts)
 
 pub returns-in-Err-put_out-clause-steps : goal.returns-in-Err-put_out-clause-steps
 returns-in-Err-put_out-clause-steps g c = λ r u t before i o.
     let mid = rest_of g.E.Engine.entries c.work_step.new.server in
     let w = goes_by i g.E.Engine.answer g.G.Gate.welcomes o mid next.Room (rw c.in-Ok-Room.field-0-is at c.in-Ok-Room.ensures.works) in
-    goes_wrong w (holds_some i {t = w.so_far} before (g.O.Sink.taken c.args.sink.now) (g.O.Sink.taken c.put_out.new.sink) mid (rest_of g.E.Engine.entries c.put_out.new.server) w.holds c.in-Err-put_out.fault c.in-Err-put_out.ensures.puts)
+    goes_wrong w (holds_some i {t = w.so_far} before (sink_view g.O.Sink.put g.O.Sink.taken c.args.sink.now) (sink_view g.O.Sink.put g.O.Sink.taken c.put_out.new.sink) mid (rest_of g.E.Engine.entries c.put_out.new.server) w.holds c.in-Err-put_out.fault c.in-Err-put_out.ensures.puts)
 
 pub returns-in-Err-clause-steps : goal.returns-in-Err-clause-steps
 returns-in-Err-clause-steps g c = λ r u t before i o. goes_wrong o (holds_part (holds_same c.in-Err.ensures.works o.holds))

@@ -1,6 +1,6 @@
 use Rattle.std.proofs.Common.{sym, subst}
 use Rattle.server.specs.Prelude.{setting, rest_of, Fits}
-use Rattle.serves.specs.Prelude.{TakesPiece}
+use Rattle.serves.specs.Prelude.{TakesPiece, sink_view}
 use Rattle.serves.proofs.Called.{live_by, lives_by}
 use Rattle.serves.proofs.Conversings.{begins_held, piece_due, piece_taken}
 use Rattle.serves.proofs.intake.take_piece.Goals as goal
@@ -8,9 +8,9 @@ use Rattle.serves.proofs.intake.take_piece.Goals as goal
 pub returns-clause-takes : goal.returns-clause-takes
 returns-clause-takes g c = λ r before up i e s.
     let S = setting g.E.Engine.answer g.G.Gate.welcomes r in
-    let taken = g.O.Sink.taken c.put_out-put.new.sink in
+    let taken = sink_view g.O.Sink.put g.O.Sink.taken c.put_out-put.new.sink in
     subst (TakesPiece r c.args.conn S (Fits g.E.Engine.entries c.put_out-put.new.server) before taken up c.args.piece.now) (sym c.both_of.ensures)
-    (piece_taken r c.args.conn i S before (g.O.Sink.taken c.take_items-taken.new.sink) taken up (rest_of g.E.Engine.entries c.take_items-taken.new.server) (rest_of g.E.Engine.entries c.put_out-put.new.server) c.args.piece.now c.take_items-taken.result c.put_out-put.result
+    (piece_taken r c.args.conn i S before (sink_view g.O.Sink.put g.O.Sink.taken c.take_items-taken.new.sink) taken up (rest_of g.E.Engine.entries c.take_items-taken.new.server) (rest_of g.E.Engine.entries c.put_out-put.new.server) c.args.piece.now c.take_items-taken.result c.put_out-put.result
     (c.take_items-taken.ensures.takes r before up i e (begins_held r c.args.conn S up s)) c.put_out-put.ensures.puts)
 
 pub returns-clause-failed : goal.returns-clause-failed

@@ -1,4 +1,4 @@
-use Rattle.std.proofs.Common.{◌≡◌, false, ◌∙◌}
+use Rattle.std.proofs.Common.{◌≡◌, false, ◌∙◌, ap, Some}
 use Rattle.server.specs.Prelude.{Rest, empty, is_full, opened, rest_of}
 use Rattle.serves.proofs.Firsts.{one, one_found, one_lives, one_out, one_last}
 use Rattle.server.proofs.Known.{holds}
@@ -15,11 +15,11 @@ returns-clause-out g c =
     let ledger = g.E.Engine.entries c.args.engine in
     let o = holds (λ (r : Rest g.row.G.Denot). (is_full r ≡ false) × (c.in-Ok.conn ≡ r.next) × (rest_of g.E.Engine.entries c.open.new.self ≡ opened r)) _ c.in-Ok.ensures (empty ledger c.args.gate) c.new-server.ensures in
     let h = c.in-Ok-converse.ensures.converses (one ledger c.args.gate c.in-Ok.conn o.1) o.2 (one_found ledger c.args.gate c.in-Ok.conn o.1) in
-    one_out ledger c.args.gate c.in-Ok.conn o.1 c.into_bytes.result.items (c.new-sink.ensures.0 ∙ c.new.ensures.items) c.into_bytes.ensures (rw c.new-source.ensures at h)
+    one_out ledger c.args.gate c.in-Ok.conn o.1 (ap (λ z. Some z) c.new-source.ensures.rest) c.into_bytes.result.items (c.new-sink.ensures.0 ∙ c.new.ensures.items) c.into_bytes.ensures h
 
 pub returns-clause-last : goal.returns-clause-last
 returns-clause-last g c =
     let ledger = g.E.Engine.entries c.args.engine in
     let o = holds (λ (r : Rest g.row.G.Denot). (is_full r ≡ false) × (c.in-Ok.conn ≡ r.next) × (rest_of g.E.Engine.entries c.open.new.self ≡ opened r)) _ c.in-Ok.ensures (empty ledger c.args.gate) c.new-server.ensures in
     let h = c.in-Ok-converse.ensures.converses (one ledger c.args.gate c.in-Ok.conn o.1) o.2 (one_found ledger c.args.gate c.in-Ok.conn o.1) in
-    one_last ledger c.args.gate c.in-Ok.conn o.1 c.end_at.result c.end_at.ensures (rw c.new-source.ensures at h)
+    one_last ledger c.args.gate c.in-Ok.conn o.1 (ap (λ z. Some z) c.new-source.ensures.rest) c.end_at.result c.end_at.ensures h

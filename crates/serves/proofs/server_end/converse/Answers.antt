@@ -1,15 +1,16 @@
 use Rattle.std.proofs.Common.{arith}
-use Rattle.std.proofs.KnownBytes.{Keeps-refl}
 use Rattle.server.specs.Prelude.{setting, Fits}
 use Rattle.streams.specs.declared.fault.StreamFault.TheVariants.{Memory}
 use Rattle.serves.proofs.Conversings.{reads_begun, reads_none}
 use Rattle.serves.proofs.Called.{lives_same}
+use Rattle.serves.proofs.Views.{gives_nil}
+use Rattle.serves.specs.Prelude.{source_view, sink_view}
 use Rattle.serves.proofs.server_end.converse.Goals as goal
 
 pub returns-in_default-clause-converses : goal.returns-in_default-clause-converses
 returns-in_default-clause-converses g c = λ r f e.
-    let left = g.I.PeerSource.left c.args.source.now in
-    reads_none (reads_begun r c.args.conn (setting g.E.Engine.answer g.G.Gate.welcomes r) left (g.O.Sink.taken c.args.sink.now) (Fits g.E.Engine.entries c.args.server.now) f e) left (Keeps-refl left) Memory
+    let from = source_view g.I.PeerSource.given g.I.PeerSource.left c.args.source.now in
+    reads_none (reads_begun r c.args.conn (setting g.E.Engine.answer g.G.Gate.welcomes r) from (sink_view g.O.Sink.put g.O.Sink.taken c.args.sink.now) (Fits g.E.Engine.entries c.args.server.now) f e) from (gives_nil from) Memory
 
 pub returns-in_default-clause-grows : goal.returns-in_default-clause-grows
 returns-in_default-clause-grows g c = lives_same c.args.conn (Fits g.E.Engine.entries c.args.server.now)

@@ -2,6 +2,7 @@ use Rattle.std.proofs.Common.{◌∙◌, sym, ap, subst, refl, Option, IsSome, u
 use Rattle.session.specs.declared.kinds.Cause.{Cause}
 use Rattle.server.specs.Prelude.{find, lost_at, setting, Fits}
 use Rattle.serves.specs.Prelude.{StandsOver, Talk, conversation, with_talk}
+use Rattle.serves.proofs.Conversings.{front_by_given, put_by_given}
 use Rattle.serves.proofs.Stepping.{breaks_off}
 use Rattle.serves.proofs.Called.{leaves_lost, lost_cause, lost_rest}
 use Rattle.server.proofs.Known.{gone}
@@ -34,3 +35,9 @@ returns-in-Ok-clause-leaves g c = leaves_lost c.args.conn _ _ _ c.lost.result c.
 
 pub returns-in-Err-clause-leaves : goal.returns-in-Err-clause-leaves
 returns-in-Err-clause-leaves g c = leaves_lost c.args.conn _ _ _ c.lost.result c.converse-done.ensures.grows c.lost.ensures
+
+pub returns-in-Ok-clause-given : goal.returns-in-Ok-clause-given
+returns-in-Ok-clause-given g c = λ r bytes f e grows. put_by_given bytes grows (c.in-Ok.ensures.converses r f e)
+
+pub returns-in-Err-clause-front : goal.returns-in-Err-clause-front
+returns-in-Err-clause-front g c = λ r bytes f e grows. front_by_given bytes grows c.in-Err.fault (c.in-Err.ensures.converses r f e)

@@ -17,7 +17,7 @@ pub use Rattle.asks.proofs.Tales.{hears_all-append}
 pub use Rattle.wire.proofs.Readers.{state-append}
 pub use Rattle.shells.specs.Words.{Appends, Consumes, IsAtEnd, result_err, result_and, Version, Heard, RequestView, ResponseView, Fits, Hearing, Knows, Note, Rest, Summary, asking_bytes, awaits}
 pub use Rattle.shells.specs.Words.{heard_as, hears_item, losses, lost_outcome, note, refuses, taken_out, rest_of, losses_from, StaysSound, UnlessTold, AppendsFront, StreamFault, Memory}
-pub use Rattle.shells.specs.Words.{ReadFailed, WriteFailed, FeedsPiece, HearsPiece, ReadsPiece, Tale, Writes, after_all, after_notes, all_answered, hears_all, notes_of, tale_of, ScriptRequestView}
+pub use Rattle.shells.specs.Words.{SourceView, SinkView, GivesBytes, ReadFailed, WriteFailed, FeedsPiece, HearsPiece, ReadsPiece, Tale, Writes, after_all, after_notes, all_answered, hears_all, notes_of, tale_of, ScriptRequestView}
 pub use Rattle.shells.specs.Words.{Text, filled_from, filled_lines, lines, meant, request_line_of, said_requests, script_request_view, Gets, IsStopOf, PutsLine, heard_line, note_text}
 pub use Rattle.shells.specs.Words.{outcome_name, phase_name, row_text, stop_status, stop_text, entries_text, lost_line, Broken, Unreadable, SubmitFault, StopReason, V51, Wish, Item, at_client}
 pub use Rattle.shells.specs.Words.{outputs, Opened, at_server, items_received, state, Phase, kind_of, is_goodbye, Outcome, PutsOut}

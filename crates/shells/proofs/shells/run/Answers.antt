@@ -1,5 +1,5 @@
-use Rattle.shells.proofs.Followed.{◌∙◌, [], Some, ap, refl, append-nil, rules, false≢true, Appends-nil, Consumes-kept, Consumes-nil, Consumes-trans, Memory, ReadFailed, Broken, Rest, result_err}
-use Rattle.shells.proofs.Followed.{asks_version, fails_first, first_place, greeting, opens, parted, at_end, does_all, not-suc-le-zero, does_last, does_none, heard_none, moves_none, moves_sent, moves_told}
+use Rattle.shells.proofs.Followed.{◌∙◌, [], ap, refl, append-nil, rules, false≢true, Consumes-kept, Consumes-nil, Consumes-trans, Memory, ReadFailed, Broken, Rest, result_err}
+use Rattle.shells.proofs.Followed.{asks_version, fails_first, first_place, greeting, opens, parted, at_end, does_all, not-suc-le-zero, does_last, does_none, heard_none, moves_none, moves_unsent, moves_told}
 use Rattle.shells.proofs.shells.run.Goals as goal
 
 pub ask-requires : goal.ask-requires
@@ -16,7 +16,7 @@ take-requires g c = λ s taken n few turn. let so = c.loop-len.invariant in c.re
 pub returns-in-Err-clause-runs : goal.returns-in-Err-clause-runs
 returns-in-Err-clause-runs g c =
     let now = c.args.streams.now.at in
-    let moves = moves_sent (Some Memory) now now.written now.write_failed first_place.rest.unsent 0 ([], _, refl, Appends-nil _) (λ _ f. f) in
+    let moves = moves_unsent now first_place.rest.unsent in
     let talked = fails_first Memory now (record { out = 0; heard = heard_none; moves = moves; ends = λ e. absurd cc }) in
     record {
       script = [];

@@ -6,5 +6,5 @@ use Rattle.connects.proofs.connection.Connection.ask_one.Goals as goal
 
 pub returns-clause-says : goal.returns-clause-says
 returns-clause-says g c =
-    subst (λ (xs : List Request). Says (place (stand_of c.args.self.now.tracking) (g.S.Source.left c.args.self.now.source) (g.T.Sink.taken c.args.self.now.sink)) (place (stand_of c.ask.new.self.tracking) (g.S.Source.left c.ask.new.self.source) (g.T.Sink.taken c.ask.new.self.sink)) (request_view c.args.request ∷ map request_view xs) c.ask.result)
+    subst (λ (xs : List Request). Says (place (stand_of c.args.self.now.tracking) (g.S.Source.given c.args.self.now.source) (g.T.Sink.put c.args.self.now.sink)) (place (stand_of c.ask.new.self.tracking) (g.S.Source.given c.ask.new.self.source) (g.T.Sink.put c.ask.new.self.sink)) (request_view c.args.request ∷ map request_view xs) c.ask.result)
     c.new.ensures.items c.ask.ensures.says

@@ -7,8 +7,8 @@ use Rattle.connects.proofs.connection.Connection.greet.Goals as goal
 
 pub returns-in_default : goal.returns-in_default
 returns-in_default g c =
-    let left = g.S.Source.left c.args.self.now.source in
-    let written = g.T.Sink.taken c.args.self.now.sink in
+    let left = g.S.Source.given c.args.self.now.source in
+    let written = g.T.Sink.put c.args.self.now.sink in
     let login = is_login_in_hello (stand_of c.args.self.now.tracking).rest.knows.version in
     let some = greeting_some login (string_bytes c.args.agent) (auth_view c.args.auth) in
     unasked_said (Unit {0}) (place (stand_of c.args.self.now.tracking) left written) (place (stand_of c.unasked.new.tracking) left written) some.0 some.1 (greeting login (string_bytes c.args.agent) (auth_view c.args.auth)) c.unasked.result some.2

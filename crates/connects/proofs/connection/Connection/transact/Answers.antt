@@ -7,8 +7,8 @@ use Rattle.connects.proofs.connection.Connection.transact.Goals as goal
 
 pub returns-in_default-clause-says : goal.returns-in_default-clause-says
 returns-in_default-clause-says g c =
-    let left = g.S.Source.left c.args.self.now.source in
-    let written = g.T.Sink.taken c.args.self.now.sink in
+    let left = g.S.Source.given c.args.self.now.source in
+    let written = g.T.Sink.put c.args.self.now.sink in
     let begin = RequestView.Begin c.args.mode (token_view c.args.token) in
     let rest = within c.args.mode (rows_view c.args.rows) (map query_view c.args.queries.now) in
     unasked_said ℕ (place (stand_of c.args.self.now.tracking) left written) (place (stand_of c.unasked.new.tracking) left written) begin rest (begin ∷ rest) c.unasked.result refl

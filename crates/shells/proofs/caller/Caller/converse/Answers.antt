@@ -2,7 +2,7 @@ use Rattle.shells.proofs.Followed.{[], ◌∙◌, ap, append-nil, Appends-trans,
 use Rattle.shells.proofs.caller.Caller.converse.Goals as goal
 
 pub loop-self-init : goal.loop-self-init
-loop-self-init g c = λ p at. rw (← c.streams.view_is) (written None _ _ (c.in-Ok.ensures.out p.rest at.fits) at.version (λ _. c.in-Ok.ensures.sound))
+loop-self-init g c = λ p at. rw (← c.streams.view_is) (written _ _ None _ _ (c.in-Ok.ensures.out p.rest at.fits) at.version (λ _. c.in-Ok.ensures.sound))
 
 pub hear_some-requires-clause-turn : goal.hear_some-requires-clause-turn
 hear_some-requires-clause-turn g c = λ s taken n few turn. c.requires.lets s taken n few (λ p at.
@@ -16,7 +16,7 @@ hear_some-requires-clause-turn g c = λ s taken n few turn. c.requires.lets s ta
 pub returns-in-Err-clause-converses : goal.returns-in-Err-clause-converses
 returns-in-Err-clause-converses g c = λ p at.
     let h = c.in-Err.ensures in
-    (rw (← c.streams.view_is) (written (Some c.in-Err.fault) _ _ (h.out p.rest at.fits) at.version (λ n. h.sound (λ e. n (ap Some e)))), λ e. absurd cc)
+    (rw (← c.streams.view_is) (written _ _ (Some c.in-Err.fault) _ _ (h.out p.rest at.fits) at.version (λ n. h.sound (λ e. n (ap Some e)))), λ e. absurd cc)
 
 pub loop-self-preserved : goal.loop-self-preserved
 loop-self-preserved g c = λ p at. (c.in-Ok-true.ensures.hears p _ (c.loop-self.invariant p at)).0

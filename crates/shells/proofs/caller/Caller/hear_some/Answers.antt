@@ -10,4 +10,4 @@ returns-clause-hears g c = λ p start s.
     let so = rw (← c.streams.view_is) at s in
     let k = c.hear_piece-done in
     let h = rw (c.new-heard.ensures.items, ← c.put_all.ensures.client) at (k.ensures.hears _ so.at.fits) in
-    rw c.and.ensures (more_heard _ _ _ so c.requires.waits c.put_all.ensures.version (refl, refl) c.put_all.result k.result c.put_all.ensures.read h c.put_all.ensures.puts k.ensures.sound)
+    rw c.and.ensures (more_heard _ _ _ _ _ so c.requires.waits c.put_all.ensures.version (refl, refl) c.put_all.result k.result c.put_all.ensures.read h c.put_all.ensures.puts k.ensures.sound)
