@@ -1,5 +1,5 @@
 //! Measures the C calls of a client beside the driver's own: both are played the answers of a recording, and ask what each request was told once its exchange is
-//! over. Links with libbolt.a and the static library `bench_calls`.
+//! over. Links with libbolt.a and the static library `bench_library`.
 mod clock;
 mod measured;
 // The programs of other parts use the rest.

@@ -1,4 +1,4 @@
-//! Measures the codec of the product beside the twin's, on the same samples (measured.rs says how). Linked with the static library `bench_calls`:
+//! Measures the codec of the product beside the twin's, on the same samples (measured.rs says how). Linked with the static library `bench_library`:
 //!   bench_decode(bytes, turns): decodes the bytes so many times, answers how often it succeeded
 //!   bench_encode(bytes, turns): decodes once, encodes so many times onto an output of its own each, answers the bytes appended in all
 //!   bench_append(bytes, turns): the same onto an output that holds a byte and has room

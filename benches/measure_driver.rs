@@ -1,5 +1,5 @@
 //! Measures a client through the driver, which keeps what it is told until each exchange is over, beside the client's own calls: both are played the answers
-//! of a recording. Links with the static library `bench_calls`, as measure_sessions.rs.
+//! of a recording. Links with the static library `bench_library`, as measure_sessions.rs.
 mod clock;
 mod measured;
 // The programs of other parts use the rest.

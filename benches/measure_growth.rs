@@ -1,4 +1,4 @@
-//! Times what is to stay flat, in one run: `measure_growth [TIMES]`. Linked with the static library `bench_calls` of the
+//! Times what is to stay flat, in one run: `measure_growth [TIMES]`. Linked with the static library `bench_library` of the
 //! workspace:
 //!   bench_records_read(keys, turns), bench_records_written(keys, turns): a record of one dictionary, answers its bytes
 //!   bench_pieces_taken(bytes, turns): a piece of small messages and no-ops, answers the messages in all

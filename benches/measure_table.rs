@@ -1,5 +1,5 @@
 //! Measures the fixed table of the product beside the twin's (measured.rs says how). A table has so many entries of one put each, over so many keys in
-//! turn; then it is put to, or asked. Linked with the static library `bench_calls`:
+//! turn; then it is put to, or asked. Linked with the static library `bench_library`:
 //!   bench_table_puts(keys, puts): makes a table by so many puts, each its own commit, answers the ledger's length
 //!   bench_table_tokens(keys, puts): the same, each commit under a token of its own
 //!   bench_table_gets(keys, puts, key, gets): then gets a key's value so many times, answers the rows read

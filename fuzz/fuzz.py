@@ -1,5 +1,5 @@
 #!/usr/bin/env python3
-"""Drives the built programs `test_refusals` and `bolt` by random events, damaged bytes and refused allocations.
+"""Drives the built programs `test_player` and `bolt` by random events, damaged bytes and refused allocations.
 
 usage: fuzz/fuzz.py [SECONDS [SEED]]      60 seconds of processor time, from seed 1
 
@@ -71,7 +71,7 @@ class Fuzz:
     """Runs by seed, and how much of them was played."""
 
     def __init__(self):
-        self.machine = model.Machine(programs.built("test_refusals"))
+        self.machine = model.Machine(programs.built("test_player"))
         self.allocations = preloads.Allocations()
         # Plays, those of them with refused allocations, and the events of all.
         self.plays, self.refusing, self.events = 0, 0, 0
@@ -104,7 +104,7 @@ class Fuzz:
         if odds:
             told = self.played_refusing(asked, odds, settings)
         else:
-            told, status = ended("test_refusals", [], {}, asked)
+            told, status = ended("test_player", [], {}, asked)
             if status:
                 raise Fault(f"the play ends with status {status}")
         if not told.endswith("\n.\n"):
@@ -124,7 +124,7 @@ class Fuzz:
     def played_refusing(self, asked, odds, settings):
         """Returns the output of a play that is refused allocations from its first event on."""
         # It is also refused some from the start of the program on. Then it may not begin.
-        told, status = ended("test_refusals", [], settings, asked)
+        told, status = ended("test_player", [], settings, asked)
         if status == 0 and told != "not begun\n" and not told.endswith("\n.\n"):
             raise Fault(f"the play refused from its start on ends with {told[-200:]!r}")
         after = self.begins(asked)
@@ -146,7 +146,7 @@ class Fuzz:
         """
         self.allocations.count.unlink(missing_ok=True)
         settings = {"LD_PRELOAD": str(self.allocations.library), "COUNT": str(self.allocations.count), **dict(settings)}
-        told, status = ended("test_refusals", [], {**settings, **more}, asked)
+        told, status = ended("test_player", [], {**settings, **more}, asked)
         # The library can't write its counts if its own allocation for the file is refused.
         known = self.allocations.count.exists()
         return told, status, int(self.allocations.count.read_text().split()[0]) if known else 0
@@ -194,7 +194,7 @@ class Fuzz:
         answers = bytes.fromhex("".join(shells.ANSWERS[1:]))
         asked = [f"hears {chance.randrange(1, 41)}\nforeign 0 {plays.torn(chance, answers).hex() or '00'}"
                  for _ in range(4)]
-        told, status = ended("test_refusals", [], settings, "\n.\n".join(asked))
+        told, status = ended("test_player", [], settings, "\n.\n".join(asked))
         lines, right = told.rstrip("\n").split("\n"), ["hears: held", *["hears: not begun"] * bool(settings)]
         if status == 0 and (len(lines) != len(asked) or any(it not in right for it in lines)):
             raise Fault(f"{asked}: {told!r}")
@@ -232,7 +232,7 @@ def hoarded(requests):
     with tempfile.TemporaryFile("w+") as asked, tempfile.TemporaryFile("w+") as told:
         asked.write(script)
         asked.seek(0)
-        process = subprocess.Popen([str(programs.built("test_refusals"))], stdin=asked, stdout=told)
+        process = subprocess.Popen([str(programs.built("test_player"))], stdin=asked, stdout=told)
         _, status, usage = os.wait4(process.pid, 0)
         process.returncode = os.waitstatus_to_exitcode(status)
         told.seek(0)

@@ -7,7 +7,7 @@ from tests.lib import programs
 
 
 def setUpModule():
-    for name in ("test_refusals", "bolt"):
+    for name in ("test_player", "bolt"):
         programs.built(name)
     programs.needs("cc")
 

@@ -1,4 +1,4 @@
-"""Refused allocations of `test_refusals`: a call that is made again has the same result as with ample memory."""
+"""Refused allocations of `test_player`: a call that is made again has the same result as with ample memory."""
 import unittest
 
 from tests.lib import refusals
@@ -28,7 +28,7 @@ class NoMemory(refusals.PlayTest):
     def test_calls_that_take_no_memory_ask_for_none(self):
         for name in ("sessions", "clients", "chunks", "tokens", "values", "puts", "worlds"):
             with self.subTest(name):
-                done, (_, starved, hungry) = self.allocations.run("test_refusals", asked=f"{name} without\n")
+                done, (_, starved, hungry) = self.allocations.run("test_player", asked=f"{name} without\n")
                 self.assertEqual((0, f"{name} without: held\n"), (done.returncode, done.stdout), done.stderr)
                 self.assertGreater(starved, 0, "spans in which every allocation was refused")
                 self.assertEqual(0, hungry, "allocations that were asked for in these spans")

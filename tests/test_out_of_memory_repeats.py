@@ -1,4 +1,4 @@
-"""Refused allocations of `test_refusals` in transactions that are sent again under their token."""
+"""Refused allocations of `test_player` in transactions that are sent again under their token."""
 import unittest
 
 from tests.lib import refusals

@@ -1,6 +1,6 @@
 """Reports on worlds, compared with what clients may rely on.
 
-The program `test_refusals` plays scripts with each loss after each line, transactions sent again under a token,
+The program `test_player` plays scripts with each loss after each line, transactions sent again under a token,
 and random events.
 The check of `tests.lib.model` also has to find a wrong report of each kind.
 """
@@ -14,7 +14,7 @@ SEEDS, EVENTS, BETWEEN = 30, 300, 32
 
 def setUpModule():
     global PROGRAM, MACHINE
-    PROGRAM = programs.built("test_refusals")
+    PROGRAM = programs.built("test_player")
     MACHINE = model.Machine(PROGRAM)
 
 

@@ -1,6 +1,6 @@
 """A check of what is seen of a world's events, and reported of it, against what clients may rely on.
 
-The program `test_refusals` plays scripts on a world, and prints both.
+The program `test_player` plays scripts on a world, and prints both.
 The check doesn't decode bytes: which messages were delivered whole, it takes from what is seen of each event.
 It counts the queries that a summary commits by the phases that the summaries lead to.
 """
@@ -201,7 +201,7 @@ def members(pattern, text):
 
 
 class Report:
-    """The report on a world, of the lines that `test_refusals` prints."""
+    """The report on a world, of the lines that `test_player` prints."""
 
     def __init__(self, lines):
         self.is_torn, self.connections, self.entries = lines[0] != "report false", [], []
@@ -250,7 +250,7 @@ class Doubt:
 
 
 class Machine:
-    """The rows of the state machine, as `test_refusals` prints them."""
+    """The rows of the state machine, as `test_player` prints them."""
 
     def __init__(self, program):
         lines = [line.split() for line in told_by(program, "rows\n").split("\n")]

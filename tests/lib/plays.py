@@ -1,4 +1,4 @@
-"""Scripts that the program `test_refusals` plays, and random events and bytes."""
+"""Scripts that the program `test_player` plays, and random events and bytes."""
 import random
 
 from tests.data import scripts as rows

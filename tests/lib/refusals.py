@@ -1,4 +1,4 @@
-"""Plays of `test_refusals` with each of their allocations refused in turn."""
+"""Plays of `test_player` with each of their allocations refused in turn."""
 import unittest
 
 from tests.lib import plays, preloads, programs
@@ -14,7 +14,7 @@ class PlayTest(unittest.TestCase):
 
     @classmethod
     def setUpClass(cls):
-        programs.built("test_refusals")
+        programs.built("test_player")
         cls.allocations = preloads.Allocations()
         cls.addClassCleanup(cls.allocations.close)
 
@@ -24,7 +24,7 @@ class PlayTest(unittest.TestCase):
         The last line of that is `last`. A play may also not begin, because an allocation at its start was refused.
         It says so then, and prints nothing else.
         """
-        whole, counts = self.allocations.run("test_refusals", asked=asked)
+        whole, counts = self.allocations.run("test_player", asked=asked)
         self.assertEqual((0, last), (whole.returncode, whole.stdout.rstrip("\n").rpartition("\n")[2]), whole.stderr)
         step = programs.count(1, max(1, counts[0] // 30))
         tried = range(1, counts[0] + 1, step)
@@ -39,7 +39,7 @@ class PlayTest(unittest.TestCase):
 
     def is_unplayed(self, asked, number, prefix, whole):
         """Refuses the allocation of this number. Returns whether the play didn't begin, and fails if it went wrong."""
-        done, _ = self.allocations.run("test_refusals", asked=asked, REFUSED=number)
+        done, _ = self.allocations.run("test_player", asked=asked, REFUSED=number)
         if done.returncode in (1, 3):
             # The program didn't come to read its input, and says why.
             self.assertEqual("", done.stdout)

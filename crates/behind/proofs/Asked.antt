@@ -9,7 +9,7 @@ use Rattle.wire.specs.Prelude.{wish_version, reach, state, takes as reads, at_cl
 use Rattle.wire.proofs.Readers.{reads_pieces}
 use Rattle.messages.specs.Prelude.{RequestView, hears, IsWritten}
 use Rattle.engine.specs.Prelude.{EntryView, Welcome}
-use Rattle.session.specs.Prelude.{Setting}
+use Rattle.server_session.specs.Prelude.{Setting}
 use Rattle.server.specs.Prelude.{Rest}
 use Rattle.client.specs.declared.SubmitFault.{SubmitFault}
 use Rattle.client.specs.Prelude.{Call as ClientCall, Submits, Feeds, TakesOut, Loses, Run, call as called, submits, used_of, refuses, Knows, Reading, knows_of, reading_of, refusal_of, IsWrittenBy}

@@ -7,7 +7,7 @@ use Rattle.std.proofs.Math.Seq.{take-add}
 use Rattle.wire.specs.declared.Wish.{Wish}
 use Rattle.messages.specs.Prelude.{Arrival, Shook}
 use Rattle.engine.specs.Prelude.{EntryView, Welcome}
-use Rattle.session.specs.Prelude.{Setting, Done, WroteRow, Wrote, work_kept}
+use Rattle.server_session.specs.Prelude.{Setting, Done, WroteRow, Wrote, work_kept}
 use Rattle.server.specs.declared.Took.{Took}
 use Rattle.server.specs.Prelude.{Rest, Live, is_full, find, setting, feed_at, work_at, take_out_at, Event as Call, opens, feeds, works, takes, noops, loses, after_call, after_event, used_of, took_by, fed_live, taken_from, noop_put, with_session, after_step}
 use Rattle.lines.specs.Prelude.{out_of, gave_by}

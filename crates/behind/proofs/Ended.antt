@@ -7,7 +7,7 @@ use Rattle.messages.specs.Prelude.{Heard, heard_bytes, Arrival, Shook, RequestVi
 use Rattle.machine.specs.Prelude.{is_defunct}
 use Rattle.machine.specs.declared.State.{State}
 use Rattle.engine.specs.Prelude.{EntryView}
-use Rattle.session.specs.Prelude.{Setting, Open, Tx, Reply, OneRow, Summary, Bye}
+use Rattle.server_session.specs.Prelude.{Setting, Open, Tx, Reply, OneRow, Summary, Bye}
 use Rattle.client.specs.Prelude.{reading}
 use Rattle.world.specs.Prelude.{Said, heard_as, Ours, Connection, output, said_version, heard_by_bytes, wish_of, World, Event, Effect, Reached, place, ledger, last_phase, said_within, delivered_whole, effect_of_step, feed, said_to, work}
 use Rattle.world.proofs.Deeds as deed

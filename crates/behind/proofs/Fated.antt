@@ -3,11 +3,11 @@ use Rattle.std.proofs.Common.{◌≡◌, refl, ◌∙◌, ap, subst, ℕ, suc, f
 use Rattle.wire.specs.declared.Wish.{Wish}
 use Rattle.engine.specs.Prelude.{EntryView, Welcome}
 use Rattle.server.specs.Prelude.{empty, after_events}
-use Rattle.driver.specs.declared.Retry.{Retry}
-use Rattle.driver.specs.declared.Fate.{Fate}
-use Rattle.driver.specs.Fates.{fate_of}
-use Rattle.driver.specs.Attempts.{Attempt, tells_in}
-use Rattle.connects.specs.Prelude.{AskedView, Calls, made_at, tells_at, made_from, Ending, IsKnown}
+use Rattle.client_tracking.specs.declared.Retry.{Retry}
+use Rattle.client_tracking.specs.declared.Fate.{Fate}
+use Rattle.client_tracking.specs.Fates.{fate_of}
+use Rattle.client_tracking.specs.Attempts.{Attempt, tells_in}
+use Rattle.driver.specs.Prelude.{AskedView, Calls, made_at, tells_at, made_from, Ending, IsKnown}
 use Rattle.world.specs.Prelude.{Definition, setting_of, IsLedger, Each}
 use Rattle.known.specs.Sending.{IsMet}
 use Rattle.known.specs.Tied.{IsAt}

@@ -7,7 +7,7 @@ use Rattle.server.specs.Prelude.{Rest, Live, empty, find, fed_live, taken_from, 
 use Rattle.lines.specs.Prelude.{out_of, gave_by, bytes_given}
 use Rattle.lines.proofs.Moved.{after_both, taken_both, given_both}
 use Rattle.client.specs.Prelude.{Call as ClientCall, Run, starts, call as called, calls}
-use Rattle.session.specs.Prelude.{Setting}
+use Rattle.server_session.specs.Prelude.{Setting}
 use Rattle.world.specs.Prelude.{Peer, Ours, Foreign, Connection, Said, SaysRow, SaysSummary, output, bytes_delivered, World, Reached, server_rest, Definition, setting_of}
 use Rattle.behind.specs.Prelude.{Moment, serves, asks, server_calls, client_calls, run_of, step_said, call_said, all_said}
 use Rattle.behind.proofs.Places.{IsGone, found_none}

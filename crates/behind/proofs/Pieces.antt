@@ -3,8 +3,8 @@ use Rattle.std.proofs.Common.{◌≡◌, refl, sym, ◌∙◌, ap, ℕ, ◌≤�
 use Rattle.std.proofs.lemmas.List.{take_at, drop_at}
 use Rattle.std.proofs.lemmas.Option.{some_pair_parts}
 use Rattle.wire.specs.Prelude.{Reader, Took as TookOf, ends_at, takes, Opened, at_server}
-use Rattle.session.specs.declared.What.{What}
-use Rattle.session.specs.Prelude.{Kept, shut, full}
+use Rattle.server_session.specs.declared.What.{What}
+use Rattle.server_session.specs.Prelude.{Kept, shut, full}
 use Rattle.server.specs.declared.Took.{Took}
 use Rattle.server.specs.Prelude.{Feeding, feeding, takes_none, takes_item, Live, Rest, find, fed_live, with_session, feed_at}
 use Rattle.behind.specs.Prelude.{IsFront}

@@ -4,7 +4,7 @@ use Rattle.std.proofs.lemmas.Bool.{cases_Bool, cases_eq}
 use Rattle.std.proofs.lemmas.Option.{slice_get_within, same_Some}
 use Rattle.wire.specs.declared.Wish.{Wish}
 use Rattle.engine.specs.Prelude.{EntryView, Welcome}
-use Rattle.session.specs.Prelude.{Setting}
+use Rattle.server_session.specs.Prelude.{Setting}
 use Rattle.server.specs.Prelude.{Rest, empty, work_at, after_events, Event as Call}
 use Rattle.world.specs.Prelude.{Connection, bytes_delivered, World, ClientLost, SawNothing, quiet, ledger, empty as empty_world, at_conn, at_peer, with_effect, after_effect, IsLedger, Reached, begins, goes_on, server_rest, Definition, setting_of}
 use Rattle.world.proofs.Deeds.{get_set}

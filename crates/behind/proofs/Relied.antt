@@ -8,7 +8,7 @@ use Rattle.machine.specs.Prelude.{phase_of}
 use Rattle.client.specs.Prelude.{Got, GotRow, Reading, reading_of}
 use Rattle.client.proofs.Runs.{tells_by_bytes}
 use Rattle.engine.specs.Prelude.{EntryView, Token, TokensOnce, Welcome}
-use Rattle.session.specs.Prelude.{Setting, Change, Tx}
+use Rattle.server_session.specs.Prelude.{Setting, Change, Tx}
 use Rattle.server.specs.Prelude.{Rest, empty, after_events}
 use Rattle.world.specs.Good.{Often}
 use Rattle.world.specs.Prelude.{server_rest, Connection, Said, SaysRow, SaysSummary, heard_as, said_version, bytes_delivered, heard_by_bytes, wish_of, World, ledger, taken_out, Reached, begins, goes_on, takes_out, IsLedger, Each, ExactlyOnce, Never, AtMostOnce, often, Stands as StandsInWorld, StandsOnce as OnceInWorld, is_success, tx_after, transaction, alone_after, alone, commit_of, before, change, change_for, said_within, delivered_whole, server_outcome, tellings_of, Definition, setting_of}

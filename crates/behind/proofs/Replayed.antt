@@ -2,10 +2,10 @@
 use Rattle.std.proofs.Common.{◌≡◌, refl, sym, ◌∙◌, ap, subst, ℕ, ◌+◌, ◌-◌, ◌≤◌, ◌^◌, min, max, Bool, true, false, not, ◌||◌, if◌then◌else◌, nat_le, is_some, Option, Some, None, Result, Ok, Err, IsErr, List, [], ◌∷◌, ◌++◌, length, map, slice_get, append-nil, inl, inr, ⊎_elim, true≢false, arith}
 use Rattle.std.proofs.lemmas.Bool.{cond-true, cond-false, cases_Bool}
 use Rattle.engine.specs.Prelude.{EntryView, Welcome}
-use Rattle.session.specs.declared.Cause.{Cause}
-use Rattle.session.specs.declared.What.{What}
-use Rattle.session.specs.declared.Worked.{Worked}
-use Rattle.session.specs.Prelude.{Setting, work_kept}
+use Rattle.server_session.specs.declared.Cause.{Cause}
+use Rattle.server_session.specs.declared.What.{What}
+use Rattle.server_session.specs.declared.Worked.{Worked}
+use Rattle.server_session.specs.Prelude.{Setting, work_kept}
 use Rattle.server.specs.Prelude.{Rest, empty, is_full, fed_live, taken_from, noop_put, with_session, after_step, setting, work_at, Event as Call, opens, feeds, works, takes, noops, loses, after_call, after_event, after_events}
 use Rattle.world.specs.Prelude.{Connection, Foreign, fresh, output, kept_of, SaysNoop, World, Event, Feeds, Work, ToClient, PutsNoop, ServerLost, Seen, Opened, Fed, Gave, SawWork, SawNoop, SawNothing, Refusal, V1, V3, Effect, quiet, ledger, empty as empty_world, live, step, at_conn, at_peer, with_effect, after_effect, taken_for, feed, work, noop, server_gone, effect_of_step, IsCountedIn, WStep, Reached, begins, goes_on, server_rest, live_of, Definition, setting_of, Follows, Replays}
 use Rattle.client.specs.Prelude.{Nothing}

@@ -2,8 +2,8 @@
 use Rattle.std.specs.Prelude.{◌≡◌, ℕ, Option, Some, None, List, ◌∷◌, ◌++◌, map, slice_get}
 use Rattle.engine.specs.Views.{EntryView}
 use Rattle.engine.specs.Welcomes.{Welcome}
-use Rattle.session.specs.declared.Worked.{Worked}
-use Rattle.session.specs.Rest.{IsCounted}
+use Rattle.server_session.specs.declared.Worked.{Worked}
+use Rattle.server_session.specs.Rest.{IsCounted}
 use Rattle.server.specs.Serving.{Rest, empty, work_at}
 use Rattle.server.specs.Running.{Event as Call, opens, feeds, works, takes, noops, loses, after_events}
 use Rattle.world.specs.Connections.{Connection, Foreign}

@@ -1,15 +1,15 @@
--- The meaning of a call of `until_known` of `connects` for a server's ledger, by the calls at both ends alone.
+-- The meaning of a call of `until_known` of `driver` for a server's ledger, by the calls at both ends alone.
 use Rattle.std.specs.Prelude.{◌≡◌, ℕ, suc, ◌<◌, false, Option, Some, None, List, [], ◌∷◌, map}
 use Rattle.wire.specs.declared.Wish.{Wish}
 use Rattle.engine.specs.Views.{EntryView}
 use Rattle.engine.specs.Welcomes.{Welcome}
 use Rattle.server.specs.Serving.{Rest, empty}
 use Rattle.server.specs.Running.{after_events}
-use Rattle.driver.specs.declared.Retry.{Retry}
-use Rattle.driver.specs.declared.Fate.{Fate}
-use Rattle.driver.specs.Fates.{fate_of}
-use Rattle.connects.specs.Attempting.{AskedView, Calls, made_by, tells_at}
-use Rattle.connects.specs.Retrying.{Ending, AreTries, made_from, IsKnown}
+use Rattle.client_tracking.specs.declared.Retry.{Retry}
+use Rattle.client_tracking.specs.declared.Fate.{Fate}
+use Rattle.client_tracking.specs.Fates.{fate_of}
+use Rattle.driver.specs.Attempting.{AskedView, Calls, made_by, tells_at}
+use Rattle.driver.specs.Retrying.{Ending, AreTries, made_from, IsKnown}
 use Rattle.world.specs.World.{IsLedger}
 use Rattle.world.specs.Turns.{Definition, setting_of}
 use Rattle.known.specs.OneCaller.{Means}

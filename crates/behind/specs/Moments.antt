@@ -10,7 +10,7 @@ use Rattle.lines.specs.Moving.{bytes_given}
 use Rattle.client.specs.Rest.{refuses}
 use Rattle.client.specs.Moments.{Call as ClientCall, Submits, Run, starts, calls}
 use Rattle.client.specs.Fits.{IsWrittenBy}
-use Rattle.driver.specs.Attempts.{Attempt}
+use Rattle.client_tracking.specs.Attempts.{Attempt}
 use Rattle.world.specs.Turns.{Definition}
 use Rattle.behind.specs.Calls.{AreCounted}
 

@@ -4,12 +4,12 @@ use Rattle.wire.specs.declared.Wish.{Wish}
 use Rattle.engine.specs.Views.{EntryView, Token}
 use Rattle.engine.specs.Tokens.{under_token, TokensOnce}
 use Rattle.engine.specs.Welcomes.{Welcome}
-use Rattle.session.specs.Session.{Change}
-use Rattle.session.specs.Rest.{work_kept}
+use Rattle.server_session.specs.Session.{Change}
+use Rattle.server_session.specs.Rest.{work_kept}
 use Rattle.server.specs.Serving.{Live, Rest, empty, find, setting}
 use Rattle.server.specs.Running.{Event as Call, works, after_event, after_events}
 use Rattle.client.specs.declared.Outcome.{Outcome}
-use Rattle.driver.specs.Attempts.{told_of}
+use Rattle.client_tracking.specs.Attempts.{told_of}
 use Rattle.client.specs.Verdicts.{Told}
 use Rattle.world.specs.Connections.{Said}
 use Rattle.world.specs.World.{said_by, IsLedger}

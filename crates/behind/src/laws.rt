@@ -23,7 +23,7 @@ pub fn calls_are_runs<E: Engine, G: Gate>()
     ensures { (gate : G) (ours : ℕ → Option Wish) → AreRuns E.answer G.welcomes gate ours }
 {}
 
-/// States what a fate that `until_known` of `connects` returns means for the ledger of a server, if the calls on its clients are among such
+/// States what a fate that `until_known` of `driver` returns means for the ledger of a server, if the calls on its clients are among such
 /// calls. The contract of `until_known` names the calls on each client, by the bytes that its streams have moved.
 pub fn calls_are_known<E: Engine, G: Gate>()
     ensures { (gate : G) (ours : ℕ → Option Wish) → CallsAreKnown E.answer G.welcomes gate ours }

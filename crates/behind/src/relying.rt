@@ -1,15 +1,15 @@
 //! A call of `until_known` whose contract says what the fate means for a server's ledger.
 ghost use Rattle.std.specs.Prelude.{◌≡◌, true, false, IfOk, OnOk, OnErr};
 ghost use Rattle.messages.specs.Reading.{is_token};
-ghost use Rattle.connects.specs.Attempting.{asked_view};
+ghost use Rattle.driver.specs.Attempting.{asked_view};
 ghost use Rattle.behind.specs.Fates.{IsKnownTo};
 
-use connects::{Asked, BadToken, Connects, until_known};
-use driver::{Fate, Retry};
+use client_tracking::{Fate, Retry};
+use driver::{Asked, BadToken, Connects, until_known};
 use engine::{Engine, Gate};
 use std::alloc::Global;
 
-/// Sends a transaction as `until_known` of `connects` does. The fate is true of the ledger of each server of this product that accepted the
+/// Sends a transaction as `until_known` of `driver` does. The fate is true of the ledger of each server of this product that accepted the
 /// connections.
 ///
 /// - Stands: exactly one entry of the ledger has the token, with the writes of the last attempt.

@@ -3,7 +3,7 @@ use crate::link::{Link, Stopped};
 use crate::tally::Tally;
 use crate::transport::{PIECE, hear};
 use client::ClientFault;
-use driver::TrackingClient;
+use client_tracking::TrackingClient;
 use messages::Request;
 use std::alloc::Global;
 use wire::Wish;

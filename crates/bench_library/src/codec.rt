@@ -1,6 +1,6 @@
 //! The codec behind C calls.
 ghost use Rattle.std.specs.Prelude.{◌≡◌, ◌≤◌, false};
-ghost use Rattle.bench_calls.specs.Unspelled.{SpellNothing};
+ghost use Rattle.bench_library.specs.Unspelled.{SpellNothing};
 
 use bytes::BytesMut;
 use packstream::{decode, encode};

@@ -1,7 +1,7 @@
 //! A server with its sessions' clients, in one process.
 use crate::tally::Tally;
 use client::{Client, ClientFault, SubmitFault};
-use driver::FeedFault;
+use client_tracking::FeedFault;
 use engine::{Engine, FixedTable, OneUser};
 use server::{Refused, Server};
 use std::alloc::{AllocError, AllocFailed, Global};

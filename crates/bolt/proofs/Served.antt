@@ -3,8 +3,8 @@ use Rattle.std.proofs.Common.{◌≡◌, refl, sym, ap, subst, ◌∙◌, ℕ, �
 use Rattle.std.specs.Io.KnownBytes.{Appends}
 use Rattle.std.proofs.KnownBytes.{Appends-trans}
 use Rattle.std.proofs.lemmas.List.{length_push}
-use Rattle.session.specs.declared.kinds.Cause.{Cause}
-use Rattle.prints.specs.Prelude.{conn_line}
+use Rattle.server_session.specs.declared.kinds.Cause.{Cause}
+use Rattle.cli_output.specs.Prelude.{conn_line}
 use Rattle.bolt.specs.Served.{HasServedAll, listening_line, served_lines}
 
 -- one line more

@@ -1,7 +1,7 @@
 -- What is said of a connection.
 use Rattle.std.specs.Prelude.{ℕ, List, [], ◌∷◌, ◌++◌, codes}
 use Rattle.std.specs.Fmt.{decimal}
-use Rattle.prints.specs.Escaping.{escaped}
+use Rattle.cli_output.specs.Escaping.{escaped}
 
 -- a host and a port: the host is a word of the command line, and escaped
 abbrev pub place_name : List ℕ → ℕ → List ℕ

@@ -5,11 +5,11 @@ use Rattle.std.specs.Io.KnownBytes.{Appends}
 use Rattle.engine.specs.Kept.{AcceptsOnly, is_user, ledger_of}
 use Rattle.engine.specs.declared.fixed_table.FixedTable.{FixedTable}
 use Rattle.engine.specs.declared.one_user.OneUser.{OneUser}
-use Rattle.session.specs.declared.kinds.Cause.{Cause}
+use Rattle.server_session.specs.declared.kinds.Cause.{Cause}
 use Rattle.server.specs.declared.server.Server.{Server}
 use Rattle.server.specs.Serving.{Rest, empty}
 use Rattle.server.specs.Views.{Fits}
-use Rattle.prints.specs.Telling.{conn_line}
+use Rattle.cli_output.specs.Telling.{conn_line}
 
 -- the line of a port at which connections are taken
 abbrev pub listening_line : ℕ → List ℕ

@@ -1,6 +1,6 @@
 -- What is said if there are no words to tell a command by.
 use Rattle.std.specs.Prelude.{ℕ, List, [], ◌∷◌, ◌++◌, codes}
-use Rattle.commands.specs.Refusals.{help_text}
+use Rattle.cli_commands.specs.Refusals.{help_text}
 use Rattle.bolt.specs.declared.command_line.Unread.{Unread}
 use Rattle.bolt.specs.declared.command_line.Unread.TheVariants.{Memory, NotText}
 

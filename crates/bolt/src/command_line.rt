@@ -1,10 +1,10 @@
 //! The words of the command line, before any command.
 ghost use Rattle.std.specs.Prelude.{◌≡◌};
-ghost use Rattle.prints.specs.Stopping.{Gets};
+ghost use Rattle.cli_output.specs.Stopping.{Gets};
 ghost use Rattle.bolt.specs.Starting.{unread_status, unread_text};
 
-use commands::help_text;
-use prints::tell;
+use cli_commands::help_text;
+use cli_output::tell;
 use std::env::Env;
 use std::io::ErrorKind;
 use streams::Sink;

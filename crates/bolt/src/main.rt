@@ -1,4 +1,4 @@
-//! The program `bolt`: its commands over sockets stand here, the others in `commands`.
+//! The program `bolt`: its commands over sockets stand here, the others in `cli_commands`.
 #![tactic(auto)]
 
 mod command_line;
@@ -6,9 +6,9 @@ mod reasons;
 mod script_file;
 mod sockets;
 
+use cli_commands::{CommandLine, asked, command};
+use cli_output::fill_closed;
 use command_line::{refuse, words_of};
-use commands::{CommandLine, asked, command};
-use prints::fill_closed;
 use script_file::replay_file;
 use sockets::{loop_through, serve_on, shell_at};
 use std::process::ExitCode;

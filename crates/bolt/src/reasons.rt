@@ -4,7 +4,7 @@ ghost use Rattle.std.specs.IoError.{error_kind};
 ghost use Rattle.bolt.specs.Reasons.{connected_line, place_name};
 
 use crate::sockets::SILENCE;
-use prints::{escape, put_fault, tell};
+use cli_output::{escape, put_fault, tell};
 use std::alloc::{AllocError, Global};
 use std::io;
 use std::io::ErrorKind;

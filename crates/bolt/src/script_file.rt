@@ -1,7 +1,7 @@
 //! The file of a replay.
 
 use crate::reasons::put_unread;
-use commands::command;
+use cli_commands::command;
 use std::fs::File;
 use streams::Over;
 

@@ -1,15 +1,15 @@
 //! What the program does over sockets.
 ghost use Rattle.std.specs.Prelude.{◌≡◌, true, None, string_bytes, IfOk, IfErr, OnOk, IsErrOf};
 ghost use Rattle.std.specs.Io.KnownBytes.{Appends};
-ghost use Rattle.scripts.specs.Rows.{request_line_of};
-ghost use Rattle.scripts.specs.Script.{filled_lines, unreadable};
+ghost use Rattle.cli_scripts.specs.Rows.{request_line_of};
+ghost use Rattle.cli_scripts.specs.Script.{filled_lines, unreadable};
 ghost use Rattle.bolt.specs.Served.{IsAtFirst, HasServedAll, listening_line};
 
 use crate::reasons::{put_connected, put_failed, put_lost, put_unreached, put_unread};
+use cli_output::put_fault;
 use engine::{FixedTable, OneUser};
 use loops::{BothWays, OneWay, run_loop};
 use one_by_one::{ServerStreams, drain, serve_next};
-use prints::put_fault;
 use server::Server;
 use shells::{ShellStreams, shell};
 use std::alloc::{AllocError, Global};

@@ -2,8 +2,8 @@
 use Rattle.std.proofs.Common.{◌≡◌, ◌≤◌, ◌+◌, ap, ap₂, ◌∙◌, subst, sym, refl, ℕ, Ok, List, [], ◌∷◌, ◌++◌, length, drop}
 use Rattle.std.proofs.lemmas.List.{drop-drop}
 use Rattle.client.specs.Prelude.{Rest}
-use Rattle.driver.specs.Account.{Account}
-use Rattle.driver.specs.Feeding.{tracked_feed}
+use Rattle.client_tracking.specs.Account.{Account}
+use Rattle.client_tracking.specs.Feeding.{tracked_feed}
 use Rattle.bolt_c.specs.Feeding.{Stand, fed, FedBy}
 
 pub stand_is : (a b : Stand) → a.rest ≡ b.rest → a.account ≡ b.account → a ≡ b

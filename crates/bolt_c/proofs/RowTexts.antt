@@ -3,8 +3,8 @@ use Rattle.std.proofs.Common.{◌≡◌, ◌≤◌, ◌∙◌, ap, refl, sym, ar
 use Rattle.std.specs.List.{AllZip}
 use Rattle.packstream.specs.Prelude.{Tree, list, trees_of, canon, IsGood, depth}
 use Rattle.wire.specs.declared.Version.{Version}
-use Rattle.cells.specs.declared.cell.Cell.{Cell}
-use Rattle.cells.specs.Prelude.{shape, shapes, IsWritable}
+use Rattle.structures_cells.specs.declared.cell.Cell.{Cell}
+use Rattle.structures_cells.specs.Prelude.{shape, shapes, IsWritable}
 use Rattle.structures.specs.Prelude.{form}
 use Rattle.messages.specs.Prelude.{ResponseView, RECORD, contents, form_put, response_contents, response_spelling, Adds}
 use Rattle.messages.proofs.Added.{field_of_cells, formed_cells, appended}

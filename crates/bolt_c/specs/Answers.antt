@@ -11,8 +11,8 @@ use Rattle.client.specs.declared.faults.SubmitFault.{SubmitFault}
 use Rattle.client.specs.declared.faults.SubmitFault.TheVariants as submit_fault
 use Rattle.client.specs.Rest.{Rest, Knows, refuses, after_submit}
 use Rattle.client.specs.Fits.{IsAccepted}
-use Rattle.driver.specs.Account.{Account}
-use Rattle.driver.specs.Holding.{rest_in, account_of}
+use Rattle.client_tracking.specs.Account.{Account}
+use Rattle.client_tracking.specs.Holding.{rest_in, account_of}
 use Rattle.bolt_c.specs.declared.answers.Refusal.{Refusal}
 use Rattle.bolt_c.specs.declared.answers.Refusal.TheVariants as refusal
 use Rattle.bolt_c.specs.declared.answers.MessageFault.{MessageFault}

@@ -11,10 +11,10 @@ use Rattle.client.specs.declared.heard.Outcome.{Outcome}
 use Rattle.client.specs.declared.heard.Outcome.TheVariants as outcome
 use Rattle.client.specs.Held.{is_too_large}
 use Rattle.client.specs.Rest.{Rest, begun, taken_out, losses, after_drop, awaits}
-use Rattle.driver.specs.declared.faults.FeedFault.{FeedFault}
-use Rattle.driver.specs.declared.faults.FeedFault.TheVariants as feed_fault
-use Rattle.driver.specs.Account.{untold, with_losses, outcome_of, response_of, rows_of, left_of, rows_taken, settled}
-use Rattle.driver.specs.Feeding.{is_idle}
+use Rattle.client_tracking.specs.declared.faults.FeedFault.{FeedFault}
+use Rattle.client_tracking.specs.declared.faults.FeedFault.TheVariants as feed_fault
+use Rattle.client_tracking.specs.Account.{untold, with_losses, outcome_of, response_of, rows_of, left_of, rows_taken, settled}
+use Rattle.client_tracking.specs.Feeding.{is_idle}
 use Rattle.bolt_c.specs.declared.answers.Refusal.{Refusal}
 use Rattle.bolt_c.specs.declared.answers.Refusal.TheVariants as refusal
 use Rattle.bolt_c.specs.declared.answers.MessageFault.{MessageFault}

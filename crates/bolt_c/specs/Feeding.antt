@@ -2,11 +2,11 @@
 use Rattle.std.specs.Prelude.{◌≡◌, ◌⊎◌, ◌≤◌, ◌<◌, ℕ, false, Option, Some, None, Ok, Err, List, [], ◌∷◌, length, drop}
 use Rattle.client.specs.Held.{WantsRoom}
 use Rattle.client.specs.Rest.{Rest}
-use Rattle.driver.specs.declared.faults.FeedFault.{FeedFault}
-use Rattle.driver.specs.declared.faults.FeedFault.TheVariants as feed_fault
-use Rattle.driver.specs.Account.{Account}
-use Rattle.driver.specs.Feeding.{is_full, tracked_feed}
-use Rattle.driver.specs.Holding.{rest_in, account_of}
+use Rattle.client_tracking.specs.declared.faults.FeedFault.{FeedFault}
+use Rattle.client_tracking.specs.declared.faults.FeedFault.TheVariants as feed_fault
+use Rattle.client_tracking.specs.Account.{Account}
+use Rattle.client_tracking.specs.Feeding.{is_full, tracked_feed}
+use Rattle.client_tracking.specs.Holding.{rest_in, account_of}
 use Rattle.bolt_c.specs.declared.held.Held.{Held}
 
 -- where a client stands, and the account of its requests

@@ -2,8 +2,8 @@
 use Rattle.std.specs.Prelude.{ℕ}
 use Rattle.packstream.specs.declared.fault.Reason.{Reason as PackReason}
 use Rattle.packstream.specs.declared.fault.Reason.TheVariants as pack
-use Rattle.cells.specs.declared.fault.Reason.{Reason as CellReason}
-use Rattle.cells.specs.declared.fault.Reason.TheVariants as cell
+use Rattle.structures_cells.specs.declared.fault.Reason.{Reason as CellReason}
+use Rattle.structures_cells.specs.declared.fault.Reason.TheVariants as cell
 use Rattle.messages.specs.declared.fault.MsgFault.{MsgFault}
 use Rattle.messages.specs.declared.fault.MsgFault.TheVariants as fault
 use Rattle.client.specs.declared.faults.Unwritable.{Unwritable}

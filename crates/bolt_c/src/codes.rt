@@ -6,7 +6,7 @@ ghost use Rattle.bolt_c.specs.Codes.{wish_of, version_code, phase_code, outcome_
 use crate::answers::{MessageFault, Refusal};
 use crate::rules::{message_rule, request_rule};
 use client::Outcome;
-use driver::FeedFault;
+use client_tracking::FeedFault;
 use machine::Phase;
 use wire::{Version, Wish};
 

@@ -2,7 +2,7 @@
 
 ghost use Rattle.std.specs.Prelude.{◌≡◌, ◌<◌, true, false, None, Some, Ok, Err, is_some, length, min, IfOk, IfErr, OnErr, IsErrOf};
 ghost use Rattle.client.specs.Rest.{begun};
-ghost use Rattle.driver.specs.Account.{untold, response_of, rows_of};
+ghost use Rattle.client_tracking.specs.Account.{untold, response_of, rows_of};
 ghost use Rattle.bolt_c.specs.Codes.{StandsAt};
 ghost use Rattle.bolt_c.specs.Answers.{Writes, asked, Asks, refuses_bytes, Accepts, held_rest, held_account, message_of, row_at, Tells};
 ghost use Rattle.bolt_c.specs.Feeding.{stand_of, FeedsAll};
@@ -12,7 +12,7 @@ use crate::codes::{Standing, phase_code, version_code};
 use crate::rows::{spelled, spelled_row};
 use bytes::BytesMut;
 use client::ClientFault;
-use driver::{FeedFault, TrackingClient};
+use client_tracking::{FeedFault, TrackingClient};
 use messages::{MsgFault, Request, read_request};
 use std::alloc::Global;
 use wire::{Version, Wish};

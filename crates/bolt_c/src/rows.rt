@@ -5,8 +5,8 @@ ghost use Rattle.packstream.specs.Canon.{canon};
 ghost use Rattle.packstream.specs.Good.{IsGood, depth};
 ghost use Rattle.packstream.specs.Tree.{list};
 ghost use Rattle.packstream.specs.View.{trees_of};
-ghost use Rattle.cells.specs.Shape.{shapes};
-ghost use Rattle.cells.specs.Writing.{IsWritable};
+ghost use Rattle.structures_cells.specs.Shape.{shapes};
+ghost use Rattle.structures_cells.specs.Writing.{IsWritable};
 ghost use Rattle.structures.specs.Form.{form};
 ghost use Rattle.messages.specs.View.{Record, response_view};
 ghost use Rattle.messages.specs.Writing.{response_spelling};
@@ -16,9 +16,9 @@ use crate::answers::MessageFault;
 use bytes::BytesMut;
 use messages::{MsgFault, Response, write_response};
 use packstream::MAX_SIZE;
-use speller::{Output, Unspelled, put_list};
 use std::alloc::{AllocError, Global};
 use structures::Cell;
+use structures_encoder::{Output, Unspelled, put_list};
 use wire::Version;
 
 /// How deep a row may nest in its message.

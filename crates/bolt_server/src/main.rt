@@ -5,7 +5,7 @@ mod password;
 mod running;
 mod words;
 
-use prints::fill_closed;
+use cli_output::fill_closed;
 use running::run;
 use std::process::ExitCode;
 

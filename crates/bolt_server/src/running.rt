@@ -2,9 +2,9 @@
 
 use crate::password::password_of;
 use crate::words::{Asked, read};
+use cli_output::{escape, put_fault};
+use cli_serve::{Limits, Place, put_reason, serve_at};
 use engine::{FixedTable, Named, OneUser};
-use listening::{Limits, Place, put_reason, serve_at};
-use prints::{escape, put_fault};
 use server::Server;
 use std::alloc::Global;
 use std::io;

@@ -6,20 +6,20 @@ use Rattle.packstream.specs.declared.fault.PackFault.TheVariants as pack
 use Rattle.packstream.specs.Prelude.{Tree, IsGood, Spells, first_fault, faults_in, Bad, UnlessMemory, SpellsOnly, IsBadOnly, HasOneAnswer}
 use Rattle.packstream.proofs.Checking.{bad_when}
 use Rattle.wire.specs.declared.Version.{Version}
-use Rattle.cells.specs.Prelude.{fault, structures, IsBad}
-use Rattle.cells.proofs.Fine.{fine_scan}
+use Rattle.structures_cells.specs.Prelude.{fault, structures, IsBad}
+use Rattle.structures_cells.proofs.Fine.{fine_scan}
 use Rattle.structures.specs.declared.fault.CellFault.{CellFault}
 use Rattle.structures.specs.declared.fault.CellFault.TheVariants as cell_fault
 use Rattle.structures.specs.Prelude.{Reads, HasOneReading, Form, form}
 use Rattle.structures.proofs.Formed.{again}
 use Rattle.structures.proofs.Clauses.{never_unwritable}
-use Rattle.commands.specs.declared.checks.Checked.{Checked}
-use Rattle.commands.specs.declared.checks.Checked.TheVariants.{Fine, Refused, Unfit}
-use Rattle.commands.specs.Checks.{Checks, ChecksFault, IsSpelled, IsUnfit, IsWrittenBack, IsCell, IsTooLong}
+use Rattle.cli_commands.specs.declared.checks.Checked.{Checked}
+use Rattle.cli_commands.specs.declared.checks.Checked.TheVariants.{Fine, Refused, Unfit}
+use Rattle.cli_commands.specs.Checks.{Checks, ChecksFault, IsSpelled, IsUnfit, IsWrittenBack, IsCell, IsTooLong}
 use Rattle.packstream.proofs.Deciding.{one_answer_is}
-use Rattle.cells.specs.declared.fault.Reason.{Reason as CellReason}
+use Rattle.structures_cells.specs.declared.fault.Reason.{Reason as CellReason}
 use Rattle.structures.proofs.Clauses.{one_reading_is}
-use Rattle.commands.specs.Laws.{IsSameCheck, HasOneCheck}
+use Rattle.cli_commands.specs.Laws.{IsSameCheck, HasOneCheck}
 
 -- what the decoder refused
 pub refused_checks : (b : List ℕ) (f : PackFault) (r : Result Tree PackFault) → r ≡ Err f → ((q : Reason) (o : ℕ) → UnlessMemory r ((r ≡ Err (pack.Refused q o)) ↔ Bad b o q)) → ChecksFault b f

@@ -2,10 +2,10 @@
 use Rattle.std.proofs.Common.{◌≡◌, refl, ⊎_elim, ℕ, Bool, true, false, cond, List, [], ◌∷◌, IsErr, IfOk, Option, Some, None, Result, Ok, Err, codes, bytes_eq}
 use Rattle.std.specs.List.{list_any}
 use Rattle.std.proofs.lemmas.Bool.{or_cases, eqb-true, false≢true}
-use Rattle.scripts.specs.Prelude.{number_of}
-use Rattle.commands.specs.declared.arguments.Wanted.{Wanted}
-use Rattle.commands.specs.declared.arguments.Wanted.TheVariants as want
-use Rattle.commands.specs.Asked.{Text, Ask, ToAnswer, ToReplay, ToLoop, WrongWord, is_flag, has_flag, plain_at, port_at, count_at, version_at, said_at, word_at, plain_word, port_word, count_word, version_word, ends_at, ◌>>=◌, asked_check, asked_serve, asked_shell, asked_by, asked_words}
+use Rattle.cli_scripts.specs.Prelude.{number_of}
+use Rattle.cli_commands.specs.declared.arguments.Wanted.{Wanted}
+use Rattle.cli_commands.specs.declared.arguments.Wanted.TheVariants as want
+use Rattle.cli_commands.specs.Asked.{Text, Ask, ToAnswer, ToReplay, ToLoop, WrongWord, is_flag, has_flag, plain_at, port_at, count_at, version_at, said_at, word_at, plain_word, port_word, count_word, version_word, ends_at, ◌>>=◌, asked_check, asked_serve, asked_shell, asked_by, asked_words}
 
 -- one of the words is a flag
 abbrev HasFlag : List Text → Type 0

@@ -1,7 +1,7 @@
 -- The lines of the test vectors, one after the other.
 use Rattle.std.proofs.Common.{◌≡◌, refl, sym, ap, ◌∙◌, ℕ, ◌+◌, Bool, true, false, ◌&&◌, List, [], ◌∷◌, ◌++◌, length, append_assoc, append-nil, arith}
 use Rattle.std.specs.List.{list_all}
-use Rattle.commands.specs.Saying.{vector_line, vector_lines}
+use Rattle.cli_commands.specs.Saying.{vector_line, vector_lines}
 
 pub lines_last : (n : ℕ) (ps : List Bool) (p : Bool) → vector_lines n (ps ++ p ∷ []) ≡ vector_lines n ps ++ vector_line (n + length ps) p
 lines_last n [] p = append-nil (vector_line n p) ∙ ap (λ (m : ℕ). vector_line m p) (omega arith)

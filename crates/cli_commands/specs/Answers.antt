@@ -1,10 +1,10 @@
 -- What the program's server puts out for the bytes that its first client sends, and how the session stands then: the whole of them,
 -- however they came.
 use Rattle.std.specs.Prelude.{◌≡◌, ℕ, List, []}
-use Rattle.serves.specs.declared.response.End.{End}
-use Rattle.serves.specs.Conversing.{Talk, conversation}
-use Rattle.serves.specs.Responding.{end_of}
-use Rattle.replays.specs.Running.{serving}
+use Rattle.server_blocking.specs.declared.response.End.{End}
+use Rattle.server_blocking.specs.Conversing.{Talk, conversation}
+use Rattle.server_blocking.specs.Responding.{end_of}
+use Rattle.cli_replay.specs.Running.{serving}
 
 -- the conversation of the first connection over an empty ledger
 abbrev pub talk_of : List ℕ → Talk

@@ -3,14 +3,14 @@ use Rattle.std.specs.Prelude.{◌≡◌, ◌==◌, ◌||◌, nat_lt, ℕ, Bool, 
 use Rattle.std.specs.List.{list_any}
 use Rattle.std.specs.Option.{option_and_then}
 use Rattle.std.specs.Str.{bytes_eq}
-use Rattle.scripts.specs.Words.{number_of}
+use Rattle.cli_scripts.specs.Words.{number_of}
 use Rattle.wire.specs.declared.Version.{Version}
 use Rattle.wire.specs.declared.Version.TheVariants.{V44, V50, V51}
-use Rattle.commands.specs.declared.arguments.Wanted.{Wanted}
-use Rattle.commands.specs.declared.arguments.Wanted.TheVariants as want
-use Rattle.commands.specs.declared.arguments.Wrong.{Wrong}
-use Rattle.commands.specs.declared.words.CommandLine.{CommandLine}
-use Rattle.commands.specs.declared.words.CommandLine.TheVariants as line
+use Rattle.cli_commands.specs.declared.arguments.Wanted.{Wanted}
+use Rattle.cli_commands.specs.declared.arguments.Wanted.TheVariants as want
+use Rattle.cli_commands.specs.declared.arguments.Wrong.{Wrong}
+use Rattle.cli_commands.specs.declared.words.CommandLine.{CommandLine}
+use Rattle.cli_commands.specs.declared.words.CommandLine.TheVariants as line
 
 -- the bytes of a text
 abbrev pub Text : Type 0

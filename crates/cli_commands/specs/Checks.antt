@@ -11,14 +11,14 @@ use Rattle.packstream.specs.Spelling.{Spells}
 use Rattle.packstream.specs.Canon.{canon}
 use Rattle.packstream.specs.Faults.{Bad}
 use Rattle.wire.specs.declared.Version.{Version}
-use Rattle.cells.specs.declared.fault.Reason.{Reason as CellReason}
-use Rattle.cells.specs.Faults.{IsBad}
+use Rattle.structures_cells.specs.declared.fault.Reason.{Reason as CellReason}
+use Rattle.structures_cells.specs.Faults.{IsBad}
 use Rattle.structures.specs.declared.fault.CellFault.{CellFault}
 use Rattle.structures.specs.declared.fault.CellFault.TheVariants as cell_fault
 use Rattle.structures.specs.Form.{Form}
 use Rattle.structures.specs.Answers.{Writes}
-use Rattle.commands.specs.declared.checks.Checked.{Checked}
-use Rattle.commands.specs.declared.checks.Checked.TheVariants.{Fine, Refused, Unfit}
+use Rattle.cli_commands.specs.declared.checks.Checked.{Checked}
+use Rattle.cli_commands.specs.declared.checks.Checked.TheVariants.{Fine, Refused, Unfit}
 use Rattle.packstream.specs.Limits.{max_size}
 
 -- a value is the form of a cell at a version

@@ -5,17 +5,17 @@ use Rattle.std.specs.Fmt.{decimal}
 use Rattle.packstream.specs.declared.fault.Reason.{Reason as PackReason}
 use Rattle.packstream.specs.declared.fault.Reason.TheVariants as pack
 use Rattle.wire.specs.declared.Version.{Version}
-use Rattle.cells.specs.declared.fault.Reason.{Reason}
-use Rattle.cells.specs.declared.fault.Reason.TheVariants.{UnknownTag, FieldCount, FieldKind, Range, PathShape, NotInVersion}
-use Rattle.commands.specs.declared.commands.Said.{Said}
-use Rattle.commands.specs.declared.checks.Checked.{Checked}
-use Rattle.commands.specs.declared.checks.Checked.TheVariants.{Fine, Refused, Unfit}
-use Rattle.serves.specs.declared.response.End.{End}
-use Rattle.serves.specs.declared.response.End.TheVariants.{Live, Over}
+use Rattle.structures_cells.specs.declared.fault.Reason.{Reason}
+use Rattle.structures_cells.specs.declared.fault.Reason.TheVariants.{UnknownTag, FieldCount, FieldKind, Range, PathShape, NotInVersion}
+use Rattle.cli_commands.specs.declared.commands.Said.{Said}
+use Rattle.cli_commands.specs.declared.checks.Checked.{Checked}
+use Rattle.cli_commands.specs.declared.checks.Checked.TheVariants.{Fine, Refused, Unfit}
+use Rattle.server_blocking.specs.declared.response.End.{End}
+use Rattle.server_blocking.specs.declared.response.End.TheVariants.{Live, Over}
 use Rattle.machine.specs.declared.states.State.{State}
-use Rattle.session.specs.declared.kinds.Cause.{Cause}
-use Rattle.commands.specs.Hexadecimal.{AnswersHex}
-use Rattle.commands.specs.Checks.{ChecksHex}
+use Rattle.server_session.specs.declared.kinds.Cause.{Cause}
+use Rattle.cli_commands.specs.Hexadecimal.{AnswersHex}
+use Rattle.cli_commands.specs.Checks.{ChecksHex}
 
 -- a state as it is printed: `state`, and its name
 abbrev pub state_words : State → List ℕ

@@ -2,12 +2,12 @@
 use Rattle.std.specs.Prelude.{◌≡◌, ℕ, List, true, IsErr, string_bytes}
 use Rattle.packstream.specs.Plain.{AreBytes}
 use Rattle.wire.specs.declared.Version.{Version}
-use Rattle.serves.specs.declared.response.End.{End}
-use Rattle.commands.specs.declared.checks.Checked.{Checked}
-use Rattle.commands.specs.declared.checks.Checked.TheVariants.{Fine, Refused, Unfit}
-use Rattle.commands.specs.Asked.{Text, has_flag, asked_words}
-use Rattle.commands.specs.Answers.{Answers}
-use Rattle.commands.specs.Checks.{Checks}
+use Rattle.server_blocking.specs.declared.response.End.{End}
+use Rattle.cli_commands.specs.declared.checks.Checked.{Checked}
+use Rattle.cli_commands.specs.declared.checks.Checked.TheVariants.{Fine, Refused, Unfit}
+use Rattle.cli_commands.specs.Asked.{Text, has_flag, asked_words}
+use Rattle.cli_commands.specs.Answers.{Answers}
+use Rattle.cli_commands.specs.Checks.{Checks}
 
 -- of bytes one thing is put out, and a session stands in one way after them
 abbrev pub HasOneAnswer : Type 0

@@ -4,11 +4,11 @@ use Rattle.std.specs.Fmt.{decimal}
 use Rattle.std.specs.List.{flat_map}
 use Rattle.std.specs.Str.{bytes_eq, chars}
 use Rattle.strsim.specs.Edits.{levenshtein_row}
-use Rattle.prints.specs.Escaping.{escaped}
-use Rattle.commands.specs.declared.arguments.Wanted.{Wanted}
-use Rattle.commands.specs.declared.arguments.Wanted.TheVariants as want
-use Rattle.commands.specs.declared.help.TheConstants.{HELP}
-use Rattle.commands.specs.Asked.{Text, WrongWord}
+use Rattle.cli_output.specs.Escaping.{escaped}
+use Rattle.cli_commands.specs.declared.arguments.Wanted.{Wanted}
+use Rattle.cli_commands.specs.declared.arguments.Wanted.TheVariants as want
+use Rattle.cli_commands.specs.declared.help.TheConstants.{HELP}
+use Rattle.cli_commands.specs.Asked.{Text, WrongWord}
 
 -- the text of help
 unfoldable pub help_text : List ℕ

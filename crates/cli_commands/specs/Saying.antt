@@ -4,12 +4,12 @@ use Rattle.std.specs.Fmt.{decimal}
 use Rattle.std.specs.List.{list_all}
 use Rattle.std.specs.Io.KnownBytes.{Appends}
 use Rattle.streams.specs.Fronts.{AppendsFront}
-use Rattle.replays.specs.declared.script.Replayed.{Replayed}
-use Rattle.replays.specs.Scripts.{SaysSource}
-use Rattle.commands.specs.declared.commands.Said.{Said}
-use Rattle.commands.specs.Asked.{Ask, ToAnswer, ToCheck, ToReplay, ToPass, ToLoop, ToServe, ToShell, WrongWord}
-use Rattle.commands.specs.Commands.{Says, SaysAnswer, SaysCheck}
-use Rattle.commands.specs.Refusals.{refusal_text}
+use Rattle.cli_replay.specs.declared.script.Replayed.{Replayed}
+use Rattle.cli_replay.specs.Scripts.{SaysSource}
+use Rattle.cli_commands.specs.declared.commands.Said.{Said}
+use Rattle.cli_commands.specs.Asked.{Ask, ToAnswer, ToCheck, ToReplay, ToPass, ToLoop, ToServe, ToShell, WrongWord}
+use Rattle.cli_commands.specs.Commands.{Says, SaysAnswer, SaysCheck}
+use Rattle.cli_commands.specs.Refusals.{refusal_text}
 
 -- a stream over a call: what a sink had taken and has, or what a source had left and has, and whether it had failed, and has
 pub record Passage : Type 0 where

@@ -2,12 +2,12 @@
 ghost use Rattle.std.specs.Prelude.{◌≡◌, ◌↔◌, ◌%◌, string_bytes, IsTrue, IsErr, IsOk, IfOk};
 ghost use Rattle.std.specs.List.{AllPass};
 ghost use Rattle.hex.specs.Hex.{decode_of, is_hex_digit};
-ghost use Rattle.commands.specs.Answers.{Answers};
-ghost use Rattle.commands.specs.Hexadecimal.{AnswersHex};
-ghost use Rattle.commands.specs.declared.answers.AnswerFault.TheVariants as fault;
+ghost use Rattle.cli_commands.specs.Answers.{Answers};
+ghost use Rattle.cli_commands.specs.Hexadecimal.{AnswersHex};
+ghost use Rattle.cli_commands.specs.declared.answers.AnswerFault.TheVariants as fault;
 
 use engine::{FixedTable, OneUser};
-use serves::{End, Responded, respond};
+use server_blocking::{End, Responded, respond};
 use std::alloc::{AllocError, Global};
 use thiserror::Error;
 

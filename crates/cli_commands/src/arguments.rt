@@ -1,8 +1,8 @@
 //! The words after a command's name, by what is wanted of each.
 ghost use Rattle.std.specs.Prelude.{◌≡◌, map, string_bytes};
-ghost use Rattle.commands.specs.Asked.{Gives, count_at, count_word, ends_at, is_flag, plain_word, port_at, port_word, version_at, version_word};
+ghost use Rattle.cli_commands.specs.Asked.{Gives, count_at, count_word, ends_at, is_flag, plain_word, port_at, port_word, version_at, version_word};
 
-use scripts::number_of;
+use cli_scripts::number_of;
 use wire::Version;
 
 /// What a word of a command line has to be.

@@ -1,10 +1,10 @@
 //! Whether bytes are a value, and whether it is a cell.
 ghost use Rattle.std.specs.Prelude.{◌≡◌, ◌↔◌, ℕ, List, IsErr, IfOk};
 ghost use Rattle.hex.specs.Hex.{decode_of};
-ghost use Rattle.cells.specs.Shape.{shape};
+ghost use Rattle.structures_cells.specs.Shape.{shape};
 ghost use Rattle.wire.specs.declared.Version.{Version as AnyVersion};
-ghost use Rattle.commands.specs.Checks.{ChecksHex, Checks, ChecksFault, IsSpelled, IsWrittenBack, IsUnfit};
-ghost use Rattle.commands.specs.declared.answers.AnswerFault.TheVariants as fault;
+ghost use Rattle.cli_commands.specs.Checks.{ChecksHex, Checks, ChecksFault, IsSpelled, IsWrittenBack, IsUnfit};
+ghost use Rattle.cli_commands.specs.declared.answers.AnswerFault.TheVariants as fault;
 
 use crate::answers::{AnswerFault, is_hex};
 use bytes::BytesMut;

@@ -1,6 +1,6 @@
 //! The codes by which faults are printed.
 ghost use Rattle.std.specs.Prelude.{◌≡◌};
-ghost use Rattle.commands.specs.Commands.{cell_code_of, pack_code_of};
+ghost use Rattle.cli_commands.specs.Commands.{cell_code_of, pack_code_of};
 
 use packstream::Reason as PackReason;
 use structures::Reason;

@@ -2,9 +2,9 @@
 ghost use Rattle.std.specs.Prelude.{◌≡◌, ◌≤◌, ◌⊎◌, ℕ, List, [], ◌∷◌, ◌++◌, codes, string_bytes, true, false, map, IfOk};
 ghost use Rattle.std.specs.Io.KnownBytes.{Appends, Consumes};
 ghost use Rattle.streams.specs.Fronts.{AppendsFront};
-ghost use Rattle.commands.specs.Asked.{ask_of, asked_words, wrong_of};
-ghost use Rattle.commands.specs.Saying.{IsPut, Passage, SaysCommand, SaysElsewhere, SaysNoCommand, SaysReplay, SaysTo, SaysVectors, is_replay, reads, vector_line};
-ghost use Rattle.commands.specs.Commands.{Says, IsBadHex, SaysAnswer, SaysCheck, SaysChecked, SaysRefused};
+ghost use Rattle.cli_commands.specs.Asked.{ask_of, asked_words, wrong_of};
+ghost use Rattle.cli_commands.specs.Saying.{IsPut, Passage, SaysCommand, SaysElsewhere, SaysNoCommand, SaysReplay, SaysTo, SaysVectors, is_replay, reads, vector_line};
+ghost use Rattle.cli_commands.specs.Commands.{Says, IsBadHex, SaysAnswer, SaysCheck, SaysChecked, SaysRefused};
 
 use crate::answers::{AnswerFault, answer};
 use crate::arguments::Wrong;
@@ -14,7 +14,7 @@ use crate::end::end_text;
 use crate::refusal::refusal_text;
 use crate::vectors::{passes, vectors};
 use crate::words::{CommandLine, asked};
-use replays::replay;
+use cli_replay::replay;
 use std::alloc::{AllocError, Global};
 use streams::{Sink, Source, write_all};
 use wire::Version;

@@ -1,10 +1,10 @@
 //! How a session stands, in words.
 ghost use Rattle.std.specs.Prelude.{◌≡◌};
-ghost use Rattle.commands.specs.Commands.{end_words, state_words, cause_words};
+ghost use Rattle.cli_commands.specs.Commands.{end_words, state_words, cause_words};
 
 use machine::State;
 use server::Cause;
-use serves::End;
+use server_blocking::End;
 
 /// How a session stands, as the program prints it: `state Ready`, `ended E4`.
 pub fn end_text(end: End) -> &'static str

@@ -1,6 +1,6 @@
 //! The help.
 ghost use Rattle.std.specs.Prelude.{◌≡◌};
-ghost use Rattle.commands.specs.Refusals.{help_text};
+ghost use Rattle.cli_commands.specs.Refusals.{help_text};
 
 /// What the program is, each command with its words and an example, and what the exit statuses mean.
 const HELP: &str =

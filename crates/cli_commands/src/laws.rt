@@ -1,5 +1,5 @@
 //! What holds of the answers, whatever gives them. Each function has an empty body, and its contract is the law.
-ghost use Rattle.commands.specs.Laws.{FlagsAreWrong, HasOneAnswer, HasOneCheck};
+ghost use Rattle.cli_commands.specs.Laws.{FlagsAreWrong, HasOneAnswer, HasOneCheck};
 
 /// Bytes have one answer.
 pub fn has_one_answer()

@@ -1,12 +1,12 @@
 //! What is said to words that are no command.
 ghost use Rattle.std.specs.Prelude.{◌≡◌, map, option_map, IfOk};
 ghost use Rattle.std.specs.List.{flat_map};
-ghost use Rattle.commands.specs.Asked.{wrong_of};
-ghost use Rattle.commands.specs.Refusals.{asks_help, edits, guess, guesses, line_of, missing_line, refusal_text, shown_word, wanted_rest, wanted_words, wrong_line};
+ghost use Rattle.cli_commands.specs.Asked.{wrong_of};
+ghost use Rattle.cli_commands.specs.Refusals.{asks_help, edits, guess, guesses, line_of, missing_line, refusal_text, shown_word, wanted_rest, wanted_words, wrong_line};
 
 use crate::arguments::{Wanted, Wrong};
 use crate::help::help_text;
-use prints::escape;
+use cli_output::escape;
 use std::alloc::{AllocError, Global};
 use strsim::levenshtein;
 

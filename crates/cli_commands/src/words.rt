@@ -1,6 +1,6 @@
 //! What the words of a command line ask for.
 ghost use Rattle.std.specs.Prelude.{map, string_bytes};
-ghost use Rattle.commands.specs.Asked.{Gives, ask_of, asked_answer, asked_by, asked_check, asked_loop, asked_replay, asked_serve, asked_shell, asked_vectors, asked_words};
+ghost use Rattle.cli_commands.specs.Asked.{Gives, ask_of, asked_answer, asked_by, asked_check, asked_loop, asked_replay, asked_serve, asked_shell, asked_vectors, asked_words};
 
 use crate::arguments::{
     Wanted, Wrong, first_count, first_plain, first_port, first_version, no_more,

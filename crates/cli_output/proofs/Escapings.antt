@@ -9,7 +9,7 @@ use Rattle.std.proofs.lemmas.Bool.{agree_below_at}
 use Rattle.std.proofs.lemmas.Bool.Decides.{nat_tests}
 use Rattle.std.proofs.lemmas.List.Folds.{list_all-append}
 pub use Rattle.std.proofs.lemmas.Str.{chars-encodes, encodes-append, encodes-chars, scalars-chars, encode_ascii}
-pub use Rattle.prints.specs.Prelude.{is_unprintable, escape, shown, escaped, is_clean}
+pub use Rattle.cli_output.specs.Prelude.{is_unprintable, escape, shown, escaped, is_clean}
 
 -- characters may be printed as they are
 abbrev AreClear : (ℕ → Bool) → (ℕ → Bool) → List ℕ → Type 0

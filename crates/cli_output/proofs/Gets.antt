@@ -7,8 +7,8 @@ pub use Rattle.engine.specs.Prelude.{entries_view}
 pub use Rattle.streams.proofs.Fronts.{front_after}
 pub use Rattle.streams.specs.Prelude.{AppendsFront}
 use Rattle.streams.specs.declared.fault.StreamFault.{StreamFault}
-use Rattle.prints.specs.declared.stop.StopReason.{StopReason}
-pub use Rattle.prints.specs.Prelude.{Gets, IsStopOf, entries_text}
+use Rattle.cli_output.specs.declared.stop.StopReason.{StopReason}
+pub use Rattle.cli_output.specs.Prelude.{Gets, IsStopOf, entries_text}
 
 pub gets_none : (d : Bool) (a : Option (List ℕ)) → Gets d d a a []
 gets_none d a e = (e, Appends-nil a)

@@ -3,12 +3,12 @@ use Rattle.std.proofs.Common.{◌≡◌, ap, ◌∙◌}
 use Rattle.hex.specs.Hex.{encode_lower}
 use Rattle.packstream.specs.Prelude.{Tree, canon}
 use Rattle.wire.specs.declared.Version.{Version}
-use Rattle.cells.specs.Prelude.{fault, structures}
-use Rattle.cells.proofs.Fine.{fine_scan}
-use Rattle.cells.proofs.Views.{shape-List}
+use Rattle.structures_cells.specs.Prelude.{fault, structures}
+use Rattle.structures_cells.proofs.Fine.{fine_scan}
+use Rattle.structures_cells.proofs.Views.{shape-List}
 use Rattle.structures.specs.Prelude.{Form, form}
 use Rattle.structures.proofs.Formed.{again}
-use Rattle.prints.specs.Telling.{spelled}
+use Rattle.cli_output.specs.Telling.{spelled}
 
 pub ruleset row_cells = (shape-List)
 

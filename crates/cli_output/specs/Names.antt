@@ -9,7 +9,7 @@ use Rattle.machine.specs.declared.Phase.TheVariants as phase
 use Rattle.machine.specs.declared.State.{State}
 use Rattle.wire.specs.declared.Version.{Version}
 use Rattle.wire.specs.declared.Version.TheVariants.{V44, V50, V51}
-use Rattle.session.specs.declared.kinds.Cause.{Cause}
+use Rattle.server_session.specs.declared.kinds.Cause.{Cause}
 
 -- the name of what became of a request
 abbrev pub outcome_name : Outcome → List ℕ

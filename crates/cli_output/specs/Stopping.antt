@@ -3,8 +3,8 @@ use Rattle.std.specs.Prelude.{◌≡◌, ℕ, Bool, false, List, [], ◌∷◌, 
 use Rattle.std.specs.Fmt.{decimal}
 use Rattle.std.specs.Io.KnownBytes.{Appends}
 use Rattle.streams.specs.declared.fault.StreamFault.TheVariants.{ReadFailed, WriteFailed, Memory}
-use Rattle.prints.specs.declared.stop.StopReason.{StopReason}
-use Rattle.prints.specs.declared.stop.StopReason.TheVariants.{Unreadable, Broken}
+use Rattle.cli_output.specs.declared.stop.StopReason.{StopReason}
+use Rattle.cli_output.specs.declared.stop.StopReason.TheVariants.{Unreadable, Broken}
 
 -- 2 for a line that can't be read, 1 for a stream that has failed, 3 for want of memory
 abbrev pub stop_status : StopReason → ℕ

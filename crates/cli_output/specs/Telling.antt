@@ -9,7 +9,7 @@ use Rattle.packstream.specs.Tree.{Tree, list}
 use Rattle.packstream.specs.View.{trees_of}
 use Rattle.structures.specs.Form.{form}
 use Rattle.wire.specs.declared.Version.{Version}
-use Rattle.session.specs.declared.kinds.Cause.{Cause}
+use Rattle.server_session.specs.declared.kinds.Cause.{Cause}
 use Rattle.engine.specs.Views.{Token, EntryView}
 use Rattle.messages.specs.View.{ResponseView, Success, Record, Ignored, Failure}
 use Rattle.client.specs.declared.Outcome.{Outcome}
@@ -17,8 +17,8 @@ use Rattle.client.specs.Rest.{Note, Nothing, Chose, Row, Summary}
 use Rattle.streams.specs.declared.fault.StreamFault.{StreamFault}
 use Rattle.streams.specs.declared.fault.StreamFault.TheVariants.{ReadFailed, WriteFailed, Memory}
 use Rattle.streams.specs.Fronts.{AppendsFront}
-use Rattle.prints.specs.Escaping.{escaped}
-use Rattle.prints.specs.Names.{cause_code, outcome_name, phase_name}
+use Rattle.cli_output.specs.Escaping.{escaped}
+use Rattle.cli_output.specs.Names.{cause_code, outcome_name, phase_name}
 
 -- the shortest spelling, in hex, of what a cell is at a version
 unfoldable pub spelled : Version → Tree → List ℕ

@@ -1,7 +1,7 @@
 //! A stranger's text as it is printed, so that it can't forge a line.
 ghost use Rattle.std.specs.Prelude.{◌≡◌, ◌++◌, true, IfOk, OnOk, string_bytes};
 ghost use Rattle.std.specs.Str.{encode_utf8_all};
-ghost use Rattle.prints.specs.Escaping.{escape, escaped, hex_number, is_clean, is_unprintable, shown};
+ghost use Rattle.cli_output.specs.Escaping.{escape, escaped, hex_number, is_clean, is_unprintable, shown};
 
 use std::alloc::{AllocError, Global};
 

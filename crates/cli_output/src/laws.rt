@@ -6,7 +6,7 @@ ghost use Rattle.packstream.specs.Tree.{Tree, list};
 ghost use Rattle.packstream.specs.View.{trees_of};
 ghost use Rattle.structures.specs.Form.{Form};
 ghost use Rattle.wire.specs.declared.Version.{Version};
-ghost use Rattle.prints.specs.Telling.{row_line, row_text};
+ghost use Rattle.cli_output.specs.Telling.{row_line, row_text};
 
 /// What is printed of a row that has a form at a version is the shortest spelling of that form, the only one.
 #[tactic(auto, using(crate::proofs::Spelled::spelled_form))]

@@ -1,11 +1,11 @@
 //! How outcomes, phases, refusals, states and causes are printed.
 ghost use Rattle.std.specs.Prelude.{◌≡◌};
 ghost use Rattle.std.specs.Option.{option_map};
-ghost use Rattle.prints.specs.Names.{cause_code, outcome_name, phase_name, refusal_code, state_name, version_name};
+ghost use Rattle.cli_output.specs.Names.{cause_code, outcome_name, phase_name, refusal_code, state_name, version_name};
 
 use client::{Outcome, SubmitFault};
 use machine::{Phase, State};
-use session::Cause;
+use server_session::Cause;
 use wire::Version;
 
 /// What became of a request, by its name: `Done`, `Committed`.

@@ -1,6 +1,6 @@
 //! Lines that are printed, and texts that are told.
 ghost use Rattle.std.specs.Prelude.{◌≡◌, ◌⊎◌, true, IfErr, IfOk, OnOk, OnErr, string_bytes, IsErrOf};
-ghost use Rattle.cells.specs.Shape.{shapes};
+ghost use Rattle.structures_cells.specs.Shape.{shapes};
 ghost use Rattle.std.specs.Io.KnownBytes.{Appends};
 ghost use Rattle.messages.specs.View.{response_view};
 ghost use Rattle.client.specs.Notes.{note};
@@ -8,9 +8,9 @@ ghost use Rattle.client.specs.Rest.{Summary};
 ghost use Rattle.engine.specs.Views.{entries_view, entry_view};
 ghost use Rattle.streams.specs.Failing.{StaysSound, UnlessTold};
 ghost use Rattle.streams.specs.Fronts.{AppendsFront};
-ghost use Rattle.prints.specs.Telling.{entries_text, entry_line, conn_line, PutsLine, failure_line, heard_line as heard_text, note_text, refused_line, row_text};
-ghost use Rattle.prints.specs.Names.{outcome_name, phase_name};
-ghost use Rattle.prints.specs.Stopping.{Gets};
+ghost use Rattle.cli_output.specs.Telling.{entries_text, entry_line, conn_line, PutsLine, failure_line, heard_line as heard_text, note_text, refused_line, row_text};
+ghost use Rattle.cli_output.specs.Names.{outcome_name, phase_name};
+ghost use Rattle.cli_output.specs.Stopping.{Gets};
 
 use crate::names::cause_code;
 use crate::summaries::{failure, heard_line, row};
@@ -18,7 +18,7 @@ use client::{Heard, Outcome};
 use engine::Entry;
 use machine::Phase;
 use messages::Response;
-use session::Cause;
+use server_session::Cause;
 use std::alloc::{AllocError, Global};
 use streams::{Sink, StreamFault, write_all};
 use structures::Cell;

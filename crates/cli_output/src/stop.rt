@@ -1,6 +1,6 @@
 //! Why a program stops before its lines end.
 ghost use Rattle.std.specs.Prelude.{◌≡◌};
-ghost use Rattle.prints.specs.Stopping.{Gets, stop_status, stop_text};
+ghost use Rattle.cli_output.specs.Stopping.{Gets, stop_status, stop_text};
 
 use crate::printed_lines::tell;
 use itoa::Buffer;
@@ -17,7 +17,7 @@ pub enum StopReason {
 
 impl From<StreamFault> for StopReason {
     ghost use Rattle.std.specs.Prelude.{◌≡◌};
-    ghost use Rattle.prints.specs.declared.stop.StopReason.{StopReason};
+    ghost use Rattle.cli_output.specs.declared.stop.StopReason.{StopReason};
 
     ghost from_gives = { λ fault stop. stop ≡ StopReason.Broken fault };
 

@@ -1,9 +1,9 @@
 //! What is printed of what a client heard.
 ghost use Rattle.std.specs.Prelude.{◌≡◌, IfOk, string_bytes};
-ghost use Rattle.cells.specs.Shape.{shape, shapes};
+ghost use Rattle.structures_cells.specs.Shape.{shape, shapes};
 ghost use Rattle.messages.specs.View.{response_view};
-ghost use Rattle.prints.specs.Telling.{spelled, row_text, heard_line, failure_line};
-ghost use Rattle.prints.specs.Names.{outcome_name, phase_name};
+ghost use Rattle.cli_output.specs.Telling.{spelled, row_text, heard_line, failure_line};
+ghost use Rattle.cli_output.specs.Names.{outcome_name, phase_name};
 
 use crate::escapes::escape;
 use crate::names::{outcome_name, phase_name};

@@ -1,11 +1,11 @@
 -- Of bytes one thing is said: a world's steps are a function, and so is what the lines of a script do.
 use Rattle.std.proofs.Common.{◌≡◌, refl, sym, ap, ◌∙◌, subst, true, false, Bool, Result, Ok, Err, Option, Some, None, List, [], ◌∷◌, ◌++◌, ℕ, append_assoc, inl, inr, string_bytes, option_map}
 use Rattle.std.proofs.lemmas.List.{append-nil}
-use Rattle.session.specs.Prelude.{Setting}
-use Rattle.scripts.specs.Prelude.{line_of, filled_lines, lines_read, LineView}
+use Rattle.server_session.specs.Prelude.{Setting}
+use Rattle.cli_scripts.specs.Prelude.{line_of, filled_lines, lines_read, LineView}
 use Rattle.world.specs.Prelude.{World, Event, Seen, Refusal, empty}
-use Rattle.replays.specs.declared.script.Replayed.{Replayed}
-use Rattle.replays.specs.Prelude.{Came, moves, code_of, repeats, event_at, serving, Takes, Moves, stays, moves_on, Done, Does, line_of_note, Runs, starts, runs_on, Says, SaysScript, unreadable_line, report_text}
+use Rattle.cli_replay.specs.declared.script.Replayed.{Replayed}
+use Rattle.cli_replay.specs.Prelude.{Came, moves, code_of, repeats, event_at, serving, Takes, Moves, stays, moves_on, Done, Does, line_of_note, Runs, starts, runs_on, Says, SaysScript, unreadable_line, report_text}
 
 abbrev Step : Type 0
 Step = Result (World × Seen) Refusal

@@ -3,8 +3,8 @@ use Rattle.std.proofs.Common.{◌≡◌, refl, sym, ap, ◌∙◌, List, [], ◌
 use Rattle.std.proofs.lemmas.List.{append-nil, flat_map_more}
 use Rattle.world.specs.Prelude.{Connection, ordinals, summaries_told, outcomes_at_loss, waits, standing, IsReport, standing_seen, read_of}
 use Rattle.world.specs.declared.report.Connection.{Connection as ConnectionTold}
-use Rattle.prints.specs.Prelude.{lost_line}
-use Rattle.replays.specs.Prelude.{conn_line, read_line, waits_line, standing_line, connection_text, connections_text}
+use Rattle.cli_output.specs.Prelude.{lost_line}
+use Rattle.cli_replay.specs.Prelude.{conn_line, read_line, waits_line, standing_line, connection_text, connections_text}
 
 -- one more ordinal
 pub ordinals_more : (first count : ℕ) → ordinals first (suc count) ≡ ordinals first count ++ (first + count) ∷ []

@@ -2,18 +2,18 @@
 use Rattle.std.proofs.Common.{◌≡◌, refl, sym, ◌∙◌, subst, Result, Ok, Err, List, inl, inr, ap, Bool, [], ◌++◌, ℕ, string_bytes, Option, ◌&&◌, codes, bytes_eq}
 use Rattle.std.specs.declared.alloc.AllocError.{AllocError}
 use Rattle.engine.specs.Prelude.{EntryView, ledger_of, user_welcome, principal_of, credentials_of, fixed_answer, under_own_name}
-use Rattle.session.specs.Prelude.{Setting}
+use Rattle.server_session.specs.Prelude.{Setting}
 use Rattle.world.specs.declared.kinds.Refused.{Refused}
 use Rattle.world.specs.declared.kinds.Refused.TheVariants.{NoSuchConnection, WrongPeer, SessionsFull, Memory}
 use Rattle.world.specs.declared.kinds.Seen.{Seen as SeenTold}
 use Rattle.world.specs.declared.world.World.{World as WorldHeld}
 use Rattle.world.specs.Prelude.{World, Event, ToClient, V1, V2, V3, Reached, goes_on, takes_out, empty, Answers, Leaves, seen_of, FitsWorld, seen_in, setting_of}
-use Rattle.replays.specs.declared.steps.Step.{Step}
-use Rattle.replays.specs.Prelude.{Leads, LeadsBy, Settles, SettlesBy, Stepped, Does, Done, Runs, serving, repeats, event_at, Says, report_text}
-use Rattle.scripts.specs.Prelude.{LineView}
+use Rattle.cli_replay.specs.declared.steps.Step.{Step}
+use Rattle.cli_replay.specs.Prelude.{Leads, LeadsBy, Settles, SettlesBy, Stepped, Does, Done, Runs, serving, repeats, event_at, Says, report_text}
+use Rattle.cli_scripts.specs.Prelude.{LineView}
 use Rattle.engine.specs.declared.fixed_table.FixedTable.{FixedTable}
 use Rattle.engine.specs.declared.one_user.OneUser.{OneUser}
-use Rattle.replays.specs.declared.script.Replayed.{Replayed}
+use Rattle.cli_replay.specs.declared.script.Replayed.{Replayed}
 
 pub stepped : (S : Setting) (brought : List EntryView) (w : World) (e : Event) (P : World → Type 0) → Reached S brought w → (res : Result SeenTold Refused) (s : Step) → Settles res s → Answers S w e (seen_in res) P
     → (w2 : World) × Stepped S w e s w2 × Reached S brought w2 × P w2

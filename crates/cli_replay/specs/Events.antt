@@ -3,21 +3,21 @@ use Rattle.std.specs.Prelude.{ℕ, nat_lt, Bool, true, false, List, codes, Optio
 use Rattle.wire.specs.declared.Version.{Version}
 use Rattle.wire.specs.declared.Version.TheVariants.{V51}
 use Rattle.wire.specs.Offers.{wish_version}
-use Rattle.session.specs.declared.What.{What}
-use Rattle.session.specs.declared.What.TheVariants as what
-use Rattle.session.specs.declared.Worked.{Worked}
-use Rattle.session.specs.declared.Worked.TheVariants as worked
+use Rattle.server_session.specs.declared.What.{What}
+use Rattle.server_session.specs.declared.What.TheVariants as what
+use Rattle.server_session.specs.declared.Worked.{Worked}
+use Rattle.server_session.specs.declared.Worked.TheVariants as worked
 use Rattle.client.specs.declared.SubmitFault.{SubmitFault}
-use Rattle.scripts.specs.declared.line.Peer.{Peer as PeerSaid}
-use Rattle.scripts.specs.declared.line.Peer.TheVariants as peer
-use Rattle.scripts.specs.declared.line.Amount.{Amount}
-use Rattle.scripts.specs.declared.line.Amount.TheVariants.{Bytes, All}
-use Rattle.scripts.specs.declared.line.Times.{Times}
-use Rattle.scripts.specs.declared.line.Times.TheVariants as times
-use Rattle.scripts.specs.Views as line
-use Rattle.scripts.specs.Views.{LineView}
-use Rattle.scripts.specs.Meant.{meant}
-use Rattle.prints.specs.Names.{refusal_code}
+use Rattle.cli_scripts.specs.declared.line.Peer.{Peer as PeerSaid}
+use Rattle.cli_scripts.specs.declared.line.Peer.TheVariants as peer
+use Rattle.cli_scripts.specs.declared.line.Amount.{Amount}
+use Rattle.cli_scripts.specs.declared.line.Amount.TheVariants.{Bytes, All}
+use Rattle.cli_scripts.specs.declared.line.Times.{Times}
+use Rattle.cli_scripts.specs.declared.line.Times.TheVariants as times
+use Rattle.cli_scripts.specs.Views as line
+use Rattle.cli_scripts.specs.Views.{LineView}
+use Rattle.cli_scripts.specs.Meant.{meant}
+use Rattle.cli_output.specs.Names.{refusal_code}
 use Rattle.world.specs.Connections.{Connection, Peer, Ours, Foreign, wish_of}
 use Rattle.world.specs.World.{World, Event, Opens, Submit, ToServer, ToClient, Work, PutsNoop, Cut, ClientLost, ServerLost, Feeds, Seen, Opened, Submitted, Fed, Gave, SawWork, SawNoop, SawNothing, Refusal, V1, V2, V3}
 use Rattle.wire.specs.Limits.{max_message}

@@ -5,9 +5,9 @@ use Rattle.std.specs.declared.alloc.AllocError.{AllocError}
 use Rattle.engine.specs.Queries.{fixed_answer}
 use Rattle.engine.specs.Views.{EntryView}
 use Rattle.engine.specs.Welcomes.{under_own_name}
-use Rattle.session.specs.Session.{Setting}
-use Rattle.scripts.specs.Views.{LineView}
-use Rattle.prints.specs.Telling.{refused_line}
+use Rattle.server_session.specs.Session.{Setting}
+use Rattle.cli_scripts.specs.Views.{LineView}
+use Rattle.cli_output.specs.Telling.{refused_line}
 use Rattle.world.specs.declared.kinds.Refused.{Refused}
 use Rattle.world.specs.declared.kinds.Refused.TheVariants.{NoSuchConnection, WrongPeer, SessionsFull, Memory}
 use Rattle.world.specs.declared.kinds.Seen.{Seen as SeenTold}
@@ -15,8 +15,8 @@ use Rattle.world.specs.declared.world.World.{World as WorldHeld}
 use Rattle.world.specs.World.{World, Event, V1, V2, V3, step, WStep, Reached}
 use Rattle.world.specs.Views.{seen_of}
 use Rattle.world.specs.Turns.{FitsWorld}
-use Rattle.replays.specs.declared.steps.Step.{Step}
-use Rattle.replays.specs.Events.{Came, moves, code_of, repeats, event_at}
+use Rattle.cli_replay.specs.declared.steps.Step.{Step}
+use Rattle.cli_replay.specs.Events.{Came, moves, code_of, repeats, event_at}
 
 -- the one user that is let in
 abbrev pub lets_in : List ℕ → List ℕ → Bool

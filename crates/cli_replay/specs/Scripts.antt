@@ -2,12 +2,12 @@
 use Rattle.std.specs.Prelude.{◌≡◌, ◌⊎◌, ℕ, Bool, true, false, List, [], ◌∷◌, ◌++◌, codes, Option, Some, None, option_map, string_bytes}
 use Rattle.std.specs.Fmt.{decimal}
 use Rattle.std.specs.Io.KnownBytes.{Consumes, IsAtEnd}
-use Rattle.scripts.specs.Rows.{line_of}
-use Rattle.scripts.specs.Script.{filled_lines, lines_read, unreadable}
+use Rattle.cli_scripts.specs.Rows.{line_of}
+use Rattle.cli_scripts.specs.Script.{filled_lines, lines_read, unreadable}
 use Rattle.world.specs.World.{World, empty}
-use Rattle.replays.specs.declared.script.Replayed.{Replayed}
-use Rattle.replays.specs.Running.{serving, Runs}
-use Rattle.replays.specs.Texts.{report_text}
+use Rattle.cli_replay.specs.declared.script.Replayed.{Replayed}
+use Rattle.cli_replay.specs.Running.{serving, Runs}
+use Rattle.cli_replay.specs.Texts.{report_text}
 
 -- on standard output and standard error, with this status
 pub record Says (put told : List ℕ) (ends : ℕ) (r : Replayed) : Type 0 where

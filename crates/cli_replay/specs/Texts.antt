@@ -2,8 +2,8 @@
 use Rattle.std.specs.Prelude.{ℕ, suc, List, [], ◌∷◌, ◌++◌, codes}
 use Rattle.std.specs.List.{flat_map}
 use Rattle.std.specs.Fmt.{decimal}
-use Rattle.prints.specs.Names.{outcome_name, phase_name, state_name, cause_code}
-use Rattle.prints.specs.Telling.{heard_line, lost_line, entry_line}
+use Rattle.cli_output.specs.Names.{outcome_name, phase_name, state_name, cause_code}
+use Rattle.cli_output.specs.Telling.{heard_line, lost_line, entry_line}
 use Rattle.world.specs.Connections.{Connection}
 use Rattle.world.specs.World.{World, ledger}
 use Rattle.world.specs.Reports.{ReadSummary, summaries_told, outcomes_at_loss, waits, Standing, stands, has_ended, standing}

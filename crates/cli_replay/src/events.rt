@@ -1,13 +1,13 @@
 //! The events of a script's lines.
 ghost use Rattle.std.specs.Prelude.{◌≡◌, IfOk};
-ghost use Rattle.scripts.specs.Views.{line_view};
-ghost use Rattle.scripts.specs.Meant.{meant};
-ghost use Rattle.scripts.specs.Views.{script_request_view};
+ghost use Rattle.cli_scripts.specs.Views.{line_view};
+ghost use Rattle.cli_scripts.specs.Meant.{meant};
+ghost use Rattle.cli_scripts.specs.Views.{script_request_view};
 ghost use Rattle.world.specs.Views.{event_of, peer_of};
 ghost use Rattle.world.specs.World.{Submit};
-ghost use Rattle.replays.specs.Events.{conn_of, event_by, repeats, is_all, is_always, bytes_in, peer_said};
+ghost use Rattle.cli_replay.specs.Events.{conn_of, event_by, repeats, is_all, is_always, bytes_in, peer_said};
 
-use scripts::{Amount, Line, Peer as PeerSaid, ScriptRequest, Times};
+use cli_scripts::{Amount, Line, Peer as PeerSaid, ScriptRequest, Times};
 use std::alloc::{AllocError, Global};
 use wire::{MAX_MESSAGE, Version};
 use world::{Event, Peer};

@@ -8,13 +8,13 @@ ghost use Rattle.world.specs.Reports.{ordinals};
 ghost use Rattle.world.specs.Reported.{IsReport, standing_seen};
 ghost use Rattle.world.specs.Views.{read_of};
 ghost use Rattle.world.specs.Turns.{FitsWorld, setting_of};
-ghost use Rattle.prints.specs.Telling.{entry_line, lost_line};
-ghost use Rattle.replays.specs.Texts.{conn_line, connection_text, connections_text, read_line, report_text, standing_line, waits_line};
+ghost use Rattle.cli_output.specs.Telling.{entry_line, lost_line};
+ghost use Rattle.cli_replay.specs.Texts.{conn_line, connection_text, connections_text, read_line, report_text, standing_line, waits_line};
 
 use crate::script_lines::connection_at;
+use cli_output::{cause_code, entry_text, outcome_name, state_name, summary};
 use client::Outcome;
 use engine::{Engine, Entry, Gate};
-use prints::{cause_code, entry_text, outcome_name, state_name, summary};
 use std::alloc::{AllocError, Global};
 use world::{Connection, Read, Standing, World};
 

@@ -1,17 +1,17 @@
 //! A script that a source gives, and what is said of it.
 ghost use Rattle.std.specs.Prelude.{◌≤◌, ◌++◌, ◌∷◌, [], codes, IfOk, List, ℕ};
 ghost use Rattle.std.specs.Io.KnownBytes.{Consumes};
-ghost use Rattle.scripts.specs.Script.{said_lines};
+ghost use Rattle.cli_scripts.specs.Script.{said_lines};
 ghost use Rattle.world.specs.World.{World as WorldSeen, empty};
-ghost use Rattle.replays.specs.Running.{Runs, serving};
-ghost use Rattle.replays.specs.Texts.{report_text};
-ghost use Rattle.replays.specs.Scripts.{Says, SaysScript, SaysSource, unreadable_line};
+ghost use Rattle.cli_replay.specs.Running.{Runs, serving};
+ghost use Rattle.cli_replay.specs.Texts.{report_text};
+ghost use Rattle.cli_replay.specs.Scripts.{Says, SaysScript, SaysSource, unreadable_line};
 
 use crate::reports::report;
 use crate::script_lines::run;
 use crate::source::read_all;
+use cli_scripts::{Line, Numbered, ScriptFault, read_script};
 use engine::{FixedTable, OneUser};
-use scripts::{Line, Numbered, ScriptFault, read_script};
 use std::alloc::{AllocError, Global};
 use streams::{Source, StreamFault};
 use world::World;

@@ -2,21 +2,21 @@
 ghost use Rattle.std.specs.Prelude.{◌≡◌, ◌++◌, OnOk, List, Some, string_bytes};
 ghost use Rattle.std.specs.Option.{option_map};
 ghost use Rattle.engine.specs.Views.{EntryView};
-ghost use Rattle.scripts.specs.Views.{line_view};
-ghost use Rattle.scripts.specs.Script.{said_lines};
+ghost use Rattle.cli_scripts.specs.Views.{line_view};
+ghost use Rattle.cli_scripts.specs.Script.{said_lines};
 ghost use Rattle.wire.specs.Offers.{wish_version};
 ghost use Rattle.world.specs.Connections.{wish_of};
 ghost use Rattle.world.specs.World.{World as WorldSeen, Reached};
 ghost use Rattle.world.specs.Views.{event_of, peer_of};
 ghost use Rattle.world.specs.Reported.{Reports};
 ghost use Rattle.world.specs.Turns.{FitsWorld, setting_of};
-ghost use Rattle.replays.specs.Events.{version_at};
-ghost use Rattle.replays.specs.Running.{Does, LeadsBy, Once, Repeats, Runs, line_of_note};
+ghost use Rattle.cli_replay.specs.Events.{version_at};
+ghost use Rattle.cli_replay.specs.Running.{Does, LeadsBy, Once, Repeats, Runs, line_of_note};
 
 use crate::events::{conn_of, event_by, repeats};
 use crate::steps::take_step;
+use cli_scripts::{Line, Numbered};
 use engine::{Engine, Gate};
-use scripts::{Line, Numbered};
 use std::alloc::{AllocError, Global};
 use wire::{Version, Wish};
 use world::{Connection, Event, Peer, World};

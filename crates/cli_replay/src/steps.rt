@@ -5,12 +5,12 @@ ghost use Rattle.engine.specs.Views.{EntryView};
 ghost use Rattle.world.specs.World.{World as WorldSeen, Reached};
 ghost use Rattle.world.specs.Views.{event_of, seen_of};
 ghost use Rattle.world.specs.Turns.{FitsWorld, setting_of};
-ghost use Rattle.replays.specs.Events.{fed_code, moves_seen, seen_code, submit_code, worked_code, works};
-ghost use Rattle.replays.specs.Running.{LeadsBy, SettlesBy, Stepped};
+ghost use Rattle.cli_replay.specs.Events.{fed_code, moves_seen, seen_code, submit_code, worked_code, works};
+ghost use Rattle.cli_replay.specs.Running.{LeadsBy, SettlesBy, Stepped};
 
+use cli_output::refusal_code;
 use client::SubmitFault;
 use engine::{Engine, Gate};
-use prints::refusal_code;
 use server::{What, Worked};
 use std::alloc::AllocError;
 use world::{Event, Refused, Seen, World};

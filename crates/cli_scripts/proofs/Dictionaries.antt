@@ -2,12 +2,12 @@
 use Rattle.std.proofs.Common.{◌≡◌, ℕ, Ok, Err, Some, None, ap, sym, ◌∙◌, ◌↔◌, List, [], ◌∷◌, Option, Result, refl, option_and_then}
 use Rattle.packstream.specs.Prelude.{Tree, dict, Entries, no_entries, entry_then, whole_of, IsGood, AreBytes, Spells, entries_of}
 use Rattle.wire.specs.declared.Version.{Version}
-use Rattle.cells.specs.declared.cell.Cell.{Cell}
-use Rattle.cells.specs.declared.fault.Reason.{Reason}
-use Rattle.cells.specs.Prelude.{shape, fault, scan, structures}
+use Rattle.structures_cells.specs.declared.cell.Cell.{Cell}
+use Rattle.structures_cells.specs.declared.fault.Reason.{Reason}
+use Rattle.structures_cells.specs.Prelude.{shape, fault, scan, structures}
 use Rattle.structures.specs.declared.fault.CellFault.TheVariants as cell_fault
 use Rattle.structures.specs.Prelude.{Reads, Form, typed}
-use Rattle.scripts.specs.Prelude.{cell_by, cell_at, cell_among, cell_of, entries_in, params_of, IsParams, Params}
+use Rattle.cli_scripts.specs.Prelude.{cell_by, cell_at, cell_among, cell_of, entries_in, params_of, IsParams, Params}
 use Rattle.std.specs.Option.{option_or}
 use Rattle.std.specs.Result.{result_ok}
 use Rattle.packstream.proofs.Deciding.{whole_value}

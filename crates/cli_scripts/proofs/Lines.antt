@@ -1,10 +1,10 @@
 -- The lines of a script, one after the other.
 use Rattle.std.proofs.Common.{◌≡◌, ℕ, ◌+◌, ◌<◌, ◌==◌, length, drop, map, get_or, Bor, true, false, List, [], ◌∷◌, ◌++◌, append_assoc, Option, Some, refl, sym, ap, ◌∙◌, arith, option_map}
 use Rattle.std.proofs.lemmas.List.{drop-map, drop_more, map-append}
-use Rattle.scripts.specs.declared.fault.LineFault.{LineFault}
-use Rattle.scripts.specs.declared.fault.LineFault.TheVariants.{Unreadable, Memory}
-use Rattle.scripts.specs.declared.fault.ScriptFault.{ScriptFault}
-use Rattle.scripts.specs.Prelude.{Refused, Text, is_empty, filled_from, filled_lines, lines_read, unreadable, fault_at, IsRefused}
+use Rattle.cli_scripts.specs.declared.fault.LineFault.{LineFault}
+use Rattle.cli_scripts.specs.declared.fault.LineFault.TheVariants.{Unreadable, Memory}
+use Rattle.cli_scripts.specs.declared.fault.ScriptFault.{ScriptFault}
+use Rattle.cli_scripts.specs.Prelude.{Refused, Text, is_empty, filled_from, filled_lines, lines_read, unreadable, fault_at, IsRefused}
 
 -- what the lines of bytes say is this, and then what these lines say, of which the first has number n; none before them can't be read
 pub record HasRead {V : Type 0} (read : Text → Option V) (b : List ℕ) (out : List (ℕ × V)) (n : ℕ) (ls : List Text) : Type 0 where

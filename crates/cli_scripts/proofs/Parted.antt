@@ -4,7 +4,7 @@ use Rattle.std.specs.List.{list_any, list_all, join_with_byte, onto_first}
 use Rattle.std.specs.Str.{is_utf8}
 use Rattle.std.proofs.lemmas.Str.{IsUtf8-from_is_utf8, is_utf8-from_IsUtf8}
 use Rattle.std.proofs.lemmas.Bool.{false_from_ne_true, and_parts, not-true, or_parts}
-use Rattle.scripts.specs.Prelude.{parts_of, is_empty, words_of, of_words, ending_of, Text, is_word, AreWords}
+use Rattle.cli_scripts.specs.Prelude.{parts_of, is_empty, words_of, of_words, ending_of, Text, is_word, AreWords}
 use Rattle.std.proofs.lemmas.List.Splits.{length-slice_split, join_with_byte-slice_split}
 
 pub no_words : (line : List ℕ) → ¬ (IsUtf8 line) → words_of line ≡ None

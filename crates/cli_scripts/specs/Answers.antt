@@ -1,7 +1,7 @@
 -- What reading a line answers.
 use Rattle.std.specs.Prelude.{◌≡◌, Option, Some, None, Result, Ok, Err}
-use Rattle.scripts.specs.declared.fault.LineFault.{LineFault}
-use Rattle.scripts.specs.declared.fault.LineFault.TheVariants.{Unreadable, Memory}
+use Rattle.cli_scripts.specs.declared.fault.LineFault.{LineFault}
+use Rattle.cli_scripts.specs.declared.fault.LineFault.TheVariants.{Unreadable, Memory}
 
 -- the words say nothing if they are unreadable; nothing is known if memory ran out
 abbrev pub Refused : {Y : Type 0} → LineFault → Option Y → Type 0

@@ -2,8 +2,8 @@
 use Rattle.std.specs.Prelude.{◌≡◌, ◌<◌, ◌==◌, ◌&&◌, not, Bool, true, List, length}
 use Rattle.std.specs.List.{list_any, list_all, join_with_byte}
 use Rattle.std.specs.Str.{IsUtf8}
-use Rattle.scripts.specs.Views.{Text}
-use Rattle.scripts.specs.Words.{is_empty}
+use Rattle.cli_scripts.specs.Views.{Text}
+use Rattle.cli_scripts.specs.Words.{is_empty}
 
 -- one byte or more, and no blank
 abbrev pub is_word : Text → Bool

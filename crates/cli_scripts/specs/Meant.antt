@@ -3,8 +3,8 @@ use Rattle.std.specs.Prelude.{ℕ, List, codes, Option, Some, None, if◌then◌
 use Rattle.wire.specs.declared.Version.{Version}
 use Rattle.wire.specs.Versions.{hello_has_login}
 use Rattle.messages.specs.View.{AuthView, RequestView, Hello, Logon, Logoff, Goodbye, Reset, Run, Begin, Commit, Rollback, Discard, Pull}
-use Rattle.scripts.specs.Views as script
-use Rattle.scripts.specs.Views.{ScriptRequestView}
+use Rattle.cli_scripts.specs.Views as script
+use Rattle.cli_scripts.specs.Views.{ScriptRequestView}
 
 -- the user `user` by the scheme `basic`, with these credentials
 abbrev pub login : List ℕ → AuthView

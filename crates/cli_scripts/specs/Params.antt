@@ -7,13 +7,13 @@ use Rattle.packstream.specs.Good.{IsGood}
 use Rattle.packstream.specs.Spelling.{Spells}
 use Rattle.packstream.specs.Tree.{Tree, dict}
 use Rattle.packstream.specs.View.{entries_of}
-use Rattle.cells.specs.Faults.{fault, scan, structures}
-use Rattle.cells.specs.declared.fault.Reason.{Reason}
+use Rattle.structures_cells.specs.Faults.{fault, scan, structures}
+use Rattle.structures_cells.specs.declared.fault.Reason.{Reason}
 use Rattle.structures.specs.Form.{Form, typed}
 use Rattle.wire.specs.declared.Version.{Version}
 use Rattle.wire.specs.Versions.{versions}
 use Rattle.messages.specs.Messages.{pairs_of}
-use Rattle.scripts.specs.Views.{Params}
+use Rattle.cli_scripts.specs.Views.{Params}
 
 -- the cell of a value whose structures have been judged
 abbrev pub cell_by : Result ℕ (Reason × ℕ) → Tree → Option Tree

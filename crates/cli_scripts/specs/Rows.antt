@@ -6,14 +6,14 @@ use Rattle.wire.specs.declared.Version.TheVariants.{V44, V50, V51}
 use Rattle.wire.specs.declared.offers.Wish.TheVariants.{Newest, Only}
 use Rattle.messages.specs.declared.request.Mode.{Mode}
 use Rattle.messages.specs.declared.request.Mode.TheVariants.{Read, Write}
-use Rattle.scripts.specs.declared.line.Peer.{Peer}
-use Rattle.scripts.specs.declared.line.Peer.TheVariants as peer
-use Rattle.scripts.specs.declared.line.Amount.{Amount}
-use Rattle.scripts.specs.declared.line.Amount.TheVariants as amount
-use Rattle.scripts.specs.declared.line.Times.TheVariants as times
-use Rattle.scripts.specs.Views.{Text, ScriptRequestView, Hello, Logon, LogonBad, Logoff, Goodbye, Reset, Run, Begin, Commit, Rollback, Discard, Pull, LineView, Open, Submit, ToServer, ToClient, Work, Noop, Cut, ClientLost, ServerLost, Foreign}
-use Rattle.scripts.specs.Words.{words_of, number_of, whole_of, count_of, bytes_of}
-use Rattle.scripts.specs.Params.{params_of}
+use Rattle.cli_scripts.specs.declared.line.Peer.{Peer}
+use Rattle.cli_scripts.specs.declared.line.Peer.TheVariants as peer
+use Rattle.cli_scripts.specs.declared.line.Amount.{Amount}
+use Rattle.cli_scripts.specs.declared.line.Amount.TheVariants as amount
+use Rattle.cli_scripts.specs.declared.line.Times.TheVariants as times
+use Rattle.cli_scripts.specs.Views.{Text, ScriptRequestView, Hello, Logon, LogonBad, Logoff, Goodbye, Reset, Run, Begin, Commit, Rollback, Discard, Pull, LineView, Open, Submit, ToServer, ToClient, Work, Noop, Cut, ClientLost, ServerLost, Foreign}
+use Rattle.cli_scripts.specs.Words.{words_of, number_of, whole_of, count_of, bytes_of}
+use Rattle.cli_scripts.specs.Params.{params_of}
 
 -- Requests of one word.
 abbrev pub of_one : Text → Option ScriptRequestView

@@ -2,15 +2,15 @@
 use Rattle.std.specs.Prelude.{◌≡◌, ℕ, ◌==◌, not, List, map, filter, find, Option, Some, None, is_none, Result, Ok, Err}
 use Rattle.std.specs.List.{slice_split, filter_map, enumerate_from}
 use Rattle.std.specs.Option.{option_map}
-use Rattle.scripts.specs.declared.fault.ScriptFault.{ScriptFault}
-use Rattle.scripts.specs.declared.fault.ScriptFault.TheVariants.{Unreadable, Memory}
-use Rattle.scripts.specs.declared.fault.LineFault.{LineFault}
-use Rattle.scripts.specs.declared.fault.LineFault.TheVariants as line_fault
-use Rattle.scripts.specs.declared.line.Line.{Line}
-use Rattle.scripts.specs.declared.request.ScriptRequest.{ScriptRequest}
-use Rattle.scripts.specs.declared.script.Numbered.{Numbered}
-use Rattle.scripts.specs.Views.{Text, LineView, line_view, ScriptRequestView, script_request_view}
-use Rattle.scripts.specs.Words.{is_empty}
+use Rattle.cli_scripts.specs.declared.fault.ScriptFault.{ScriptFault}
+use Rattle.cli_scripts.specs.declared.fault.ScriptFault.TheVariants.{Unreadable, Memory}
+use Rattle.cli_scripts.specs.declared.fault.LineFault.{LineFault}
+use Rattle.cli_scripts.specs.declared.fault.LineFault.TheVariants as line_fault
+use Rattle.cli_scripts.specs.declared.line.Line.{Line}
+use Rattle.cli_scripts.specs.declared.request.ScriptRequest.{ScriptRequest}
+use Rattle.cli_scripts.specs.declared.script.Numbered.{Numbered}
+use Rattle.cli_scripts.specs.Views.{Text, LineView, line_view, ScriptRequestView, script_request_view}
+use Rattle.cli_scripts.specs.Words.{is_empty}
 
 -- the lines of bytes, parted by newlines
 abbrev pub lines : List ℕ → List Text

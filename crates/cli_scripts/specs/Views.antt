@@ -1,17 +1,17 @@
 -- What a line says, as plain data: texts by their bytes, parameters by the trees of their cells.
 use Rattle.std.specs.Prelude.{ℕ, List, Option, string_bytes}
 use Rattle.packstream.specs.Tree.{Tree}
-use Rattle.cells.specs.Shape.{entries}
+use Rattle.structures_cells.specs.Shape.{entries}
 use Rattle.messages.specs.declared.request.Mode.{Mode}
 use Rattle.messages.specs.declared.request.Count.{Count}
 use Rattle.messages.specs.View.{token_view}
-use Rattle.scripts.specs.declared.request.ScriptRequest.{ScriptRequest}
-use Rattle.scripts.specs.declared.request.ScriptRequest.TheVariants as request
-use Rattle.scripts.specs.declared.line.Peer.{Peer}
-use Rattle.scripts.specs.declared.line.Amount.{Amount}
-use Rattle.scripts.specs.declared.line.Times.{Times}
-use Rattle.scripts.specs.declared.line.Line.{Line}
-use Rattle.scripts.specs.declared.line.Line.TheVariants as line
+use Rattle.cli_scripts.specs.declared.request.ScriptRequest.{ScriptRequest}
+use Rattle.cli_scripts.specs.declared.request.ScriptRequest.TheVariants as request
+use Rattle.cli_scripts.specs.declared.line.Peer.{Peer}
+use Rattle.cli_scripts.specs.declared.line.Amount.{Amount}
+use Rattle.cli_scripts.specs.declared.line.Times.{Times}
+use Rattle.cli_scripts.specs.declared.line.Line.{Line}
+use Rattle.cli_scripts.specs.declared.line.Line.TheVariants as line
 
 -- the bytes of a text
 abbrev pub Text : Type 0

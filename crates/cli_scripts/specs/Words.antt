@@ -9,7 +9,7 @@ use Rattle.std.specs.Str.Parse.{digits_value, starts_with_minus}
 use Rattle.hex.specs.Hex.{decode_of}
 use Rattle.messages.specs.declared.request.Count.{Count}
 use Rattle.messages.specs.declared.request.Count.TheVariants.{All, Of}
-use Rattle.scripts.specs.Views.{Text}
+use Rattle.cli_scripts.specs.Views.{Text}
 
 -- parted by one blank each
 abbrev pub parts_of : Text → List Text

@@ -2,10 +2,10 @@
 ghost use Rattle.std.specs.Prelude.{◌≡◌, ◌∷◌, map, codes, if◌then◌else◌};
 ghost use Rattle.std.specs.Option.{option_map};
 ghost use Rattle.std.specs.Str.{bytes_eq};
-ghost use Rattle.scripts.specs.declared.line.Times.TheVariants as times;
-ghost use Rattle.scripts.specs.Answers.{Gives};
-ghost use Rattle.scripts.specs.Rows.{request_of, peer_of, amount_of, at_one, at_two, at_more, opening_line, event_of};
-ghost use Rattle.scripts.specs.Views.{line_view, Submit, Work};
+ghost use Rattle.cli_scripts.specs.declared.line.Times.TheVariants as times;
+ghost use Rattle.cli_scripts.specs.Answers.{Gives};
+ghost use Rattle.cli_scripts.specs.Rows.{request_of, peer_of, amount_of, at_one, at_two, at_more, opening_line, event_of};
+ghost use Rattle.cli_scripts.specs.Views.{line_view, Submit, Work};
 
 use crate::fault::LineFault;
 use crate::line::{Amount, Line, Peer, Times};

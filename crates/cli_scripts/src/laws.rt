@@ -1,10 +1,10 @@
 //! What holds of lines, whatever reads them.
 ghost use Rattle.std.specs.Prelude.{◌≡◌, ◌↔◌, ℕ, List, Some};
 ghost use Rattle.packstream.specs.Plain.{AreBytes};
-ghost use Rattle.scripts.specs.Laws.{AreWords};
-ghost use Rattle.scripts.specs.Params.{IsParams, params_of};
-ghost use Rattle.scripts.specs.Views.{Params as AnyParams, Text as AnyText};
-ghost use Rattle.scripts.specs.Words.{words_of};
+ghost use Rattle.cli_scripts.specs.Laws.{AreWords};
+ghost use Rattle.cli_scripts.specs.Params.{IsParams, params_of};
+ghost use Rattle.cli_scripts.specs.Views.{Params as AnyParams, Text as AnyText};
+ghost use Rattle.cli_scripts.specs.Words.{words_of};
 
 /// The words of a line are those that one blank between each two joins to the line: none is empty, and none has a blank.
 pub fn words_are_joined()

@@ -1,8 +1,8 @@
 //! The messages that a script's requests stand for.
 ghost use Rattle.std.specs.Prelude.{◌≡◌, IfOk, codes};
 ghost use Rattle.messages.specs.View.{request_view, auth_view, auth_in, Hello};
-ghost use Rattle.scripts.specs.Meant.{meant, login, login_at};
-ghost use Rattle.scripts.specs.Views.{script_request_view};
+ghost use Rattle.cli_scripts.specs.Meant.{meant, login, login_at};
+ghost use Rattle.cli_scripts.specs.Views.{script_request_view};
 
 use crate::request::ScriptRequest;
 use messages::{Auth, Request};

@@ -1,9 +1,9 @@
 //! Parameters out of bytes.
 ghost use Rattle.std.specs.Result.{result_ok};
 ghost use Rattle.packstream.specs.Answers.{whole_of};
-ghost use Rattle.cells.specs.Shape.{shape, entries};
-ghost use Rattle.scripts.specs.Answers.{Gives};
-ghost use Rattle.scripts.specs.Params.{cell_at, cell_of, entries_in, params_of};
+ghost use Rattle.structures_cells.specs.Shape.{shape, entries};
+ghost use Rattle.cli_scripts.specs.Answers.{Gives};
+ghost use Rattle.cli_scripts.specs.Params.{cell_at, cell_of, entries_in, params_of};
 
 use crate::fault::LineFault;
 use packstream::{PackFault, Packed, decode};

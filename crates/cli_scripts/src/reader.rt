@@ -1,7 +1,7 @@
 //! Lines out of bytes.
-ghost use Rattle.scripts.specs.Answers.{Gives};
-ghost use Rattle.scripts.specs.Rows.{line_of, request_line_of};
-ghost use Rattle.scripts.specs.Views.{line_view, script_request_view};
+ghost use Rattle.cli_scripts.specs.Answers.{Gives};
+ghost use Rattle.cli_scripts.specs.Rows.{line_of, request_line_of};
+ghost use Rattle.cli_scripts.specs.Views.{line_view, script_request_view};
 
 use crate::events::event_of;
 use crate::fault::LineFault;

@@ -2,10 +2,10 @@
 ghost use Rattle.std.specs.Prelude.{◌∷◌, [], map};
 ghost use Rattle.std.specs.Option.{option_map};
 ghost use Rattle.messages.specs.View.{token_view};
-ghost use Rattle.scripts.specs.Answers.{Gives};
-ghost use Rattle.scripts.specs.Rows.{of_one, of_two, of_words, ending_of, run_of, request_of};
-ghost use Rattle.scripts.specs.Views.{script_request_view, Begin};
-ghost use Rattle.scripts.specs.Words.{whole_of, count_of};
+ghost use Rattle.cli_scripts.specs.Answers.{Gives};
+ghost use Rattle.cli_scripts.specs.Rows.{of_one, of_two, of_words, ending_of, run_of, request_of};
+ghost use Rattle.cli_scripts.specs.Views.{script_request_view, Begin};
+ghost use Rattle.cli_scripts.specs.Words.{whole_of, count_of};
 
 use crate::fault::LineFault;
 use crate::params::params_of;

@@ -1,7 +1,7 @@
 //! Whole scripts out of bytes.
 ghost use Rattle.std.specs.Prelude.{◌≡◌, map, IfOk};
-ghost use Rattle.scripts.specs.Rows.{line_of, request_line_of};
-ghost use Rattle.scripts.specs.Script.{lines, GivesAll, fault_at, said_lines, said_requests};
+ghost use Rattle.cli_scripts.specs.Rows.{line_of, request_line_of};
+ghost use Rattle.cli_scripts.specs.Script.{lines, GivesAll, fault_at, said_lines, said_requests};
 
 use crate::fault::{LineFault, ScriptFault};
 use crate::line::Line;

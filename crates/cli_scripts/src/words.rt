@@ -2,8 +2,8 @@
 ghost use Rattle.std.specs.Prelude.{◌≡◌, map, IfOk};
 ghost use Rattle.std.specs.List.{list_any};
 ghost use Rattle.std.specs.Str.{all_ascii_digits};
-ghost use Rattle.scripts.specs.Answers.{Gives};
-ghost use Rattle.scripts.specs.Words.{parts_of, is_empty, words_of, is_decimal, number_of, whole_of, without_minus, count_of, bytes_of};
+ghost use Rattle.cli_scripts.specs.Answers.{Gives};
+ghost use Rattle.cli_scripts.specs.Words.{parts_of, is_empty, words_of, is_decimal, number_of, whole_of, without_minus, count_of, bytes_of};
 
 use crate::fault::LineFault;
 use hex::FromHexError;

@@ -1,12 +1,12 @@
 -- A line that is written in parts.
 use Rattle.std.proofs.Common.{◌≡◌, sym, ◌∙◌, append_assoc, ℕ, Bool, List, [], ◌∷◌, ◌++◌, codes, Option}
 use Rattle.std.specs.Fmt.{decimal}
-use Rattle.session.specs.declared.kinds.Cause.{Cause}
-use Rattle.prints.specs.Names.{cause_code}
-use Rattle.prints.specs.Telling.{conn_line}
-use Rattle.prints.specs.Stopping.{Gets}
-use Rattle.prints.proofs.Gets.{gets_then}
-use Rattle.listening.specs.Reasons.{IsErrorOf}
+use Rattle.server_session.specs.declared.kinds.Cause.{Cause}
+use Rattle.cli_output.specs.Names.{cause_code}
+use Rattle.cli_output.specs.Telling.{conn_line}
+use Rattle.cli_output.specs.Stopping.{Gets}
+use Rattle.cli_output.proofs.Gets.{gets_then}
+use Rattle.cli_serve.specs.Reasons.{IsErrorOf}
 
 -- the line of a connection that has ended, by its five parts
 pub gets_line : (d1 d2 d3 d4 d5 d6 : Bool) (a b c d e f : Option (List ℕ)) (conn : ℕ) (cause : Cause)

@@ -1,5 +1,5 @@
 -- What is printed of an end.
-use Rattle.session.specs.declared.kinds.Cause.{Cause}
+use Rattle.server_session.specs.declared.kinds.Cause.{Cause}
 use Rattle.lines.specs.declared.line.Parting.{Parting}
 use Rattle.lines.specs.declared.line.Parting.TheVariants.{Whole, Cut}
 

@@ -1,9 +1,9 @@
 -- What is said of the reason for which a server over sockets ends.
 use Rattle.std.specs.Prelude.{◌≡◌, ◌⊎◌, ℕ, List, [], ◌∷◌, ◌++◌, codes}
 use Rattle.std.specs.Fmt.{decimal}
-use Rattle.prints.specs.Escaping.{escaped}
-use Rattle.listening.specs.declared.reasons.Reason.{Reason}
-use Rattle.listening.specs.declared.reasons.Reason.TheVariants as reason
+use Rattle.cli_output.specs.Escaping.{escaped}
+use Rattle.cli_serve.specs.declared.reasons.Reason.{Reason}
+use Rattle.cli_serve.specs.declared.reasons.Reason.TheVariants as reason
 
 -- the exit status of a reason: 3 for want of memory, else 1
 abbrev pub reason_status : Reason → ℕ

@@ -6,8 +6,8 @@ use Rattle.engine.specs.Views.{WriteView, ParameterView, EntryView, AnswerView, 
 use Rattle.engine.specs.Welcomes.{Welcome}
 use Rattle.server.specs.Serving.{Rest}
 use Rattle.server.specs.Running.{Event, after_events}
-use Rattle.listening.specs.declared.reasons.Reason.{Reason}
-use Rattle.listening.specs.declared.reasons.Reason.TheVariants.{Unbound, OutputFailed}
+use Rattle.cli_serve.specs.declared.reasons.Reason.{Reason}
+use Rattle.cli_serve.specs.declared.reasons.Reason.TheVariants.{Unbound, OutputFailed}
 
 -- the line of a port at which connections are taken
 abbrev pub listening_line : ℕ → List ℕ

@@ -7,5 +7,5 @@ mod serving;
 
 pub use hosts::Limits;
 pub use reasons::{Reason, put_reason};
+pub use server_tcp::Place;
 pub use serving::serve_at;
-pub use sockets::Place;

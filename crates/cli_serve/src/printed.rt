@@ -1,15 +1,15 @@
 //! The journal of a server, printed a line for each connection.
 ghost use Rattle.std.specs.Prelude.{◌≡◌, None, [], ◌∷◌};
 ghost use Rattle.std.specs.Fmt.{decimal};
-ghost use Rattle.prints.specs.Names.{cause_code};
-ghost use Rattle.prints.specs.Telling.{conn_line};
-ghost use Rattle.prints.specs.Stopping.{Gets};
+ghost use Rattle.cli_output.specs.Names.{cause_code};
+ghost use Rattle.cli_output.specs.Telling.{conn_line};
+ghost use Rattle.cli_output.specs.Stopping.{Gets};
 ghost use Rattle.hosts.specs.Running.{TellsMore};
-ghost use Rattle.listening.specs.Printing.{cause_of};
+ghost use Rattle.cli_serve.specs.Printing.{cause_of};
 
+use cli_output::{cause_code, tell};
 use hosts::{Journal, Parting};
 use itoa::Buffer;
-use prints::{cause_code, tell};
 use server::Cause;
 use std::io::Eprint;
 use streams::{Sink, write_all};

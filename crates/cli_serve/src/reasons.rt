@@ -1,10 +1,10 @@
 //! Why a server over sockets ends, and what is said of it.
 ghost use Rattle.std.specs.Prelude.{◌≡◌, ◌⊎◌, ◌↔◌, List, [], ℕ, IfOk, string_bytes};
 ghost use Rattle.std.specs.IoError.{error_kind};
-ghost use Rattle.prints.specs.Stopping.{Gets};
-ghost use Rattle.listening.specs.Reasons.{IsErrorOf, IsSaidOf, IsTold, fault_line, place_name, reason_status};
+ghost use Rattle.cli_output.specs.Stopping.{Gets};
+ghost use Rattle.cli_serve.specs.Reasons.{IsErrorOf, IsSaidOf, IsTold, fault_line, place_name, reason_status};
 
-use prints::{escape, put_fault};
+use cli_output::{escape, put_fault};
 use std::alloc::{AllocError, Global};
 use std::io;
 use std::io::ErrorKind;

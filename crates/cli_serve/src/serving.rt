@@ -3,14 +3,14 @@
 ghost use Rattle.std.specs.Prelude.{◌≡◌, [], true, IfOk, OnOk, IsErrOf, string_bytes};
 ghost use Rattle.std.specs.Io.KnownBytes.{Appends};
 ghost use Rattle.server.specs.Views.{rest_of};
-ghost use Rattle.listening.specs.Serving.{IsUnbound, Reaches, listening_line};
+ghost use Rattle.cli_serve.specs.Serving.{IsUnbound, Reaches, listening_line};
 
 use crate::printed::Printed;
 use crate::reasons::{Reason, unbound};
 use engine::{Engine, Gate};
 use hosts::{Limits, Stopped, serve};
 use server::Server;
-use sockets::{Network, Place};
+use server_tcp::{Network, Place};
 use std::alloc::{AllocError, Global};
 use std::io;
 use std::io::Eprint;

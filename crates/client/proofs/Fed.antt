@@ -4,7 +4,7 @@ use Rattle.wire.specs.declared.Version.{Version}
 use Rattle.wire.specs.declared.Wish.{Wish}
 use Rattle.wire.specs.Prelude.{Took, state, takes, Item, Opened, at_client}
 use Rattle.messages.specs.Prelude.{RequestView, Heard, hears}
-use Rattle.inbox.proofs.Arriving.{rest_then}
+use Rattle.messages_deframer.proofs.Arriving.{rest_then}
 use Rattle.client.specs.declared.faults.ClientFault.TheVariants as client_fault
 use Rattle.client.specs.Prelude.{Knows, Rest, Fed, heard_as, fed_item, fed_open, feed_of, Reading, knows_of, hear, reading, reading_of, tellings_in}
 use Rattle.client.proofs.Steps.{hear_knows, item_tells}

@@ -5,9 +5,9 @@ use Rattle.std.proofs.lemmas.List.{drop_more}
 use Rattle.wire.specs.declared.Version.{Version}
 use Rattle.wire.specs.Prelude.{versions, version_answer, Unfinished, Opened}
 use Rattle.messages.specs.Prelude.{Chosen, Strange, heard_among, heard_version}
-use Rattle.inbox.specs.Taking.{WantsRoom as ChunksWant}
-use Rattle.inbox.specs.Opening.{come}
-use Rattle.inbox.proofs.Opening.{come_open}
+use Rattle.messages_deframer.specs.Taking.{WantsRoom as ChunksWant}
+use Rattle.messages_deframer.specs.Opening.{come}
+use Rattle.messages_deframer.proofs.Opening.{come_open}
 use Rattle.client.specs.declared.version_answer.Opening.{Opening}
 use Rattle.client.specs.Prelude.{held_bytes, WantsRoom, plain}
 

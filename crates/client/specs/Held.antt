@@ -2,8 +2,8 @@
 use Rattle.std.specs.Prelude.{◌≡◌, ℕ, Bool, true, false, List, length}
 use Rattle.wire.specs.Items.{answer_to, wants_room}
 use Rattle.wire.specs.Framing.{Opened, opening, reading}
-use Rattle.reader.specs.Piecewise.{MayGoOn}
-use Rattle.inbox.specs.Opening.{come, data_of}
+use Rattle.packstream_incremental.specs.Piecewise.{MayGoOn}
+use Rattle.messages_deframer.specs.Opening.{come, data_of}
 use Rattle.client.specs.declared.stream.Stream.{Stream}
 use Rattle.client.specs.Answers.{held_bytes}
 

@@ -2,7 +2,7 @@
 
 ghost use Rattle.std.specs.Prelude.{◌≡◌, List, true, map, drop, Err};
 ghost use Rattle.packstream.specs.Tree.{Tree};
-ghost use Rattle.cells.specs.Shape.{shapes};
+ghost use Rattle.structures_cells.specs.Shape.{shapes};
 ghost use Rattle.messages.specs.View.{request_view, response_view, ResponseView};
 ghost use Rattle.messages.specs.Arrivals.{Heard as AnyHeard};
 ghost use Rattle.client.specs.Verdicts.{resets};

@@ -7,13 +7,13 @@ ghost use Rattle.messages.specs.View.{response_view};
 ghost use Rattle.messages.specs.Reading.{Answers};
 ghost use Rattle.messages.specs.Messages.{response_of};
 ghost use Rattle.messages.specs.Arrivals.{heard_version};
-ghost use Rattle.inbox.specs.Taking.{Brings};
+ghost use Rattle.messages_deframer.specs.Taking.{Brings};
 ghost use Rattle.client.specs.Answers.{held_bytes};
 ghost use Rattle.client.specs.Hearings.{came_as, came_in};
 
 use crate::version_answer::Opening;
-use inbox::Brought;
 use messages::Response;
+use messages_deframer::Brought;
 use wire::Version;
 
 /// What ended with the last byte that was used.

@@ -6,8 +6,8 @@ ghost use Rattle.wire.specs.Unfinished.{fresh};
 use crate::data::{Came, Taken, answer_of, came_of};
 use crate::faults::ClientFault;
 use crate::version_answer::{LENGTH, Opening};
-use inbox::Inbox;
 use messages::Response;
+use messages_deframer::Inbox;
 use std::alloc::Global;
 use wire::Version;
 

@@ -11,11 +11,11 @@ use Rattle.streams.specs.declared.fault.StreamFault.{StreamFault}
 use Rattle.streams.specs.declared.fault.StreamFault.TheVariants as stream_fault
 use Rattle.streams.specs.Prelude.{Grows, UnlessTold}
 use Rattle.wire.specs.Prelude.{at_client, outputs}
-use Rattle.asks.specs.Prelude.{SourceView, SinkView, GivesBytes, PutsBytes, hears_all, after_all, FeedsPiece, HearsPiece, IsAwaited, IsNeeded, ReadsEnd, ReadsOn, ReadsPiece, ReadsAll, Writes, Asks, Tale, all_answered, GivesUp}
+use Rattle.client_blocking.specs.Prelude.{SourceView, SinkView, GivesBytes, PutsBytes, hears_all, after_all, FeedsPiece, HearsPiece, IsAwaited, IsNeeded, ReadsEnd, ReadsOn, ReadsPiece, ReadsAll, Writes, Asks, Tale, all_answered, GivesUp}
 use Rattle.streams.proofs.Parts.{take_short}
-use Rattle.asks.proofs.Views.{gives_nil, gives_trans}
+use Rattle.client_blocking.proofs.Views.{gives_nil, gives_trans}
 use Rattle.std.proofs.lemmas.List.{append_cancel_left}
-use Rattle.asks.proofs.Tales.{over_tale, hears_all-append, after_all-append, notes_then}
+use Rattle.client_blocking.proofs.Tales.{over_tale, hears_all-append, after_all-append, notes_then}
 
 -- After as many bytes as the output has were taken out, nothing of it is left.
 pub all_sent : (xs out : List ℕ) (n : ℕ) → out ≡ xs → n ≡ length out → (IsSo : List ℕ → Type 0) → IsSo out → IsSo xs × (drop n xs ≡ [])

@@ -9,7 +9,7 @@ use Rattle.client.specs.declared.ClientFault.{ClientFault}
 use Rattle.client.specs.declared.ClientFault.TheVariants as client_fault
 use Rattle.client.specs.Prelude.{Knows, Hearing, hears_item, heard_as, Note, Nothing, note_of, Rest, Fed, feed_of, fed_item, fed_open, note, note_result, UnlessMemory}
 use Rattle.client.proofs.Makes.{makes, spoiled_over}
-use Rattle.asks.specs.Prelude.{notes_by, notes_of, Tale, after_notes, tale_of, hears_all, after_all, has_ended, FeedsPiece, PartFed}
+use Rattle.client_blocking.specs.Prelude.{notes_by, notes_of, Tale, after_notes, tale_of, hears_all, after_all, has_ended, FeedsPiece, PartFed}
 use Rattle.streams.proofs.Parts.{fed_more}
 
 -- nothing is heard after the end

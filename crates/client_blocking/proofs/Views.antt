@@ -3,7 +3,7 @@ use Rattle.std.proofs.Common.{◌≡◌, ℕ, List, [], ◌++◌}
 use Rattle.std.specs.Io.KnownBytes.{Keeps}
 use Rattle.std.proofs.KnownBytes.{Consumes-kept, Consumes-nil, Consumes-trans}
 use Rattle.streams.proofs.Moving.{Grows-kept, Grows-nil, Grows-trans}
-use Rattle.asks.specs.Prelude.{SourceView, GivesBytes}
+use Rattle.client_blocking.specs.Prelude.{SourceView, GivesBytes}
 
 pub gives_nil : (a : SourceView) → GivesBytes a a []
 gives_nil a = record { grows = Grows-nil a.given; known = Consumes-nil a.left }

@@ -12,7 +12,7 @@ use Rattle.client.specs.Rest.{Knows, Hearing, Note, Nothing, Chose, Row, Summary
 use Rattle.streams.specs.declared.fault.StreamFault.{StreamFault}
 use Rattle.streams.specs.declared.fault.StreamFault.TheVariants as stream_fault
 use Rattle.streams.specs.Limits.{max_piece}
-use Rattle.asks.specs.Views.{SourceView, SinkView, GivesBytes, PutsBytes, PutsFront}
+use Rattle.client_blocking.specs.Views.{SourceView, SinkView, GivesBytes, PutsBytes, PutsFront}
 
 -- a note as it is kept: a no-op has none
 abbrev pub notes_by : Note → List Note

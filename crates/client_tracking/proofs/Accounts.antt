@@ -13,11 +13,11 @@ use Rattle.client.specs.declared.SubmitFault.{SubmitFault}
 use Rattle.client.specs.Prelude.{Told, Got, GotRow, Note, Nothing, Chose, Row, Summary, note_of, Knows, Rest, Hearing, heard_as, Fed, fed_item, fed_open, feed_of, refuses, losses, reading_of, knows_of, Submits, Feeds, TakesOut, Loses, Run, submits, used_of, tellings, tellings_in, call, IsByBytes}
 use Rattle.client.proofs.Makes.{Makes, makes, spoils, turns_away, takes_version, tells_none, tells_row, tells_summary}
 use Rattle.client.proofs.Runs.{Holds, calls_hold, starts_hold}
-use Rattle.driver.specs.Account.{Account, ReplyView, keeps_row, with_row, with_note, with_losses, reply_in, outcome_lost, outcome_of, without_rows, taken_or}
-use Rattle.driver.specs.Feeding.{is_full, Tracked, with_answer, used_by}
-use Rattle.driver.specs.declared.faults.FeedFault.TheVariants as feed_fault
-use Rattle.driver.specs.Attempts.{outcome_heard, told_of}
-use Rattle.driver.specs.Runs.{TrackedCall, Asks, Hears, Sends, TakesRows, IsLost, TrackedRun, tracking, tracked_call, tracked_calls, attempt_of, AccountsByBytes}
+use Rattle.client_tracking.specs.Account.{Account, ReplyView, keeps_row, with_row, with_note, with_losses, reply_in, outcome_lost, outcome_of, without_rows, taken_or}
+use Rattle.client_tracking.specs.Feeding.{is_full, Tracked, with_answer, used_by}
+use Rattle.client_tracking.specs.declared.faults.FeedFault.TheVariants as feed_fault
+use Rattle.client_tracking.specs.Attempts.{outcome_heard, told_of}
+use Rattle.client_tracking.specs.Runs.{TrackedCall, Asks, Hears, Sends, TakesRows, IsLost, TrackedRun, tracking, tracked_call, tracked_calls, attempt_of, AccountsByBytes}
 
 -- A summary is of the first that waits, and then the next is the first; else none is answered.
 abbrev pub NoteStep : ℕ → Note → ℕ → Type 0

@@ -11,8 +11,8 @@ use Rattle.client.specs.Prelude.{Knows, Hearing, Reading, knows_of, losses, loss
 use Rattle.client.specs.Client.{reading, hear, and_told}
 use Rattle.client.proofs.Later.{reading_count}
 use Rattle.client.proofs.Makes.{Makes, makes, spoils, turns_away, takes_version, tells_none, tells_row, tells_summary}
-use Rattle.driver.specs.Account.{outcome_lost}
-use Rattle.driver.specs.Attempts.{Attempt, read, outcome_heard, told_of}
+use Rattle.client_tracking.specs.Account.{outcome_lost}
+use Rattle.client_tracking.specs.Attempts.{Attempt, read, outcome_heard, told_of}
 
 module _ (wish : Wish) (sent : List RequestView) (i : ℕ) where
   step : (r : Reading) (k : Knows) (x : Heard) (h : Hearing) → k.first ≡ r.count → Makes wish k x h → (r.count ≤ i → outcome_heard i r.told ≡ None) → h.knows.first ≤ i → outcome_heard i (and_told h.tells r.told) ≡ None

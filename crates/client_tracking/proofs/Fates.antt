@@ -1,11 +1,11 @@
 -- What was told so far, and what is known by one more.
 use Rattle.std.proofs.Common.{◌≡◌, refl, sym, ◌∙◌, ap, ℕ, suc, ◌+◌, ◌-◌, ◌<◌, ◌≤◌, Bool, true, false, Some, List, [], ◌∷◌, ◌++◌, append_assoc, append-nil, arith}
-use Rattle.driver.specs.declared.attempts.Tells.{Tells}
-use Rattle.driver.specs.declared.attempts.Tells.TheVariants as tells
-use Rattle.driver.specs.declared.attempts.Retry.{Retry}
-use Rattle.driver.specs.declared.attempts.Fate.{Fate}
-use Rattle.driver.specs.declared.attempts.Fate.TheVariants as fate
-use Rattle.driver.specs.Fates.{fate_of}
+use Rattle.client_tracking.specs.declared.attempts.Tells.{Tells}
+use Rattle.client_tracking.specs.declared.attempts.Tells.TheVariants as tells
+use Rattle.client_tracking.specs.declared.attempts.Retry.{Retry}
+use Rattle.client_tracking.specs.declared.attempts.Fate.{Fate}
+use Rattle.client_tracking.specs.declared.attempts.Fate.TheVariants as fate
+use Rattle.client_tracking.specs.Fates.{fate_of}
 
 -- what is known by what the next tells, whatever was doubtful
 pub stands : (r : Retry) (d : Bool) (n : ℕ) → fate_of r d (suc n) (tells.Stands ∷ []) ≡ Some fate.Stands

@@ -6,10 +6,10 @@ use Rattle.packstream.specs.Tree.{Tree}
 use Rattle.client.specs.declared.ClientFault.{ClientFault}
 use Rattle.client.specs.declared.Outcome.{Outcome}
 use Rattle.client.specs.Prelude.{Note, Nothing, Chose, Row, Summary, feed_of, losses}
-use Rattle.driver.specs.Account.{Account, ReplyView, keeps_row, with_row, with_note, with_losses, reply_in, without_rows, taken_or}
-use Rattle.driver.specs.Feeding.{is_full, Tracked, with_answer, used_by}
-use Rattle.driver.specs.declared.faults.FeedFault.TheVariants as feed_fault
-use Rattle.driver.specs.Runs.{TrackedCall, Asks, Hears, Sends, TakesRows, IsLost, TrackedRun, tracking, tracked_call, tracked_calls, FewRows, KeepsFewRows}
+use Rattle.client_tracking.specs.Account.{Account, ReplyView, keeps_row, with_row, with_note, with_losses, reply_in, without_rows, taken_or}
+use Rattle.client_tracking.specs.Feeding.{is_full, Tracked, with_answer, used_by}
+use Rattle.client_tracking.specs.declared.faults.FeedFault.TheVariants as feed_fault
+use Rattle.client_tracking.specs.Runs.{TrackedCall, Asks, Hears, Sends, TakesRows, IsLost, TrackedRun, tracking, tracked_call, tracked_calls, FewRows, KeepsFewRows}
 
 pub record Few (limit : ℕ) (a : Account) : Type 0 where
   pub named : a.limit ≡ limit

@@ -11,11 +11,11 @@ use Rattle.client.specs.declared.ClientFault.{ClientFault}
 use Rattle.client.specs.declared.SubmitFault.{SubmitFault}
 use Rattle.client.specs.declared.Outcome.{Outcome}
 use Rattle.client.specs.Prelude.{Told, Got, GotRow, Note, Nothing, Chose, Row, Summary, feed_of, refuses, losses, tellings, tellings_in, submits, Feeds, Run, call}
-use Rattle.driver.specs.declared.faults.FeedFault.TheVariants as feed_fault
-use Rattle.driver.specs.Account.{Account, ReplyView, keeps_row, one_more, with_row, with_summary, with_note, with_losses, reply_in, rows_or, rows_of}
-use Rattle.driver.specs.Feeding.{is_full, Tracked, with_answer, used_by}
-use Rattle.driver.specs.Runs.{TrackedCall, Asks, Hears, Sends, TakesRows, IsLost, TrackedRun, tracking, tracked_call, tracked_calls, NoneTaken, summaries_in, rows_told, HoldsItsRows}
-use Rattle.driver.proofs.Accounts.{NoteStep, Step, feed_step}
+use Rattle.client_tracking.specs.declared.faults.FeedFault.TheVariants as feed_fault
+use Rattle.client_tracking.specs.Account.{Account, ReplyView, keeps_row, one_more, with_row, with_summary, with_note, with_losses, reply_in, rows_or, rows_of}
+use Rattle.client_tracking.specs.Feeding.{is_full, Tracked, with_answer, used_by}
+use Rattle.client_tracking.specs.Runs.{TrackedCall, Asks, Hears, Sends, TakesRows, IsLost, TrackedRun, tracking, tracked_call, tracked_calls, NoneTaken, summaries_in, rows_told, HoldsItsRows}
+use Rattle.client_tracking.proofs.Accounts.{NoteStep, Step, feed_step}
 
 -- a reply more
 reply_first : (i : ℕ) (x r : ReplyView) (rs : List ReplyView) → reply_in i (rs ++ r ∷ []) ≡ option_or (reply_in i rs) (if r.ordinal == i then Some r else None) → (b : Bool)

@@ -7,9 +7,9 @@ use Rattle.messages.specs.Prelude.{Heard, RequestView}
 use Rattle.client.specs.declared.ClientFault.TheVariants as client_fault
 use Rattle.client.specs.Prelude.{note_of, Knows, Rest, Hearing, heard_as, Fed, fed_item, fed_open, feed_of}
 use Rattle.client.proofs.Makes.{Makes, makes, spoils, turns_away, takes_version, tells_none, tells_row, tells_summary}
-use Rattle.driver.specs.declared.faults.FeedFault.TheVariants as feed_fault
-use Rattle.driver.specs.Account.{Account}
-use Rattle.driver.specs.Feeding.{is_full, Tracked, with_answer, used_by, tracked_feed}
+use Rattle.client_tracking.specs.declared.faults.FeedFault.TheVariants as feed_fault
+use Rattle.client_tracking.specs.Account.{Account}
+use Rattle.client_tracking.specs.Feeding.{is_full, Tracked, with_answer, used_by, tracked_feed}
 
 made_idle : (a : Account) (wish : Wish) (k : Knows) (used : ℕ) (x : Heard) (h : Hearing) → Makes wish k x h → k.waiting ≡ [] → with_answer a (if h.bad then Err client_fault.BadPeer else Ok (used, note_of x h)) ≡ a
 made_idle a wish k used x h (spoils y) e = refl

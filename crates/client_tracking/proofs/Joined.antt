@@ -1,12 +1,12 @@
 -- What an account tells is what the attempt tells.
 use Rattle.std.proofs.Common.{◌≡◌, refl, ap₂, ℕ, zero, suc, Bool, not, ◌&&◌, if◌then◌else◌, Option, length}
 use Rattle.client.specs.declared.Outcome.{Outcome}
-use Rattle.driver.specs.declared.attempts.Tells.{Tells}
-use Rattle.driver.specs.Account.{outcome_of, failure_of}
-use Rattle.driver.specs.Telling.{adds_nothing, is_committed, is_refused, all_nothing, is_clash, any_final, tells_by}
-use Rattle.driver.specs.Attempts.{told_of}
-use Rattle.driver.specs.Runs.{tracking, tracked_calls, attempt_of, AccountTells}
-use Rattle.driver.proofs.Accounts.{accounts_by_bytes}
+use Rattle.client_tracking.specs.declared.attempts.Tells.{Tells}
+use Rattle.client_tracking.specs.Account.{outcome_of, failure_of}
+use Rattle.client_tracking.specs.Telling.{adds_nothing, is_committed, is_refused, all_nothing, is_clash, any_final, tells_by}
+use Rattle.client_tracking.specs.Attempts.{told_of}
+use Rattle.client_tracking.specs.Runs.{tracking, tracked_calls, attempt_of, AccountTells}
+use Rattle.client_tracking.proofs.Accounts.{accounts_by_bytes}
 
 abbrev by_tests : Bool → Bool → Bool → Bool → Tells
 by_tests c k a r = if c then Tells.Stands else (if k then Tells.Clash else (if not a then Tells.Doubt else (if r then Tells.Refused else Tells.Nothing)))

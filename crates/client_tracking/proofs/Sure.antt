@@ -1,9 +1,9 @@
 -- What each fate says of what was told.
 use Rattle.std.proofs.Common.{◌≡◌, refl, ap, subst, ℕ, zero, suc, Bool, true, false, Some, List, [], ◌∷◌, length, arith}
-use Rattle.driver.specs.declared.attempts.Tells.{Tells}
-use Rattle.driver.specs.declared.attempts.Retry.{Retry}
-use Rattle.driver.specs.declared.attempts.Fate.{Fate}
-use Rattle.driver.specs.Fates.{fate_of, AllOpen, AllNothing, EndsWith, Says, FatesSay}
+use Rattle.client_tracking.specs.declared.attempts.Tells.{Tells}
+use Rattle.client_tracking.specs.declared.attempts.Retry.{Retry}
+use Rattle.client_tracking.specs.declared.attempts.Fate.{Fate}
+use Rattle.client_tracking.specs.Fates.{fate_of, AllOpen, AllNothing, EndsWith, Says, FatesSay}
 
 -- The meaning of each fate under Tokens; true: after an attempt that may have committed.
 abbrev Known : Bool → ℕ → List Tells → Fate → Type 0

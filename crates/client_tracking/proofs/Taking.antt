@@ -5,9 +5,9 @@ use Rattle.std.proofs.lemmas.List.{take_all}
 use Rattle.wire.specs.declared.Version.{Version}
 use Rattle.messages.specs.Prelude.{RequestView}
 use Rattle.client.specs.Prelude.{Knows, losses, losses_from}
-use Rattle.driver.specs.declared.replies.Reply.{Reply}
-use Rattle.driver.specs.Holding.{reply_view}
-use Rattle.driver.specs.Account.{Account, ReplyView, reply_in, without_rows, with_losses, taken_or}
+use Rattle.client_tracking.specs.declared.replies.Reply.{Reply}
+use Rattle.client_tracking.specs.Holding.{reply_view}
+use Rattle.client_tracking.specs.Account.{Account, ReplyView, reply_in, without_rows, with_losses, taken_or}
 
 -- each has another ordinal
 abbrev pub AllOther : ℕ → List ReplyView → Type 0

@@ -7,8 +7,8 @@ use Rattle.client.specs.declared.SubmitFault.{SubmitFault}
 use Rattle.client.specs.declared.SubmitFault.TheVariants as submit_fault
 use Rattle.client.specs.Rest.{Rest, refuses, after_submit}
 use Rattle.client.specs.Fits.{IsAccepted}
-use Rattle.driver.specs.declared.requests.Rows.{Rows}
-use Rattle.driver.specs.declared.requests.Rows.TheVariants as rows
+use Rattle.client_tracking.specs.declared.requests.Rows.{Rows}
+use Rattle.client_tracking.specs.declared.requests.Rows.TheVariants as rows
 
 -- A request was asked: it is accepted with this ordinal, or refused, and nothing has changed; want of memory aside by its first fault.
 abbrev pub Asks : Rest → Rest → RequestView → Result ℕ SubmitFault → Type 0

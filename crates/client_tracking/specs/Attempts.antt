@@ -7,10 +7,10 @@ use Rattle.client.specs.declared.Outcome.{Outcome}
 use Rattle.client.specs.Verdicts.{Told, GotRow, Got}
 use Rattle.client.specs.Rest.{losses}
 use Rattle.client.specs.Client.{Reading, knows_of, reading_of}
-use Rattle.driver.specs.declared.attempts.Tells.{Tells}
-use Rattle.driver.specs.declared.attempts.Tells.TheVariants as tells_variant
-use Rattle.driver.specs.Account.{outcome_lost}
-use Rattle.driver.specs.Telling.{tells_by}
+use Rattle.client_tracking.specs.declared.attempts.Tells.{Tells}
+use Rattle.client_tracking.specs.declared.attempts.Tells.TheVariants as tells_variant
+use Rattle.client_tracking.specs.Account.{outcome_lost}
+use Rattle.client_tracking.specs.Telling.{tells_by}
 
 -- what its client wished, the requests that it accepted, the bytes that it took, and whether it was lost
 pub record Attempt : Type 0 where

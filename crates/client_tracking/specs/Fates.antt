@@ -1,11 +1,11 @@
 -- What attempts under one token tell, one after the other, and what is known by them.
 use Rattle.std.specs.Prelude.{◌≡◌, ◌≤◌, ℕ, zero, suc, Bool, true, false, if◌then◌else◌, Option, Some, None, List, [], ◌∷◌, ◌++◌, length}
-use Rattle.driver.specs.declared.attempts.Tells.{Tells}
-use Rattle.driver.specs.declared.attempts.Tells.TheVariants as tells
-use Rattle.driver.specs.declared.attempts.Retry.{Retry}
-use Rattle.driver.specs.declared.attempts.Retry.TheVariants as retry
-use Rattle.driver.specs.declared.attempts.Fate.{Fate}
-use Rattle.driver.specs.declared.attempts.Fate.TheVariants as fate
+use Rattle.client_tracking.specs.declared.attempts.Tells.{Tells}
+use Rattle.client_tracking.specs.declared.attempts.Tells.TheVariants as tells
+use Rattle.client_tracking.specs.declared.attempts.Retry.{Retry}
+use Rattle.client_tracking.specs.declared.attempts.Retry.TheVariants as retry
+use Rattle.client_tracking.specs.declared.attempts.Fate.{Fate}
+use Rattle.client_tracking.specs.declared.attempts.Fate.TheVariants as fate
 
 -- The fate after at most so many tries, if these are all the attempts: none of them follows one that decides it, nor, under Never, a doubt.
 -- doubtful: an attempt before them may have committed.

@@ -2,14 +2,14 @@
 use Rattle.std.specs.Prelude.{map, List, Vec}
 use Rattle.std.specs.declared.alloc.Global.{Global}
 use Rattle.packstream.specs.Tree.{Tree}
-use Rattle.cells.specs.Shape.{shapes}
+use Rattle.structures_cells.specs.Shape.{shapes}
 use Rattle.messages.specs.View.{response_view}
 use Rattle.client.specs.Rest.{Rest}
 use Rattle.client.specs.Fits.{rest_of}
 use Rattle.structures.specs.declared.Cell.{Cell}
-use Rattle.driver.specs.declared.replies.Reply.{Reply}
-use Rattle.driver.specs.declared.tracking.TrackingClient.{TrackingClient}
-use Rattle.driver.specs.Account.{Account, ReplyView}
+use Rattle.client_tracking.specs.declared.replies.Reply.{Reply}
+use Rattle.client_tracking.specs.declared.tracking.TrackingClient.{TrackingClient}
+use Rattle.client_tracking.specs.Account.{Account, ReplyView}
 
 -- a row by the trees of its cells
 abbrev pub row_view : Vec Cell Global → List Tree

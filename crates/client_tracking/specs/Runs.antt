@@ -6,10 +6,10 @@ use Rattle.messages.specs.View.{RequestView}
 use Rattle.client.specs.Verdicts.{Told, GotRow, Got}
 use Rattle.client.specs.Rest.{losses}
 use Rattle.client.specs.Moments.{Run, Submits, Feeds, TakesOut, Loses, starts, call}
-use Rattle.driver.specs.Account.{Account, ReplyView, untold, with_losses, rows_taken, rows_of, outcome_of, failure_of}
-use Rattle.driver.specs.Feeding.{is_full, tracked_feed}
-use Rattle.driver.specs.Telling.{is_clash, any_final, tells_of}
-use Rattle.driver.specs.Attempts.{Attempt, told_of, tells}
+use Rattle.client_tracking.specs.Account.{Account, ReplyView, untold, with_losses, rows_taken, rows_of, outcome_of, failure_of}
+use Rattle.client_tracking.specs.Feeding.{is_full, tracked_feed}
+use Rattle.client_tracking.specs.Telling.{is_clash, any_final, tells_of}
+use Rattle.client_tracking.specs.Attempts.{Attempt, told_of, tells}
 
 -- one call: a request, a piece, how many bytes may be taken out, the rows of a request, or the loss
 pub data TrackedCall : Type 0 where

@@ -4,9 +4,9 @@ use Rattle.std.specs.List.{starts_with}
 use Rattle.std.specs.Str.{bytes_eq}
 use Rattle.client.specs.declared.Outcome.{Outcome}
 use Rattle.client.specs.declared.Outcome.TheVariants as outcome
-use Rattle.driver.specs.declared.attempts.Tells.{Tells}
-use Rattle.driver.specs.declared.attempts.Tells.TheVariants as tells
-use Rattle.driver.specs.Account.{Account, outcome_of, failure_of}
+use Rattle.client_tracking.specs.declared.attempts.Tells.{Tells}
+use Rattle.client_tracking.specs.declared.attempts.Tells.TheVariants as tells
+use Rattle.client_tracking.specs.Account.{Account, outcome_of, failure_of}
 
 -- an outcome that says for sure that nothing was committed
 abbrev pub adds_nothing : Option Outcome → Bool

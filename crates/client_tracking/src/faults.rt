@@ -1,6 +1,6 @@
 //! Why a tracking client takes no bytes.
 ghost use Rattle.std.specs.Prelude.{◌≡◌};
-ghost use Rattle.driver.specs.Feeding.{fault_of};
+ghost use Rattle.client_tracking.specs.Feeding.{fault_of};
 
 use client::ClientFault;
 use thiserror::Error;

@@ -1,7 +1,7 @@
 //! Laws on the definitions, for callers to rely on. Each function has an empty body, and its contract is the law.
 
-ghost use Rattle.driver.specs.Fates.{FatesSay};
-ghost use Rattle.driver.specs.Runs.{AccountsByBytes, AccountTells, HoldsItsRows, KeepsFewRows};
+ghost use Rattle.client_tracking.specs.Fates.{FatesSay};
+ghost use Rattle.client_tracking.specs.Runs.{AccountsByBytes, AccountTells, HoldsItsRows, KeepsFewRows};
 
 /// Over every list of calls, whatever the server sends and however its bytes are cut: what the account says of each request is a function
 /// of the wish, of the requests that were accepted, of the bytes that were taken, and of the loss.

@@ -1,8 +1,8 @@
 //! What is known of each request.
 ghost use Rattle.std.specs.Prelude.{◌≡◌, map, option_map, ◌<◌};
 ghost use Rattle.messages.specs.View.{response_view};
-ghost use Rattle.driver.specs.Account.{reply_in, outcome_lost, outcome_of, response_of, failure_in, failure_of, rows_of, left_of, rows_taken, without_rows};
-ghost use Rattle.driver.specs.Holding.{reply_view, row_view, rest_in, account_of};
+ghost use Rattle.client_tracking.specs.Account.{reply_in, outcome_lost, outcome_of, response_of, failure_in, failure_of, rows_of, left_of, rows_taken, without_rows};
+ghost use Rattle.client_tracking.specs.Holding.{reply_view, row_view, rest_in, account_of};
 
 use crate::tracking::TrackingClient;
 use client::Outcome;

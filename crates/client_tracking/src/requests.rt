@@ -1,9 +1,9 @@
 //! The requests of a caller, by what they ask.
 ghost use Rattle.std.specs.Prelude.{◌≡◌, string_bytes};
-ghost use Rattle.cells.specs.Shape.{entries};
+ghost use Rattle.structures_cells.specs.Shape.{entries};
 ghost use Rattle.messages.specs.View.{RequestView, request_view, auth_view, token_view};
-ghost use Rattle.driver.specs.Holding.{rest_in, account_of};
-ghost use Rattle.driver.specs.Asking.{Asks, AsksBoth, AsksLogin, is_login_in_hello, rows_view};
+ghost use Rattle.client_tracking.specs.Holding.{rest_in, account_of};
+ghost use Rattle.client_tracking.specs.Asking.{Asks, AsksBoth, AsksLogin, is_login_in_hello, rows_view};
 
 use crate::tracking::TrackingClient;
 use client::SubmitFault;

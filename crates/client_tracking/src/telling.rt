@@ -1,8 +1,8 @@
 //! What an attempt tells, by the outcomes of its requests.
 ghost use Rattle.std.specs.Prelude.{◌≡◌};
-ghost use Rattle.driver.specs.Account.{outcome_of, failure_of};
-ghost use Rattle.driver.specs.Telling.{adds_nothing, is_committed, is_refused, all_nothing, is_clash, is_final, any_final, tells_of};
-ghost use Rattle.driver.specs.Holding.{account_of};
+ghost use Rattle.client_tracking.specs.Account.{outcome_of, failure_of};
+ghost use Rattle.client_tracking.specs.Telling.{adds_nothing, is_committed, is_refused, all_nothing, is_clash, is_final, any_final, tells_of};
+ghost use Rattle.client_tracking.specs.Holding.{account_of};
 
 use crate::attempts::Tells;
 use crate::tracking::TrackingClient;

@@ -6,9 +6,9 @@ ghost use Rattle.client.specs.Rest.{begun, refuses, refuses_at_once, after_submi
 ghost use Rattle.client.specs.Fits.{IsAccepted};
 ghost use Rattle.client.specs.Held.{is_too_large, WantsRoom};
 ghost use Rattle.machine.specs.Limits.{max_waiting};
-ghost use Rattle.driver.specs.Account.{untold, keeps_row, with_row, with_summary, with_losses, settled};
-ghost use Rattle.driver.specs.Feeding.{is_idle, is_full, used_by, tracked_feed, UnlessMemory};
-ghost use Rattle.driver.specs.Holding.{rest_in, account_of, row_view};
+ghost use Rattle.client_tracking.specs.Account.{untold, keeps_row, with_row, with_summary, with_losses, settled};
+ghost use Rattle.client_tracking.specs.Feeding.{is_idle, is_full, used_by, tracked_feed, UnlessMemory};
+ghost use Rattle.client_tracking.specs.Holding.{rest_in, account_of, row_view};
 
 use crate::faults::{FeedFault, fault_of};
 use crate::replies::Reply;

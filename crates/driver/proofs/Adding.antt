@@ -5,8 +5,8 @@ use Rattle.std.proofs.Math.Seq.{take-suc}
 use Rattle.messages.specs.declared.Mode.{Mode}
 use Rattle.messages.specs.declared.Request.{Request}
 use Rattle.messages.specs.Prelude.{RequestView, request_view}
-use Rattle.connects.specs.declared.queries.Query.{Query}
-use Rattle.connects.specs.Prelude.{QueryView, query_view, query_run, asks_of}
+use Rattle.driver.specs.declared.queries.Query.{Query}
+use Rattle.driver.specs.Prelude.{QueryView, query_view, query_run, asks_of}
 
 asks_more : (mode : Mode) (rows : RequestView) (qs : List QueryView) (q : QueryView) → asks_of mode rows (qs ++ q ∷ []) ≡ asks_of mode rows qs ++ query_run mode q ∷ rows ∷ []
 asks_more mode rows [] q = refl

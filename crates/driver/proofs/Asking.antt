@@ -8,12 +8,12 @@ use Rattle.client.specs.declared.SubmitFault.{SubmitFault}
 use Rattle.client.specs.Prelude.{Knows, Rest, refuses, after_submit, submits, has_room}
 use Rattle.client.specs.Rest.{next_ordinal}
 use Rattle.client.proofs.Refusing.{accepted_facts}
-use Rattle.driver.specs.Runs.{Asks, TrackedRun, tracked_call}
-use Rattle.connects.specs.declared.breaks.Break.{Break}
-use Rattle.connects.specs.declared.faults.Fault.{Fault}
-use Rattle.connects.specs.declared.faults.Fault.TheVariants as fault
-use Rattle.connects.specs.Prelude.{Stand, stand_in, GoesOn, Leads, Place, place, Exchanges, or_undone, first_undone, Told, fresh, given_up, Sent, IsNotSent, Says, asked_stand, asked_all, AcceptsEach, StopsAt, AsksAll, greeting}
-use Rattle.connects.proofs.Reading.{stand_is}
+use Rattle.client_tracking.specs.Runs.{Asks, TrackedRun, tracked_call}
+use Rattle.driver.specs.declared.breaks.Break.{Break}
+use Rattle.driver.specs.declared.faults.Fault.{Fault}
+use Rattle.driver.specs.declared.faults.Fault.TheVariants as fault
+use Rattle.driver.specs.Prelude.{Stand, stand_in, GoesOn, Leads, Place, place, Exchanges, or_undone, first_undone, Told, fresh, given_up, Sent, IsNotSent, Says, asked_stand, asked_all, AcceptsEach, StopsAt, AsksAll, greeting}
+use Rattle.driver.proofs.Reading.{stand_is}
 
 pub asked_more : (s : Stand) (qs : List RequestView) (q : RequestView) → asked_all s (qs ++ q ∷ []) ≡ asked_stand (asked_all s qs) q
 asked_more s [] q = refl

@@ -3,7 +3,7 @@ use Rattle.std.proofs.Common.{◌≡◌, refl, sym, ◌∙◌, ap, ℕ, zero, su
 use Rattle.std.proofs.lemmas.Bool.{cond-false}
 use Rattle.std.proofs.lemmas.List.{drop_all}
 use Rattle.structures.specs.declared.Cell.{Cell}
-use Rattle.connects.specs.Values.{is_text, column}
+use Rattle.driver.specs.Values.{is_text, column}
 
 next_suc : (name : List ℕ) (fs cs : List Cell) (i : ℕ) (f : Cell) → i < length fs → i < length cs → f ≡ get_or fs i f → is_text name f ≡ false → column name (drop (suc i) fs) (drop (suc i) cs) ≡ column name (drop i fs) (drop i cs)
 next_suc name [] cs i f l m e t = absurd (omega (arith, l))

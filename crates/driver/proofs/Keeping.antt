@@ -7,13 +7,13 @@ use Rattle.wire.specs.Prelude.{takes, at_client, Item}
 use Rattle.client.specs.declared.ClientFault.{ClientFault}
 use Rattle.client.specs.declared.ClientFault.TheVariants as client_fault
 use Rattle.client.specs.Prelude.{Rest, Fed, Note, Nothing, Chose, Row, Summary, feed_of, fed_item, fed_open, starts}
-use Rattle.driver.specs.declared.faults.FeedFault.TheVariants as feed_fault
-use Rattle.driver.specs.Account.{Account, ReplyView, with_note, keeps_row}
-use Rattle.driver.specs.Feeding.{is_full, Tracked, with_answer, used_by}
-use Rattle.driver.specs.Runs.{Hears as HearsPiece, TrackedRun, tracked_call, tracked_calls}
-use Rattle.connects.specs.declared.breaks.Break.{Break}
-use Rattle.connects.specs.Prelude.{Stand, stand_in, heard_stand, emptied_stand, Place, Hears, Exchanges}
-use Rattle.connects.proofs.Leading.{leads_hears}
+use Rattle.client_tracking.specs.declared.faults.FeedFault.TheVariants as feed_fault
+use Rattle.client_tracking.specs.Account.{Account, ReplyView, with_note, keeps_row}
+use Rattle.client_tracking.specs.Feeding.{is_full, Tracked, with_answer, used_by}
+use Rattle.client_tracking.specs.Runs.{Hears as HearsPiece, TrackedRun, tracked_call, tracked_calls}
+use Rattle.driver.specs.declared.breaks.Break.{Break}
+use Rattle.driver.specs.Prelude.{Stand, stand_in, heard_stand, emptied_stand, Place, Hears, Exchanges}
+use Rattle.driver.proofs.Leading.{leads_hears}
 
 -- Nothing more goes out, and what was told is told still.
 pub record Keeps (from to : Stand) : Type 0 where

@@ -6,11 +6,11 @@ use Rattle.messages.specs.Prelude.{RequestView}
 use Rattle.client.specs.declared.ClientFault.TheVariants as client_fault
 use Rattle.client.specs.Prelude.{Rest, Fed, used_of, feed_of, fed_item, fed_open, note_of, heard_as, hears_item, Feeds as FeedsPiece, call}
 use Rattle.client.proofs.Makes.{makes, spoiled_over}
-use Rattle.driver.specs.declared.faults.FeedFault.{FeedFault}
-use Rattle.driver.specs.declared.faults.FeedFault.TheVariants as feed_fault
-use Rattle.driver.specs.Feeding.{is_full, Tracked, with_answer, used_by, tracked_feed}
-use Rattle.driver.specs.Runs.{TrackedCall, Hears as HearsPiece, Sends, IsLost, TrackedRun, tracked_call, tracked_calls}
-use Rattle.connects.specs.Prelude.{Stand, stand_in, GoesOn, Leads, heard_count, heard_stand, lost_stand, taken_stand, emptied_stand, Hears}
+use Rattle.client_tracking.specs.declared.faults.FeedFault.{FeedFault}
+use Rattle.client_tracking.specs.declared.faults.FeedFault.TheVariants as feed_fault
+use Rattle.client_tracking.specs.Feeding.{is_full, Tracked, with_answer, used_by, tracked_feed}
+use Rattle.client_tracking.specs.Runs.{TrackedCall, Hears as HearsPiece, Sends, IsLost, TrackedRun, tracked_call, tracked_calls}
+use Rattle.driver.specs.Prelude.{Stand, stand_in, GoesOn, Leads, heard_count, heard_stand, lost_stand, taken_stand, emptied_stand, Hears}
 
 or_assoc : (a b c : Bool) → ((a || b) || c) ≡ (a || (b || c))
 or_assoc true b c = refl

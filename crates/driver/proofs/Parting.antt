@@ -12,15 +12,15 @@ use Rattle.client.specs.declared.Outcome.{Outcome}
 use Rattle.client.specs.declared.SubmitFault.{SubmitFault}
 use Rattle.client.specs.Prelude.{refuses, after_submit, asking_bytes}
 use Rattle.client.proofs.Runs.{texts_more}
-use Rattle.driver.specs.Account.{Account, ReplyView, with_losses, reply_in, outcome_of}
-use Rattle.driver.specs.Runs.{TrackedCall, Asks}
-use Rattle.connects.specs.declared.breaks.Break.{Break}
-use Rattle.connects.specs.declared.breaks.Break.TheVariants as break
-use Rattle.connects.specs.Prelude.{Stand, Leads, EndsBy, Place, place, Health, IsWhole, is_short, IsSeen, Exchanges, asked_stand, is_done, or_undone, first_undone, is_whole, is_answered, IsQuiet, IsUndone, WhyLeft, SendsPart, MakesRoom, SendsInParts}
-use Rattle.connects.proofs.Leading.{leads_nowhere, leads_on}
-use Rattle.connects.proofs.Reading.{stand_is, none_unheard, writes_or, write_seen, Led, exchange_led}
-use Rattle.connects.proofs.Keeping.{hears_keeps, exchange_empties}
-use Rattle.connects.proofs.Asking.{leads_ask, accepted_open}
+use Rattle.client_tracking.specs.Account.{Account, ReplyView, with_losses, reply_in, outcome_of}
+use Rattle.client_tracking.specs.Runs.{TrackedCall, Asks}
+use Rattle.driver.specs.declared.breaks.Break.{Break}
+use Rattle.driver.specs.declared.breaks.Break.TheVariants as break
+use Rattle.driver.specs.Prelude.{Stand, Leads, EndsBy, Place, place, Health, IsWhole, is_short, IsSeen, Exchanges, asked_stand, is_done, or_undone, first_undone, is_whole, is_answered, IsQuiet, IsUndone, WhyLeft, SendsPart, MakesRoom, SendsInParts}
+use Rattle.driver.proofs.Leading.{leads_nowhere, leads_on}
+use Rattle.driver.proofs.Reading.{stand_is, none_unheard, writes_or, write_seen, Led, exchange_led}
+use Rattle.driver.proofs.Keeping.{hears_keeps, exchange_empties}
+use Rattle.driver.proofs.Asking.{leads_ask, accepted_open}
 
 -- Those of the parts before were done; those of the last part wait, and nothing of it went out.
 pub record SoSent (from now : Place) (before last : List RequestView) : Type 0 where

@@ -6,15 +6,15 @@ use Rattle.streams.proofs.Moving.{Grows-kept, Grows-nil, Grows-trans}
 use Rattle.client.specs.Prelude.{Knows, Rest, awaits}
 use Rattle.streams.specs.Prelude.{MovesFront}
 use Rattle.streams.proofs.Parts.{fed_more}
-use Rattle.driver.specs.declared.faults.FeedFault.{FeedFault}
-use Rattle.driver.specs.declared.faults.FeedFault.TheVariants as feed_fault
-use Rattle.driver.specs.Account.{Account}
-use Rattle.driver.specs.Feeding.{tracked_feed, UnlessMemory}
-use Rattle.driver.specs.Runs.{TrackedCall, Hears as HearsPiece, Sends, IsLost}
-use Rattle.connects.specs.declared.breaks.Break.{Break}
-use Rattle.connects.specs.declared.breaks.Break.TheVariants as break
-use Rattle.connects.specs.Prelude.{Stand, Leads, EndsBy, heard_count, heard_stand, lost_stand, emptied_stand, Place, place, Health, Hears, IsWhole, break_by, is_short, IsSeen, Unbroken, Feeds, ReadsOn, Writes, PutsOut, Ends, Converses, Exchanges}
-use Rattle.connects.proofs.Leading.{leads_on, leads_out, leads_lost, used_is, refused_over, hears_none, hears_on, hears_piece}
+use Rattle.client_tracking.specs.declared.faults.FeedFault.{FeedFault}
+use Rattle.client_tracking.specs.declared.faults.FeedFault.TheVariants as feed_fault
+use Rattle.client_tracking.specs.Account.{Account}
+use Rattle.client_tracking.specs.Feeding.{tracked_feed, UnlessMemory}
+use Rattle.client_tracking.specs.Runs.{TrackedCall, Hears as HearsPiece, Sends, IsLost}
+use Rattle.driver.specs.declared.breaks.Break.{Break}
+use Rattle.driver.specs.declared.breaks.Break.TheVariants as break
+use Rattle.driver.specs.Prelude.{Stand, Leads, EndsBy, heard_count, heard_stand, lost_stand, emptied_stand, Place, place, Health, Hears, IsWhole, break_by, is_short, IsSeen, Unbroken, Feeds, ReadsOn, Writes, PutsOut, Ends, Converses, Exchanges}
+use Rattle.driver.proofs.Leading.{leads_on, leads_out, leads_lost, used_is, refused_over, hears_none, hears_on, hears_piece}
 
 pub stand_is : (a b : Stand) → a.rest ≡ b.rest → a.account ≡ b.account → a ≡ b
 stand_is a b e f = ap₂ (λ (r : Rest) (z : Account). let s : Stand = record { rest = r; account = z } in s) e f

@@ -1,22 +1,22 @@
 -- Attempts so far, each over a connection of its own.
 use Rattle.std.proofs.Common.{◌≡◌, ◌<◌, ◌≤◌, ◌+◌, refl, sym, ◌∙◌, ap, subst, ℕ, suc, Bool, false, Option, Some, None, Result, List, [], ◌∷◌, ◌++◌, length, map, length-append, append_assoc, append-nil, inl, inr, ⊎_elim, Err, true≢false, arith}
 use Rattle.std.proofs.lemmas.List.{map-append}
-use Rattle.driver.specs.declared.attempts.Tells.{Tells}
-use Rattle.driver.specs.declared.attempts.Retry.{Retry}
-use Rattle.driver.specs.declared.attempts.Fate.{Fate}
-use Rattle.driver.specs.Attempts.{Made}
-use Rattle.driver.specs.Fates.{fate_of}
-use Rattle.driver.proofs.Fates.{SoFar, none_yet, one_more, known_by, used_up}
+use Rattle.client_tracking.specs.declared.attempts.Tells.{Tells}
+use Rattle.client_tracking.specs.declared.attempts.Retry.{Retry}
+use Rattle.client_tracking.specs.declared.attempts.Fate.{Fate}
+use Rattle.client_tracking.specs.Attempts.{Made}
+use Rattle.client_tracking.specs.Fates.{fate_of}
+use Rattle.client_tracking.proofs.Fates.{SoFar, none_yet, one_more, known_by, used_up}
 use Rattle.streams.specs.Moving.{Grows, MovesFront}
 use Rattle.wire.specs.declared.Wish.{Wish}
 use Rattle.wire.specs.declared.Wish.TheVariants.{Newest, Only}
 use Rattle.wire.specs.Prelude.{offer_of}
 use Rattle.client.specs.Moments.{put_out}
-use Rattle.driver.specs.Attempts.{read}
-use Rattle.connects.specs.declared.breaks.Break.{Break}
-use Rattle.connects.specs.declared.breaks.Break.TheVariants as break
-use Rattle.connects.proofs.Reading.{writes_or, write_seen}
-use Rattle.connects.specs.Prelude.{place, Exchanges, AskedView, Streams, Ending, at_first, IsWritten, gone, IsAttempt, NoneAsked, Attempts, Calls, made_at, tells_at, made_from, unmoved, IsTry, Tries, AreTries, IsKnown}
+use Rattle.client_tracking.specs.Attempts.{read}
+use Rattle.driver.specs.declared.breaks.Break.{Break}
+use Rattle.driver.specs.declared.breaks.Break.TheVariants as break
+use Rattle.driver.proofs.Reading.{writes_or, write_seen}
+use Rattle.driver.specs.Prelude.{place, Exchanges, AskedView, Streams, Ending, at_first, IsWritten, gone, IsAttempt, NoneAsked, Attempts, Calls, made_at, tells_at, made_from, unmoved, IsTry, Tries, AreTries, IsKnown}
 
 -- an attempt over streams of which nothing was moved yet
 pub from_first : (a : AskedView) (conn : ℕ) (from to : Streams) (broken : Result (Unit {0}) Break) (m : Option Made) → from.given ≡ [] → from.written ≡ [] → Attempts a conn from to broken m → Attempts a conn unmoved to broken m

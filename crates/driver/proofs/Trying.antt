@@ -12,21 +12,21 @@ use Rattle.client.specs.Client.{knows_of, reading_of}
 use Rattle.client.specs.Rest.{Knows, asking_bytes}
 use Rattle.client.specs.Moments.{put_out, IsByBytes}
 use Rattle.streams.specs.Prelude.{MovesFront}
-use Rattle.driver.specs.declared.attempts.Tells.{Tells}
-use Rattle.driver.specs.declared.attempts.Tells.TheVariants as tells_variant
-use Rattle.driver.specs.Account.{Account, ReplyView, failure_of, reply_in}
-use Rattle.driver.specs.Attempts.{Made, read, told_of, tells}
-use Rattle.driver.specs.Telling.{is_clash, any_final, tells_of}
-use Rattle.driver.specs.Runs.{TrackedCall, IsLost, TrackedRun, tracking, tracked_calls, attempt_of}
-use Rattle.driver.proofs.Accounts.{accounts_by_bytes, run_by_bytes}
-use Rattle.driver.proofs.Joined.{account_tells}
-use Rattle.connects.specs.declared.breaks.Break.{Break}
-use Rattle.connects.specs.declared.breaks.Break.TheVariants as break
-use Rattle.connects.specs.Prelude.{Stand, GoesOn, Leads, EndsBy, lost_stand, Place, place, Health, is_short, IsSeen, Exchanges, is_done, IsWritten, is_whole, gone, is_answered, IsQuiet, SendsInParts, WhyLeft, AskedView, requests_of, asks_of, greeting, Streams, streams, at_first, has_ended, TellsOf}
-use Rattle.connects.proofs.Leading.{leads_on, leads_lost}
-use Rattle.connects.proofs.Reading.{none_unheard, writes_front, Led, exchange_led}
-use Rattle.connects.proofs.Parting.{answered_done, losses_replies, exchanged_told}
-use Rattle.connects.proofs.Keeping.{exchange_empties}
+use Rattle.client_tracking.specs.declared.attempts.Tells.{Tells}
+use Rattle.client_tracking.specs.declared.attempts.Tells.TheVariants as tells_variant
+use Rattle.client_tracking.specs.Account.{Account, ReplyView, failure_of, reply_in}
+use Rattle.client_tracking.specs.Attempts.{Made, read, told_of, tells}
+use Rattle.client_tracking.specs.Telling.{is_clash, any_final, tells_of}
+use Rattle.client_tracking.specs.Runs.{TrackedCall, IsLost, TrackedRun, tracking, tracked_calls, attempt_of}
+use Rattle.client_tracking.proofs.Accounts.{accounts_by_bytes, run_by_bytes}
+use Rattle.client_tracking.proofs.Joined.{account_tells}
+use Rattle.driver.specs.declared.breaks.Break.{Break}
+use Rattle.driver.specs.declared.breaks.Break.TheVariants as break
+use Rattle.driver.specs.Prelude.{Stand, GoesOn, Leads, EndsBy, lost_stand, Place, place, Health, is_short, IsSeen, Exchanges, is_done, IsWritten, is_whole, gone, is_answered, IsQuiet, SendsInParts, WhyLeft, AskedView, requests_of, asks_of, greeting, Streams, streams, at_first, has_ended, TellsOf}
+use Rattle.driver.proofs.Leading.{leads_on, leads_lost}
+use Rattle.driver.proofs.Reading.{none_unheard, writes_front, Led, exchange_led}
+use Rattle.driver.proofs.Parting.{answered_done, losses_replies, exchanged_told}
+use Rattle.driver.proofs.Keeping.{exchange_empties}
 
 -- memory was short, and nothing went out but the offer
 pub none_short : (a : AskedView) (from to : Streams) → MovesFront from.written to.written (offer_of a.wish) → TellsOf a from to tells_variant.Nothing (Err break.Memory)

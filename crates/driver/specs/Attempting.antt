@@ -10,19 +10,19 @@ use Rattle.machine.specs.Limits.{max_waiting}
 use Rattle.client.specs.Rest.{begun}
 use Rattle.client.specs.Moments.{put_out}
 use Rattle.streams.specs.Moving.{MovesFront}
-use Rattle.driver.specs.declared.attempts.Tells.{Tells}
-use Rattle.driver.specs.Account.{failure_of, untold}
-use Rattle.driver.specs.Attempts.{Attempt, Made, read, told_of, tells_in}
-use Rattle.driver.specs.Runs.{TrackedCall, IsLost, TrackedRun, tracking, tracked_calls, attempt_of}
-use Rattle.driver.specs.Telling.{is_clash, any_final}
-use Rattle.connects.specs.declared.attempting.Asked.{Asked}
-use Rattle.connects.specs.declared.breaks.Break.{Break}
-use Rattle.connects.specs.declared.breaks.Break.TheVariants as break
-use Rattle.connects.specs.Pipelines.{is_done}
-use Rattle.connects.specs.Stands.{Stand, stand_in, place, Health}
-use Rattle.connects.specs.Exchanges.{is_short, IsSeen, Exchanges}
-use Rattle.connects.specs.Parts.{IsWritten, WhyLeft, gone}
-use Rattle.connects.specs.Requests.{QueryView, query_view, within, greeting}
+use Rattle.client_tracking.specs.declared.attempts.Tells.{Tells}
+use Rattle.client_tracking.specs.Account.{failure_of, untold}
+use Rattle.client_tracking.specs.Attempts.{Attempt, Made, read, told_of, tells_in}
+use Rattle.client_tracking.specs.Runs.{TrackedCall, IsLost, TrackedRun, tracking, tracked_calls, attempt_of}
+use Rattle.client_tracking.specs.Telling.{is_clash, any_final}
+use Rattle.driver.specs.declared.attempting.Asked.{Asked}
+use Rattle.driver.specs.declared.breaks.Break.{Break}
+use Rattle.driver.specs.declared.breaks.Break.TheVariants as break
+use Rattle.driver.specs.Pipelines.{is_done}
+use Rattle.driver.specs.Stands.{Stand, stand_in, place, Health}
+use Rattle.driver.specs.Exchanges.{is_short, IsSeen, Exchanges}
+use Rattle.driver.specs.Parts.{IsWritten, WhyLeft, gone}
+use Rattle.driver.specs.Requests.{QueryView, query_view, within, greeting}
 
 -- the versions, the login, the transaction and the token of each attempt
 pub record AskedView : Type 0 where

@@ -3,12 +3,12 @@ use Rattle.std.specs.Prelude.{◌≡◌, ◌⊎◌, ℕ, Bool, true, false, Resu
 use Rattle.streams.specs.Moving.{Grows}
 use Rattle.client.specs.Rest.{awaits}
 use Rattle.streams.specs.Moving.{MovesFront}
-use Rattle.driver.specs.declared.faults.FeedFault.{FeedFault}
-use Rattle.driver.specs.declared.faults.FeedFault.TheVariants as feed_fault
-use Rattle.driver.specs.Runs.{Hears as HearsPiece}
-use Rattle.connects.specs.declared.breaks.Break.{Break}
-use Rattle.connects.specs.declared.breaks.Break.TheVariants as break
-use Rattle.connects.specs.Stands.{Stand, Leads, lost_stand, emptied_stand, Place, place, Health}
+use Rattle.client_tracking.specs.declared.faults.FeedFault.{FeedFault}
+use Rattle.client_tracking.specs.declared.faults.FeedFault.TheVariants as feed_fault
+use Rattle.client_tracking.specs.Runs.{Hears as HearsPiece}
+use Rattle.driver.specs.declared.breaks.Break.{Break}
+use Rattle.driver.specs.declared.breaks.Break.TheVariants as break
+use Rattle.driver.specs.Stands.{Stand, Leads, lost_stand, emptied_stand, Place, place, Health}
 
 -- Pieces were fed, and the client took these bytes of them.
 pub record Hears (from to : Stand) (bytes : List ℕ) : Type 0 where

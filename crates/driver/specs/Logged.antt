@@ -2,11 +2,11 @@
 use Rattle.std.specs.Prelude.{◌≡◌, refl, ℕ, ◌==◌, Bool, if◌then◌else◌, Option, Result, Ok, Err, List}
 use Rattle.std.specs.Coded.{Coded, code_by, coded×, coded_ℕ, coded_bool, coded_list, coded_option}
 use mathlib.Core.Path.{ap}
-use Rattle.connects.specs.declared.breaks.Break.{Break}
-use Rattle.connects.specs.declared.breaks.Break.TheVariants as break
-use Rattle.connects.specs.Stands.{health}
-use Rattle.connects.specs.Attempting.{streams}
-use Rattle.connects.specs.Retrying.{Ending, ending}
+use Rattle.driver.specs.declared.breaks.Break.{Break}
+use Rattle.driver.specs.declared.breaks.Break.TheVariants as break
+use Rattle.driver.specs.Stands.{health}
+use Rattle.driver.specs.Attempting.{streams}
+use Rattle.driver.specs.Retrying.{Ending, ending}
 
 abbrev broken_number : Result (Unit {0}) Break → ℕ
 broken_number (Ok u) = 0

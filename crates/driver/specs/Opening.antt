@@ -1,14 +1,14 @@
 -- What opens a connection.
 use Rattle.std.specs.Prelude.{◌≡◌, ℕ, Some, Result, Ok, Err, List}
 use Rattle.messages.specs.View.{AuthView}
-use Rattle.driver.specs.Asking.{is_login_in_hello}
-use Rattle.connects.specs.declared.breaks.Break.{Break}
-use Rattle.connects.specs.declared.faults.Fault.{Fault}
-use Rattle.connects.specs.declared.faults.Fault.TheVariants as fault
-use Rattle.connects.specs.Stands.{Place}
-use Rattle.connects.specs.Exchanges.{Exchanges}
-use Rattle.connects.specs.Pipelines.{Says}
-use Rattle.connects.specs.Requests.{greeting}
+use Rattle.client_tracking.specs.Asking.{is_login_in_hello}
+use Rattle.driver.specs.declared.breaks.Break.{Break}
+use Rattle.driver.specs.declared.faults.Fault.{Fault}
+use Rattle.driver.specs.declared.faults.Fault.TheVariants as fault
+use Rattle.driver.specs.Stands.{Place}
+use Rattle.driver.specs.Exchanges.{Exchanges}
+use Rattle.driver.specs.Pipelines.{Says}
+use Rattle.driver.specs.Requests.{greeting}
 
 -- Behind the version answer, the greeting of that version; where that broke off, why.
 abbrev pub Greets : Place → Place → List ℕ → AuthView → Result (Unit {0}) Break → Result (Unit {0}) Fault → Type 0

@@ -7,13 +7,13 @@ use Rattle.machine.specs.Limits.{max_waiting}
 use Rattle.client.specs.declared.SubmitFault.{SubmitFault}
 use Rattle.client.specs.Rest.{refuses, asking_bytes}
 use Rattle.streams.specs.Moving.{MovesFront}
-use Rattle.driver.specs.Account.{Account, reply_in, outcome_of}
-use Rattle.driver.specs.Runs.{TrackedCall}
-use Rattle.connects.specs.declared.breaks.Break.{Break}
-use Rattle.connects.specs.declared.breaks.Break.TheVariants as break
-use Rattle.connects.specs.Stands.{Stand, Leads, EndsBy, lost_stand, Place, Health}
-use Rattle.connects.specs.Exchanges.{is_short, IsSeen, Exchanges}
-use Rattle.connects.specs.Pipelines.{is_done, first_undone}
+use Rattle.client_tracking.specs.Account.{Account, reply_in, outcome_of}
+use Rattle.client_tracking.specs.Runs.{TrackedCall}
+use Rattle.driver.specs.declared.breaks.Break.{Break}
+use Rattle.driver.specs.declared.breaks.Break.TheVariants as break
+use Rattle.driver.specs.Stands.{Stand, Leads, EndsBy, lost_stand, Place, Health}
+use Rattle.driver.specs.Exchanges.{is_short, IsSeen, Exchanges}
+use Rattle.driver.specs.Pipelines.{is_done, first_undone}
 
 -- All these bytes were written; or the sink has failed, and it took a prefix of them.
 abbrev pub IsWritten : List ℕ → List ℕ → Bool → List ℕ → Type 0

@@ -6,13 +6,13 @@ use Rattle.client.specs.declared.Outcome.{Outcome}
 use Rattle.client.specs.declared.Outcome.TheVariants as outcome
 use Rattle.client.specs.declared.SubmitFault.{SubmitFault}
 use Rattle.client.specs.Rest.{refuses, after_submit, next_ordinal}
-use Rattle.driver.specs.Account.{Account, settled, outcome_of, failure_of}
-use Rattle.driver.specs.Feeding.{is_idle}
-use Rattle.connects.specs.declared.breaks.Break.{Break}
-use Rattle.connects.specs.declared.faults.Fault.{Fault}
-use Rattle.connects.specs.declared.faults.Fault.TheVariants as fault
-use Rattle.connects.specs.Stands.{Stand, lost_stand, Place, place}
-use Rattle.connects.specs.Exchanges.{Exchanges}
+use Rattle.client_tracking.specs.Account.{Account, settled, outcome_of, failure_of}
+use Rattle.client_tracking.specs.Feeding.{is_idle}
+use Rattle.driver.specs.declared.breaks.Break.{Break}
+use Rattle.driver.specs.declared.faults.Fault.{Fault}
+use Rattle.driver.specs.declared.faults.Fault.TheVariants as fault
+use Rattle.driver.specs.Stands.{Stand, lost_stand, Place, place}
+use Rattle.driver.specs.Exchanges.{Exchanges}
 
 -- once a request is accepted
 abbrev pub asked_stand : Stand → RequestView → Stand

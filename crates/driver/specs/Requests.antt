@@ -1,10 +1,10 @@
 -- The requests of queries, of a transaction and of the greeting.
 use Rattle.std.specs.Prelude.{ℕ, Bool, true, false, Some, None, List, [], ◌∷◌, ◌++◌, string_bytes}
 use Rattle.packstream.specs.Tree.{Tree}
-use Rattle.cells.specs.Shape.{entries}
+use Rattle.structures_cells.specs.Shape.{entries}
 use Rattle.messages.specs.declared.Mode.{Mode}
 use Rattle.messages.specs.View.{AuthView, RequestView}
-use Rattle.connects.specs.declared.queries.Query.{Query}
+use Rattle.driver.specs.declared.queries.Query.{Query}
 
 -- a query: its text by its bytes, its parameters in order
 pub record QueryView : Type 0 where

@@ -1,14 +1,14 @@
 -- Attempts of a transaction under one token, until its fate is known.
 use Rattle.std.specs.Prelude.{◌≡◌, ℕ, suc, false, Option, Some, None, Result, List, [], ◌∷◌, ◌++◌, map}
-use Rattle.driver.specs.declared.attempts.Tells.{Tells}
-use Rattle.driver.specs.declared.attempts.Retry.{Retry}
-use Rattle.driver.specs.declared.attempts.Fate.{Fate}
+use Rattle.client_tracking.specs.declared.attempts.Tells.{Tells}
+use Rattle.client_tracking.specs.declared.attempts.Retry.{Retry}
+use Rattle.client_tracking.specs.declared.attempts.Fate.{Fate}
 use Rattle.wire.specs.declared.Wish.{Wish}
-use Rattle.driver.specs.Attempts.{Made}
-use Rattle.driver.specs.Fates.{fate_of}
-use Rattle.connects.specs.declared.breaks.Break.{Break}
-use Rattle.connects.specs.Stands.{health}
-use Rattle.connects.specs.Attempting.{AskedView, Streams, streams, Calls, made_at, tells_at, Attempts}
+use Rattle.client_tracking.specs.Attempts.{Made}
+use Rattle.client_tracking.specs.Fates.{fate_of}
+use Rattle.driver.specs.declared.breaks.Break.{Break}
+use Rattle.driver.specs.Stands.{health}
+use Rattle.driver.specs.Attempting.{AskedView, Streams, streams, Calls, made_at, tells_at, Attempts}
 
 -- The streams of a connection when they were given back, and the reported reason why its last exchange was broken off.
 pub record Ending : Type 0 where

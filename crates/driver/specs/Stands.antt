@@ -3,11 +3,11 @@ use Rattle.std.specs.Prelude.{◌≡◌, ℕ, Bool, true, false, ◌||◌, if◌
 use Rattle.messages.specs.View.{RequestView}
 use Rattle.client.specs.Rest.{Rest, losses, after_drop, taken_out}
 use Rattle.client.specs.Moments.{used_of}
-use Rattle.driver.specs.declared.tracking.TrackingClient.{TrackingClient}
-use Rattle.driver.specs.Account.{Account, with_losses}
-use Rattle.driver.specs.Feeding.{is_full, tracked_feed}
-use Rattle.driver.specs.Holding.{rest_in, account_of}
-use Rattle.driver.specs.Runs.{TrackedCall, TrackedRun, tracked_calls}
+use Rattle.client_tracking.specs.declared.tracking.TrackingClient.{TrackingClient}
+use Rattle.client_tracking.specs.Account.{Account, with_losses}
+use Rattle.client_tracking.specs.Feeding.{is_full, tracked_feed}
+use Rattle.client_tracking.specs.Holding.{rest_in, account_of}
+use Rattle.client_tracking.specs.Runs.{TrackedCall, TrackedRun, tracked_calls}
 
 -- the state of its client, and its account
 pub record Stand : Type 0 where

@@ -1,11 +1,11 @@
 -- The record of how connections ended, after one more event.
 use Rattle.std.specs.Prelude.{suc, ◌-◌, Some, None, [], ◌∷◌, ◌++◌}
-use Rattle.connects.specs.Stands.{health}
-use Rattle.connects.specs.Attempting.{streams}
-use Rattle.connects.specs.Retrying.{ending}
-use Rattle.connects.specs.Logged.{Past}
-use Rattle.connects.specs.declared.log.Step.{Step}
-use Rattle.connects.specs.declared.log.Step.TheVariants as step
+use Rattle.driver.specs.Stands.{health}
+use Rattle.driver.specs.Attempting.{streams}
+use Rattle.driver.specs.Retrying.{ending}
+use Rattle.driver.specs.Logged.{Past}
+use Rattle.driver.specs.declared.log.Step.{Step}
+use Rattle.driver.specs.declared.log.Step.TheVariants as step
 
 abbrev pub stepped : Past → Step → Past
 stepped p step.Missed = (p.0 ++ None ∷ [], p.1)

@@ -1,9 +1,9 @@
 //! What a connection's account says of the requests of its last call.
 ghost use Rattle.std.specs.Prelude.{◌≡◌, map, option_map};
-ghost use Rattle.cells.specs.Shape.{shape, entry};
-ghost use Rattle.driver.specs.Account.{outcome_of, failure_of, response_of, rows_of, left_of, rows_taken};
-ghost use Rattle.driver.specs.Holding.{rest_in, account_of, row_view};
-ghost use Rattle.connects.specs.Metadata.{metadata_in, named};
+ghost use Rattle.structures_cells.specs.Shape.{shape, entry};
+ghost use Rattle.client_tracking.specs.Account.{outcome_of, failure_of, response_of, rows_of, left_of, rows_taken};
+ghost use Rattle.client_tracking.specs.Holding.{rest_in, account_of, row_view};
+ghost use Rattle.driver.specs.Metadata.{metadata_in, named};
 
 use crate::connection::Connection;
 use client::Outcome;

@@ -1,14 +1,14 @@
 //! Makes one attempt of a transaction under a token.
 ghost use Rattle.std.specs.Prelude.{◌≡◌, ◌<◌, IfOk, Some, map};
 ghost use Rattle.messages.specs.View.{request_view};
-ghost use Rattle.connects.specs.Stands.{health};
-ghost use Rattle.connects.specs.Attempting.{asked_view, requests_of, streams, TellsOf};
+ghost use Rattle.driver.specs.Stands.{health};
+ghost use Rattle.driver.specs.Attempting.{asked_view, requests_of, streams, TellsOf};
 
 use crate::breaks::Break;
 use crate::exchanging::exchange;
 use crate::parts::send_in_parts;
 use crate::queries::{Query, add_queries, greeting, is_login_in_hello};
-use driver::{Rows, Tells, TrackingClient};
+use client_tracking::{Rows, Tells, TrackingClient};
 use messages::{Auth, Count, Mode, Request};
 use std::alloc::{AllocError, Global};
 use streams::{Sink, Source};

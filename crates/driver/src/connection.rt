@@ -2,19 +2,19 @@
 ghost use Rattle.std.specs.Prelude.{◌≡◌, ◌∷◌, ◌+◌, ◌^◌, ◌<◌, [], IfOk, IfErr, map, string_bytes};
 ghost use Rattle.messages.specs.View.{RequestView, request_view, auth_view, token_view};
 ghost use Rattle.client.specs.Rest.{begun, next_ordinal};
-ghost use Rattle.driver.specs.Account.{untold};
-ghost use Rattle.driver.specs.Asking.{rows_view, is_login_in_hello};
-ghost use Rattle.connects.specs.Stands.{stand_of, place};
-ghost use Rattle.connects.specs.Opening.{Opens};
-ghost use Rattle.connects.specs.Pipelines.{Says, WhenNotSent};
-ghost use Rattle.connects.specs.Requests.{query_view, query_run, within, greeting};
+ghost use Rattle.client_tracking.specs.Account.{untold};
+ghost use Rattle.client_tracking.specs.Asking.{rows_view, is_login_in_hello};
+ghost use Rattle.driver.specs.Stands.{stand_of, place};
+ghost use Rattle.driver.specs.Opening.{Opens};
+ghost use Rattle.driver.specs.Pipelines.{Says, WhenNotSent};
+ghost use Rattle.driver.specs.Requests.{query_view, query_run, within, greeting};
 
 use crate::exchanging::exchange;
 use crate::faults::Fault;
 use crate::pipelines::{say, unasked};
 use crate::queries::{Query, greeting, is_login_in_hello, rows_request, running, transaction};
 use client::ClientFault;
-use driver::{Rows, TrackingClient};
+use client_tracking::{Rows, TrackingClient};
 use messages::{Auth, Mode, Request};
 use std::alloc::Global;
 use streams::{Sink, Source};

@@ -2,11 +2,11 @@
 ghost use Rattle.std.specs.Prelude.{◌≡◌, ◌<◌, true, IsErrOf, OnOk, length};
 ghost use Rattle.std.specs.Io.KnownBytes.{IsAtEnd};
 ghost use Rattle.streams.specs.Failing.{StaysSound, UnlessTold};
-ghost use Rattle.connects.specs.Stands.{stand_of, place};
-ghost use Rattle.connects.specs.Exchanges.{break_by, Feeds, ReadsOn, PutsOut, Ends, Converses, Exchanges};
+ghost use Rattle.driver.specs.Stands.{stand_of, place};
+ghost use Rattle.driver.specs.Exchanges.{break_by, Feeds, ReadsOn, PutsOut, Ends, Converses, Exchanges};
 
 use crate::breaks::Break;
-use driver::{FeedFault, TrackingClient};
+use client_tracking::{FeedFault, TrackingClient};
 use streams::{MAX_PIECE, Sink, Source, write_all};
 
 /// Returns why the exchange is broken off if the client refuses a piece.

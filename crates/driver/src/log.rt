@@ -1,7 +1,7 @@
 //! A record of how connections ended, for proofs only.
 ghost use Rattle.std.specs.Prelude.{◌≡◌, []};
 ghost use Rattle.std.specs.Borrow.{ftrue};
-ghost use Rattle.connects.specs.Logged.{Past, past_code};
+ghost use Rattle.driver.specs.Logged.{Past, past_code};
 
 use crate::breaks::Break;
 use std::marker::Model;
@@ -38,7 +38,7 @@ pub enum Step<'a> {
 }
 
 impl Log {
-    ghost use Rattle.connects.specs.Stepping.{stepped};
+    ghost use Rattle.driver.specs.Stepping.{stepped};
 
     /// Makes the record of no connection.
     pub fn new() -> Log

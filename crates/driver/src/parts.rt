@@ -1,15 +1,15 @@
 //! Sends requests in parts, each part as one pipeline.
 ghost use Rattle.std.specs.Prelude.{◌≡◌, ◌<◌, ◌≤◌, ◌^◌, ◌+◌, Err, length, map};
 ghost use Rattle.messages.specs.View.{request_view};
-ghost use Rattle.connects.specs.Stands.{stand_of, place, Health, health};
-ghost use Rattle.connects.specs.Exchanges.{IsSeen};
-ghost use Rattle.connects.specs.Parts.{IsQuiet, SendsPart, MakesRoom, SendsInParts};
+ghost use Rattle.driver.specs.Stands.{stand_of, place, Health, health};
+ghost use Rattle.driver.specs.Exchanges.{IsSeen};
+ghost use Rattle.driver.specs.Parts.{IsQuiet, SendsPart, MakesRoom, SendsInParts};
 
 use crate::breaks::Break;
 use crate::exchanging::exchange;
 use crate::pipelines::first_undone;
 use client::SubmitFault;
-use driver::TrackingClient;
+use client_tracking::TrackingClient;
 use machine::MAX_WAITING;
 use messages::Request;
 use streams::{Sink, Source};

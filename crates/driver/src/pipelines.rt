@@ -3,16 +3,16 @@ ghost use Rattle.std.specs.Prelude.{◌≡◌, ◌∷◌, ◌<◌, ◌+◌, ◌^
 ghost use Rattle.std.specs.Result.{result_err};
 ghost use Rattle.messages.specs.View.{request_view};
 ghost use Rattle.client.specs.Rest.{next_ordinal};
-ghost use Rattle.driver.specs.Account.{outcome_of};
-ghost use Rattle.driver.specs.Holding.{account_of};
-ghost use Rattle.connects.specs.Stands.{stand_of, place};
-ghost use Rattle.connects.specs.Pipelines.{AsksAll, is_done, or_undone, first_undone, Told, fresh, given_up, Says, WhenNotSent};
+ghost use Rattle.client_tracking.specs.Account.{outcome_of};
+ghost use Rattle.client_tracking.specs.Holding.{account_of};
+ghost use Rattle.driver.specs.Stands.{stand_of, place};
+ghost use Rattle.driver.specs.Pipelines.{AsksAll, is_done, or_undone, first_undone, Told, fresh, given_up, Says, WhenNotSent};
 
 use crate::breaks::Break;
 use crate::exchanging::exchange;
 use crate::faults::Fault;
 use client::{Outcome, SubmitFault};
-use driver::TrackingClient;
+use client_tracking::TrackingClient;
 use messages::Request;
 use std::alloc::Global;
 use streams::{Sink, Source};

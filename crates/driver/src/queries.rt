@@ -1,11 +1,11 @@
 //! The requests of queries, of a transaction and of the greeting.
 ghost use Rattle.std.specs.Prelude.{◌≡◌, ◌++◌, ◌∷◌, [], IfOk, map, string_bytes};
-ghost use Rattle.cells.specs.Shape.{entries};
+ghost use Rattle.structures_cells.specs.Shape.{entries};
 ghost use Rattle.messages.specs.View.{RequestView, request_view, auth_view, token_view};
-ghost use Rattle.driver.specs.Asking.{rows_view, is_login_in_hello};
-ghost use Rattle.connects.specs.Requests.{query_view, query_run, within, greeting};
+ghost use Rattle.client_tracking.specs.Asking.{rows_view, is_login_in_hello};
+ghost use Rattle.driver.specs.Requests.{query_view, query_run, within, greeting};
 
-use driver::Rows;
+use client_tracking::Rows;
 use messages::{Auth, Mode, Request};
 use std::alloc::{AllocError, Global};
 use structures::Cell;

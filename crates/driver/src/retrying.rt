@@ -1,13 +1,13 @@
 //! Sends a transaction under its token until its fate is known.
 ghost use Rattle.std.specs.Prelude.{◌≡◌, true, false, ℕ, List, Option, IfOk, OnOk, OnErr};
 ghost use Rattle.messages.specs.Reading.{is_token};
-ghost use Rattle.connects.specs.Attempting.{asked_view};
-ghost use Rattle.connects.specs.Retrying.{Ending, Tries, IsKnown};
+ghost use Rattle.driver.specs.Attempting.{asked_view};
+ghost use Rattle.driver.specs.Retrying.{Ending, Tries, IsKnown};
 
 use crate::attempting::{Asked, attempt_over};
 use crate::breaks::Break;
 use crate::faults::BadToken;
-use driver::{Fate, Retry, Tells};
+use client_tracking::{Fate, Retry, Tells};
 use messages::MAX_TOKEN;
 use std::alloc::Global;
 use streams::{Sink, Source};
@@ -26,9 +26,9 @@ pub trait Connects {
     ghost out: { Self → ℕ };
 
     ghost use Rattle.std.specs.Prelude.{◌≡◌, ◌<◌, ◌++◌, ◌∷◌, [], ℕ, suc, List, Option, Some, IfSome};
-    ghost use Rattle.connects.specs.Stands.{health};
-    ghost use Rattle.connects.specs.Attempting.{streams};
-    ghost use Rattle.connects.specs.Retrying.{one_more, not_had, ending};
+    ghost use Rattle.driver.specs.Stands.{health};
+    ghost use Rattle.driver.specs.Attempting.{streams};
+    ghost use Rattle.driver.specs.Retrying.{one_more, not_had, ending};
 
     /// Opens a connection. Returns its streams, on which nothing was read or written yet, or none if no connection is available. It may wait first.
     fn connect(&mut self) -> Option<(Self::In, Self::Out)>

@@ -1,8 +1,8 @@
 //! Cells from Rust's own values, and back.
 ghost use Rattle.std.specs.Prelude.{◌≡◌, IfOk, option_map};
-ghost use Rattle.cells.specs.Shape.{shape};
+ghost use Rattle.structures_cells.specs.Shape.{shape};
 ghost use Rattle.packstream.specs.Tree.{text};
-ghost use Rattle.connects.specs.Values.{bool_in, int_in, float_in, text_in, bytes_in, HasMembers, is_text, column};
+ghost use Rattle.driver.specs.Values.{bool_in, int_in, float_in, text_in, bytes_in, HasMembers, is_text, column};
 
 use std::alloc::{AllocError, Global};
 use structures::Cell;

@@ -2,8 +2,8 @@
 use Rattle.std.proofs.Common.{◌≡◌, ℕ, zero, suc, List, [], ◌∷◌, length, refl, sym, ap, ◌∙◌}
 use Rattle.std.proofs.lemmas.List.{length-map}
 use Rattle.packstream.specs.Prelude.{Tree}
-use Rattle.cells.specs.Prelude.{shape, shapes}
-use Rattle.cells.specs.declared.cell.Cell.{Cell}
+use Rattle.structures_cells.specs.Prelude.{shape, shapes}
+use Rattle.structures_cells.specs.declared.cell.Cell.{Cell}
 use Rattle.engine.specs.Prelude.{column_rows, rows_in}
 
 -- there are as many as are counted

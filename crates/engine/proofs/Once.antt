@@ -3,8 +3,8 @@ use Rattle.std.proofs.Common.{◌≡◌, ◌≤◌, refl, sym, ◌∙◌, ap, su
 use Rattle.std.proofs.lemmas.Bool.{and_parts, and_from, and_right, cases_Bool}
 use Rattle.std.proofs.lemmas.List.{length-map}
 use Rattle.std.proofs.lemmas.Slice.Eq.{bytes_eq-Decides}
-use Rattle.cells.specs.Prelude.{same_tree}
-use Rattle.cells.proofs.Equality.{bytes_are, bytes_is, trees_are, tree_is}
+use Rattle.structures_cells.specs.Prelude.{same_tree}
+use Rattle.structures_cells.proofs.Equality.{bytes_are, bytes_is, trees_are, tree_is}
 use Rattle.engine.specs.Prelude.{after_commit, answer_to, after_commits, is_in, AnswersByToken, CommitsOnce, is_token, same_writes, under_token, TokensOnce, Found, Free, There, Other, found_from, found_in, commit_by, added_by, WriteView, Token, EntryView, write_view, writes_view}
 use Rattle.engine.specs.declared.ledger.Write.{Write}
 use Rattle.engine.specs.declared.ledger.Commit.TheVariants.{Repeat, Clash}

@@ -2,7 +2,7 @@
 use Rattle.std.specs.Prelude.{ℕ, List, All, IfSome}
 use Rattle.std.specs.Str.{IsUtf8}
 use Rattle.packstream.specs.Tree.{Tree}
-use Rattle.cells.specs.Cells.{IsCellTree}
+use Rattle.structures_cells.specs.Cells.{IsCellTree}
 use Rattle.engine.specs.Views.{EntryView, AnswerView}
 
 -- a write or a parameter

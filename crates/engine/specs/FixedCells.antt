@@ -11,7 +11,7 @@ use Rattle.std.proofs.lemmas.List.FromFn.{length-range_with_len, get_or-range_wi
 use Rattle.packstream.proofs.Ranges.{fits_pos}
 use Rattle.packstream.specs.Tree.{Tree, null, boolean, int, float, byte_string, text, list, dict, structure}
 use Rattle.packstream.specs.Plain.{IsPlain}
-use Rattle.cells.specs.Cells.{IsCellTree}
+use Rattle.structures_cells.specs.Cells.{IsCellTree}
 use Rattle.engine.specs.Cells.{IsCellPair, AreCellPairs, AreCellEntries, IsOfCells}
 use Rattle.engine.specs.Queries.{Defined, column, reads, writes, with, answer_for, query_of, fixed_answer, count_in, text_in, parameter, numbers, cells_found, node, unbound, walk}
 use Rattle.engine.specs.Table.{table, last_of, is_of, is_not_of, writes_of, value_of}

@@ -13,7 +13,7 @@ use Rattle.engine.specs.declared.places.Places.{Places}
 use Rattle.indexmap.specs.IndexMap.{IndexMap}
 use Rattle.std.specs.declared.alloc.Global.{Global}
 use Rattle.std.specs.declared.vec.Vec.{Vec}
-use Rattle.cells.specs.declared.cell.Cell.{Cell}
+use Rattle.structures_cells.specs.declared.cell.Cell.{Cell}
 
 -- the place of the first entry with a token, from 0
 abbrev pub place_of : List ℕ → List EntryView → Option ℕ

@@ -1,6 +1,6 @@
 -- The cells of an answer's rows.
 use Rattle.std.specs.Prelude.{List, [], ◌∷◌}
-use Rattle.cells.specs.declared.cell.Cell.{Cell}
+use Rattle.structures_cells.specs.declared.cell.Cell.{Cell}
 use Rattle.engine.specs.declared.row_cells.Cells.{Cells}
 use Rattle.engine.specs.declared.row_cells.Cells.TheVariants.{One, Many}
 

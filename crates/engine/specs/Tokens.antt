@@ -1,7 +1,7 @@
 -- Tokens: what a ledger has of one, and what a commit does by it.
 use Rattle.std.specs.Prelude.{◌≤◌, ◌<◌, ℕ, suc, ◌+◌, Bool, true, false, ◌&&◌, if◌then◌else◌, Option, Some, None, List, [], ◌∷◌, length}
 use Rattle.std.specs.Str.{bytes_eq}
-use Rattle.cells.specs.Same.{same_tree}
+use Rattle.structures_cells.specs.Same.{same_tree}
 use Rattle.engine.specs.Views.{WriteView, Token, EntryView}
 use Rattle.engine.specs.declared.ledger.Commit.{Commit}
 use Rattle.engine.specs.declared.ledger.Commit.TheVariants.{Added, Repeat, Clash}

@@ -1,7 +1,7 @@
 //! What a ledger has of a token and of writes.
 ghost use Rattle.std.specs.Prelude.{◌≡◌, ◌&&◌, ◌+◌, ◌^◌, ◌<◌, Some, length, if◌then◌else◌};
 ghost use Rattle.std.specs.Str.{bytes_eq};
-ghost use Rattle.cells.specs.Same.{same_tree};
+ghost use Rattle.structures_cells.specs.Same.{same_tree};
 ghost use Rattle.engine.specs.Tokens.{found_in, is_token, known_by, same_writes};
 ghost use Rattle.engine.specs.Views.{entries_view, token_view, write_view, writes_view};
 

@@ -4,9 +4,9 @@ use Rattle.std.proofs.Math.Seq.{drop-append_seam, take-append_seam}
 use Rattle.std.proofs.lemmas.List.{append_assoc}
 use Rattle.std.proofs.lemmas.List.Sorted.{IsPermutation-sym, IsPermutation-trans}
 use Rattle.engine.specs.Views.{EntryView, Token, WriteView}
-use Rattle.lasting.specs.Ledger.{AreRowsOf, HasOneLedger, IsRowOf}
-use Rattle.lasting.specs.Spelled.{SpellsWrite, SpellsWrites}
-use Rattle.lasting.proofs.Numbered.{AreNumbered, one_number, one_order}
+use Rattle.engine_sqlite.specs.Ledger.{AreRowsOf, HasOneLedger, IsRowOf}
+use Rattle.engine_sqlite.specs.Spelled.{SpellsWrite, SpellsWrites}
+use Rattle.engine_sqlite.proofs.Numbered.{AreNumbered, one_number, one_order}
 use Rattle.packstream.proofs.Deciding.{front_alone_is}
 use Rattle.packstream.specs.Good.{IsGood}
 use Rattle.packstream.specs.Spelling.{Spells}

@@ -2,8 +2,8 @@
 use Rattle.std.proofs.Common.{◌≡◌, inl, inr, sym, ap, subst, ◌∙◌, ℕ, ◌+◌, Bool, true, false, if◌then◌else◌, List, [], ◌∷◌, ◌++◌, length, take, length-append, arith}
 use Rattle.engine.specs.Tokens.{Found, Free, added_by}
 use Rattle.engine.specs.Views.{EntryView}
-use Rattle.lasting.specs.Ledger.{HasLedger, HoldsLedger, Lasts, LeavesEither, LeavesLedger}
-use Rattle.lasting.proofs.Front.{take_front, take_whole}
+use Rattle.engine_sqlite.specs.Ledger.{HasLedger, HoldsLedger, Lasts, LeavesEither, LeavesLedger}
+use Rattle.engine_sqlite.proofs.Front.{take_front, take_whole}
 use Rattle.sqlite.specs.State.{State}
 
 -- an engine that shows all its entries leaves them

@@ -1,9 +1,9 @@
 -- What a database holds and a crash leaves, from step to step of a commit.
 use Rattle.std.proofs.Common.{◌≡◌, inl, inr, sym, ap, subst, ◌∙◌, arith, ◌+◌, true, false, List, [], ◌∷◌, ◌++◌, length, IsTrue}
 use Rattle.engine.specs.Views.{EntryView}
-use Rattle.lasting.specs.Ledger.{HasLedger, HoldsLedger, IsRowOf, LeavesEither, LeavesLedger}
-use Rattle.lasting.specs.Table.{IsPut, ledger_schema}
-use Rattle.lasting.proofs.Rowed.{holds_more}
+use Rattle.engine_sqlite.specs.Ledger.{HasLedger, HoldsLedger, IsRowOf, LeavesEither, LeavesLedger}
+use Rattle.engine_sqlite.specs.Table.{IsPut, ledger_schema}
+use Rattle.engine_sqlite.proofs.Rowed.{holds_more}
 use Rattle.sqlite.specs.Effect.{Database}
 use Rattle.sqlite.specs.Order.{Row}
 use Rattle.sqlite_catalog.specs.Listing.{IsSound}

@@ -2,13 +2,13 @@
 use Rattle.std.proofs.Common.{◌≡◌, inl, inr, refl, sym, ap, subst, ◌∙◌, ℕ, ℤ, false, Ok, List, [], ◌∷◌, IsTrue}
 use Rattle.std.specs.List.{AllZip}
 use Rattle.engine.specs.Views.{EntryView}
-use Rattle.lasting.specs.Kept.{Endures, Kept, ledger_of}
-use Rattle.lasting.specs.Ledger.{HoldsLedger}
-use Rattle.lasting.specs.Shown.{IsOpenedFrom, IsReady, table_text}
-use Rattle.lasting.specs.Table.{ledger_schema, no_schema}
-use Rattle.lasting.proofs.Alone.{one_ledger_is}
-use Rattle.lasting.proofs.Selecting.{creates, opening_plain, row_same, select_plain, selects, shown_same}
-use Rattle.lasting.proofs.Typed.{shown_holds}
+use Rattle.engine_sqlite.specs.Kept.{Endures, Kept, ledger_of}
+use Rattle.engine_sqlite.specs.Ledger.{HoldsLedger}
+use Rattle.engine_sqlite.specs.Shown.{IsOpenedFrom, IsReady, table_text}
+use Rattle.engine_sqlite.specs.Table.{ledger_schema, no_schema}
+use Rattle.engine_sqlite.proofs.Alone.{one_ledger_is}
+use Rattle.engine_sqlite.proofs.Selecting.{creates, opening_plain, row_same, select_plain, selects, shown_same}
+use Rattle.engine_sqlite.proofs.Typed.{shown_holds}
 use Rattle.sqlite.specs.Effect.{Database}
 use Rattle.sqlite.specs.Held.{Held, state}
 use Rattle.sqlite.specs.Order.{Row}

@@ -2,7 +2,7 @@
 use Rattle.std.proofs.Common.{◌≡◌, ◌<◌, refl, sym, ap, subst, ◌∙◌, ℕ, suc, ◌+◌, List, [], ◌∷◌, ◌++◌, length, take, get_or, arith}
 use Rattle.std.proofs.lemmas.List.{length-take-le, take_more}
 use Rattle.engine.specs.Views.{EntryView}
-use Rattle.lasting.specs.Shown.{AreShownAs, IsShownAs, TakesRow}
+use Rattle.engine_sqlite.specs.Shown.{AreShownAs, IsShownAs, TakesRow}
 use Rattle.sqlite.specs.Order.{Row}
 
 -- a row more

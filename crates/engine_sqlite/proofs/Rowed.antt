@@ -8,8 +8,8 @@ use Rattle.std.specs.List.{AllByRecursion}
 use Rattle.std.specs.List.Sorted.{IsPermutation}
 use Rattle.std.specs.declared.cmp.Ordering.TheVariants.{Less}
 use Rattle.engine.specs.Views.{EntryView}
-use Rattle.lasting.specs.Ledger.{AreRowsOf, HoldsLedger, IsRowOf}
-use Rattle.lasting.specs.Table.{ledger_schema}
+use Rattle.engine_sqlite.specs.Ledger.{AreRowsOf, HoldsLedger, IsRowOf}
+use Rattle.engine_sqlite.specs.Table.{ledger_schema}
 use Rattle.sqlite.specs.Order.{Row, value_cmp}
 use Rattle.sqlite.specs.Tree.{Trees, put_row, rowid}
 use Rattle.sqlite_catalog.specs.Listing.{IsSound}

@@ -1,6 +1,6 @@
 -- A database's tables are those of a ledger where each part of them is.
 use Rattle.std.proofs.Common.{◌≡◌, refl, sym, ap, ◌∙◌, ℕ, Bool, true, false, List, [], ◌∷◌, codes}
-use Rattle.lasting.specs.Table.{HasHead, HasKeys, HasNoRules, column_of, entry_table, ledger_schema, no_schema, token_index}
+use Rattle.engine_sqlite.specs.Table.{HasHead, HasKeys, HasNoRules, column_of, entry_table, ledger_schema, no_schema, token_index}
 use Rattle.sqlite.specs.Collation.TheVariants.{Binary}
 use Rattle.sqlite.specs.Kind.{Kind}
 use Rattle.sqlite.specs.Schema.{Schema}

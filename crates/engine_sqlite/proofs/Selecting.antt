@@ -5,9 +5,9 @@ use Rattle.std.proofs.lemmas.List.Sorted.{IsPermutation-map}
 use Rattle.std.specs.Fmt.{digits}
 use Rattle.std.specs.List.Sorted.{IsPermutation}
 use Rattle.engine.specs.Views.{EntryView}
-use Rattle.lasting.specs.Shown.{Brings, IsLeft, entries_text, opening_text, table_text}
-use Rattle.lasting.specs.Table.{entry_table, ledger_schema, no_schema}
-use Rattle.lasting.proofs.Texts.{rollback_keeps, same_value, unchanged_keeps, went}
+use Rattle.engine_sqlite.specs.Shown.{Brings, IsLeft, entries_text, opening_text, table_text}
+use Rattle.engine_sqlite.specs.Table.{entry_table, ledger_schema, no_schema}
+use Rattle.engine_sqlite.proofs.Texts.{rollback_keeps, same_value, unchanged_keeps, went}
 use Rattle.sqlite.specs.Change.{created, next_tree}
 use Rattle.sqlite.specs.Collation.TheVariants.{Binary}
 use Rattle.sqlite.specs.Command.TheVariants.{CreateTable, Select}

@@ -1,10 +1,10 @@
 -- Bytes of writes, put together and taken apart.
 use Rattle.std.proofs.Common.{◌≡◌, refl, sym, ap, subst, ◌∙◌, ◌<◌, ℕ, ◌+◌, ◌-◌, List, [], ◌∷◌, ◌++◌, length, take, drop, get_or, append-nil}
 use Rattle.std.proofs.lemmas.List.{append_assoc, length-drop, map-append, take-append-drop, take_more}
-use Rattle.lasting.proofs.Front.{take_whole}
+use Rattle.engine_sqlite.proofs.Front.{take_whole}
 use Rattle.engine.specs.declared.ledger.Write.{Write}
 use Rattle.engine.specs.Views.{WriteView, write_view, writes_view}
-use Rattle.lasting.specs.Spelled.{AddsSpelling, AddsWrite, HasForm, SpellsWrites, TakesValue, TakesWrite}
+use Rattle.engine_sqlite.specs.Spelled.{AddsSpelling, AddsWrite, HasForm, SpellsWrites, TakesValue, TakesWrite}
 use Rattle.packstream.specs.Tree.{Tree, text}
 
 -- a key and then a value are a write

@@ -24,7 +24,7 @@ use Rattle.sqlite.specs.Listing.{understood}
 use Rattle.sqlite.specs.Effect.{Database}
 use Rattle.sqlite.specs.State.{State, mode_of, Executes, ExecutesInside, IsUnchanged, IsRolledBack, KeepsCommit, Shows}
 use Rattle.sqlite.proofs.Callers.{IsPlain, command_of, statement_of, runs_as, one_step}
-use Rattle.lasting.specs.Table.{add_text, entry_table, ledger_schema, values_of, row_of, IsPut}
+use Rattle.engine_sqlite.specs.Table.{add_text, entry_table, ledger_schema, values_of, row_of, IsPut}
 
 -- the terms of an entry's row: the number is the rowid, and its column is left to that
 abbrev terms : List Term

@@ -5,10 +5,10 @@ use Rattle.std.proofs.lemmas.List.Sorted.{All-permutation, IsPermutation-map, Is
 use Rattle.std.specs.List.{AllByRecursion}
 use Rattle.std.specs.List.Sorted.{IsPermutation}
 use Rattle.engine.specs.Views.{EntryView}
-use Rattle.lasting.specs.Ledger.{AreRowsOf, HoldsLedger, IsRowOf}
-use Rattle.lasting.specs.Shown.{AreShownAs, IsShownAs}
-use Rattle.lasting.specs.Table.{entry_table, ledger_schema}
-use Rattle.lasting.proofs.Selecting.{shown_of}
+use Rattle.engine_sqlite.specs.Ledger.{AreRowsOf, HoldsLedger, IsRowOf}
+use Rattle.engine_sqlite.specs.Shown.{AreShownAs, IsShownAs}
+use Rattle.engine_sqlite.specs.Table.{entry_table, ledger_schema}
+use Rattle.engine_sqlite.proofs.Selecting.{shown_of}
 use Rattle.sqlite.specs.Kind.TheVariants.{Integer}
 use Rattle.sqlite.specs.Order.{Row, column}
 use Rattle.sqlite.specs.Tree.{Trees}

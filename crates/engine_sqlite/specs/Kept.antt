@@ -4,7 +4,7 @@ use Rattle.std.specs.Coded.{Coded, code_by, coded×, coded_ℕ, coded_ℤ, coded
 use Rattle.sqlite.specs.Held.{Held, held_code, state}
 use Rattle.sqlite.specs.Store.{Ghosts}
 use Rattle.engine.specs.Views.{EntryView}
-use Rattle.lasting.specs.Ledger.{HasLedger, LeavesEither}
+use Rattle.engine_sqlite.specs.Ledger.{HasLedger, LeavesEither}
 
 -- the engine inside, the connection to the database, how many entries are known to be kept there, whether the engine has stopped, and the number of the opening
 pub record Kept (E S : Type 0) : Type 0 where

@@ -1,8 +1,8 @@
 -- What a database has of a ledger, and what a crash leaves of it.
 use Rattle.std.specs.Prelude.{◌≡◌, ◌⊎◌, ℕ, suc, ℤ, pos, List, [], ◌∷◌, IsPermutation, IsTrue}
 use Rattle.engine.specs.Views.{EntryView}
-use Rattle.lasting.specs.Spelled.{SpellsWrites}
-use Rattle.lasting.specs.Table.{ledger_schema, row_of}
+use Rattle.engine_sqlite.specs.Spelled.{SpellsWrites}
+use Rattle.engine_sqlite.specs.Table.{ledger_schema, row_of}
 use Rattle.sqlite.specs.Order.{Row}
 use Rattle.sqlite_catalog.specs.Listing.{IsSound}
 use Rattle.sqlite.specs.State.{State, HasCleanDisk}

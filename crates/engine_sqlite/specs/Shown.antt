@@ -1,9 +1,9 @@
 -- What an opening brings of the rows that a database shows.
 use Rattle.std.specs.Prelude.{◌≡◌, ◌⊎◌, ℕ, suc, ℤ, pos, ◌+ℤ◌, List, [], ◌∷◌, ◌++◌, Ok, IsTrue, codes}
 use Rattle.engine.specs.Views.{EntryView, WriteView}
-use Rattle.lasting.specs.Ledger.{HoldsLedger}
-use Rattle.lasting.specs.Spelled.{SpellsWrites}
-use Rattle.lasting.specs.Table.{ledger_schema, no_schema}
+use Rattle.engine_sqlite.specs.Ledger.{HoldsLedger}
+use Rattle.engine_sqlite.specs.Spelled.{SpellsWrites}
+use Rattle.engine_sqlite.specs.Table.{ledger_schema, no_schema}
 use Rattle.sqlite.specs.Effect.{IsDatabase}
 use Rattle.sqlite.specs.Held.{Held, state}
 use Rattle.sqlite.specs.Order.{Row, column}

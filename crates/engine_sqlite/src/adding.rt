@@ -3,8 +3,8 @@ ghost use Rattle.std.specs.Prelude.{◌≡◌, ◌+◌, ◌<◌, ◌++◌, [], �
 ghost use Rattle.engine.specs.Limits.{ledger_bound};
 ghost use Rattle.engine.specs.Tokens.{Free, found_in};
 ghost use Rattle.engine.specs.Views.{entry_of, token_view, writes_view};
-ghost use Rattle.lasting.specs.Ledger.{HasLedger, HoldsLedger, Lasts, LeavesEither};
-ghost use Rattle.lasting.specs.Spelled.{SpellsWrites};
+ghost use Rattle.engine_sqlite.specs.Ledger.{HasLedger, HoldsLedger, Lasts, LeavesEither};
+ghost use Rattle.engine_sqlite.specs.Spelled.{SpellsWrites};
 ghost use Rattle.sqlite.specs.Held.{state};
 ghost use Rattle.sqlite.specs.State.{Survives};
 

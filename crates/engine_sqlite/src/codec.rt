@@ -1,11 +1,11 @@
 //! Writes as bytes: of each its key and its value, in their shortest spellings, one after the other.
 ghost use Rattle.std.specs.Prelude.{◌≡◌, string_bytes, IfOk, IfSome, OnOk};
-ghost use Rattle.cells.specs.Shape.{shape};
+ghost use Rattle.structures_cells.specs.Shape.{shape};
 ghost use Rattle.engine.specs.Views.{write_view, writes_view};
 ghost use Rattle.packstream.specs.Good.{IsGood};
 ghost use Rattle.packstream.specs.Tree.{text};
 ghost use Rattle.packstream.specs.View.{tree};
-ghost use Rattle.lasting.specs.Spelled.{AddsSpelling, AddsWrite, HasForm, SpellsWrites, TakesValue, TakesWrite};
+ghost use Rattle.engine_sqlite.specs.Spelled.{AddsSpelling, AddsWrite, HasForm, SpellsWrites, TakesValue, TakesWrite};
 
 use bytes::BytesMut;
 use engine::Write;

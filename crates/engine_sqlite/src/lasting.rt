@@ -2,11 +2,11 @@
 ghost use Rattle.std.specs.Prelude.{◌≡◌, ◌≢◌, ◌++◌, [], ◌∷◌, List, ℕ, Ok, Err, false, length, IsTrue, IfOk, IfErr, OnOk, OnErr};
 ghost use Rattle.engine.specs.Tokens.{Free, IsCounted, added_by, commit_by, found_in, known_by, is_token};
 ghost use Rattle.engine.specs.Views.{EntryView, entry_of, token_view, writes_view};
-ghost use Rattle.lasting.specs.Kept.{Endures, ledger_of};
-ghost use Rattle.lasting.specs.Ledger.{HoldsLedger, LeavesLedger};
+ghost use Rattle.engine_sqlite.specs.Kept.{Endures, ledger_of};
+ghost use Rattle.engine_sqlite.specs.Ledger.{HoldsLedger, LeavesLedger};
 ghost use Rattle.sqlite.specs.Held.{state};
-ghost use Rattle.lasting.specs.Shown.{IsLeft, IsOpenedFrom};
-ghost use Rattle.lasting.specs.Table.{ledger_schema, no_schema};
+ghost use Rattle.engine_sqlite.specs.Shown.{IsLeft, IsOpenedFrom};
+ghost use Rattle.engine_sqlite.specs.Table.{ledger_schema, no_schema};
 ghost use Rattle.sqlite.specs.State.{HasCleanDisk, Survives};
 
 use crate::adding::{add_to_both, row_key};
@@ -35,7 +35,7 @@ pub struct Lasting<E: Engine + Drop, S: Alter + Drop> {
 }
 
 impl<E: Engine + Drop, S: Alter + Drop> Model for Lasting<E, S> {
-    ghost use Rattle.lasting.specs.Kept.{Kept, kept_code, IsTied};
+    ghost use Rattle.engine_sqlite.specs.Kept.{Kept, kept_code, IsTied};
 
     ghost Value = { Kept E S };
 

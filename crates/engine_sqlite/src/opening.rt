@@ -4,8 +4,8 @@ ghost use Rattle.engine.specs.Views.{writes_view};
 ghost use Rattle.sqlite.specs.Held.{state};
 ghost use Rattle.sqlite.specs.Order.{column};
 ghost use Rattle.sqlite.specs.State.{HasCleanDisk, QueriesRow, Shown};
-ghost use Rattle.lasting.specs.Shown.{AreShownAs, Brings, HasWrites, IsLeft, IsOpenedFrom, IsReady, Numbers, TakesRow, entries_text, opening_text};
-ghost use Rattle.lasting.specs.Table.{ledger_schema, no_schema};
+ghost use Rattle.engine_sqlite.specs.Shown.{AreShownAs, Brings, HasWrites, IsLeft, IsOpenedFrom, IsReady, Numbers, TakesRow, entries_text, opening_text};
+ghost use Rattle.engine_sqlite.specs.Table.{ledger_schema, no_schema};
 
 use crate::codec::{Unread, writes_of};
 use crate::fault::OpenFault;

@@ -4,7 +4,7 @@ ghost use Rattle.engine.specs.Views.{token_view};
 ghost use Rattle.sqlite.specs.Held.{state};
 ghost use Rattle.sqlite.specs.State.{HasCleanDisk, KeepsCommit, Shows, Survives};
 ghost use Rattle.sqlite.specs.Values.{bound};
-ghost use Rattle.lasting.specs.Table.{IsPut, ledger_schema, row_of, values_of};
+ghost use Rattle.engine_sqlite.specs.Table.{IsPut, ledger_schema, row_of, values_of};
 
 use sqlite::types::{ToSql, ValueRef};
 use sqlite::{Alter, Error, Transaction};

@@ -1,6 +1,6 @@
 //! Which tables a database has.
 ghost use Rattle.std.specs.Prelude.{◌≡◌, [], ◌∷◌, IfSome, IsTrue};
-ghost use Rattle.lasting.specs.Table.{column_of, entry_table, ledger_schema, no_schema, token_index, HasHead, HasKeys, HasNoRules};
+ghost use Rattle.engine_sqlite.specs.Table.{column_of, entry_table, ledger_schema, no_schema, token_index, HasHead, HasKeys, HasNoRules};
 ghost use Rattle.sqlite_value.specs.Keys.{plain};
 
 use sqlite_items::Items;

@@ -3,7 +3,7 @@ use Rattle.std.specs.Prelude.{◌≡◌, ℕ, List, Some, Result}
 use Rattle.engine.specs.declared.answer.Mode.{Mode as QueryMode}
 use Rattle.engine.specs.Views.{WriteView, ParameterView, EntryView, AnswerView, QueryFault}
 use Rattle.engine.specs.Welcomes.{Welcome}
-use Rattle.session.specs.declared.kinds.Worked.{Worked}
+use Rattle.server_session.specs.declared.kinds.Worked.{Worked}
 use Rattle.server.specs.declared.kinds.Took.{Took}
 use Rattle.server.specs.Serving.{Rest, feed_at, work_at, take_out_at}
 

@@ -3,7 +3,7 @@ use Rattle.std.specs.Prelude.{ℕ, List, [], ◌∷◌, All, Some, Result, Ok, E
 use Rattle.std.specs.Str.{IsUtf8}
 use Rattle.std.proofs.Common.{lit≤, subst, sym}
 use Rattle.std.proofs.lemmas.List.Elements.{All-nil, All-head}
-use Rattle.cells.specs.Cells.{IsCellTree}
+use Rattle.structures_cells.specs.Cells.{IsCellTree}
 use Rattle.engine.specs.Cells.{IsCellPair, AreCellPairs, AreCellEntries, IsOfCells}
 use Rattle.engine.specs.Laws.{IsAnswer}
 use Rattle.engine.specs.Views.{WriteView, ParameterView, EntryView, AnswerView, QueryFault, bad_parameter, write_in_read_mode}

@@ -2,8 +2,8 @@
 use Rattle.std.specs.Prelude.{ℤ, ◌+◌, Option, Some, None, List, ◌∷◌}
 use Rattle.packstream.specs.Tree.{Tree, int}
 use Rattle.client.specs.Rest.{next_ordinal}
-use Rattle.driver.specs.Account.{rows_of}
-use Rattle.connects.specs.Stands.{Stand}
+use Rattle.client_tracking.specs.Account.{rows_of}
+use Rattle.driver.specs.Stands.{Stand}
 
 -- an integer alone has one
 abbrev pub int_of : Tree → Option ℤ

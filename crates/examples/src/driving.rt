@@ -1,7 +1,7 @@
 //! Commits one write over a socket to a port of this machine, reads it back, and says what became of each request.
 
-use asks::{Told, ask_all};
 use client::{Client, ClientFault, Heard, Outcome};
+use client_blocking::{Told, ask_all};
 use messages::{Auth, Count, Mode, Request};
 use std::alloc::{AllocError, Global};
 use std::io;

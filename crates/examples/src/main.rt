@@ -13,8 +13,8 @@ mod serving;
 mod tracked;
 mod values;
 
-use driver::Retry;
-use prints::fill_closed;
+use cli_output::fill_closed;
+use client_tracking::Retry;
 use querying::Sending;
 use std::io;
 use std::process::ExitCode;

@@ -1,11 +1,11 @@
 //! Sends a transaction under a token to a port of this machine until it is known, and then runs a query and prints its rows.
+use cli_output::escape;
 use client::ClientFault;
-use connects::{
+use client_tracking::{Fate, Retry, Rows};
+use driver::{
     Asked, BadToken, Break, Connection, Connects, Fault, Log, Query, Step, text_cell, until_known,
 };
-use driver::{Fate, Retry, Rows};
 use messages::{Auth, Count, Mode};
-use prints::escape;
 use std::alloc::{AllocError, Global};
 use std::io;
 use std::net::TcpStream;

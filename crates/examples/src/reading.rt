@@ -1,14 +1,14 @@
 //! A caller of a connection.
 ghost use Rattle.std.specs.Prelude.{◌≡◌, ◌∷◌, [], IfOk, map};
 ghost use Rattle.messages.specs.View.{RequestView};
-ghost use Rattle.driver.specs.Holding.{row_view};
-ghost use Rattle.connects.specs.Stands.{stand_of, place};
-ghost use Rattle.connects.specs.Pipelines.{Says};
-ghost use Rattle.connects.specs.Requests.{query_view, query_run};
+ghost use Rattle.client_tracking.specs.Holding.{row_view};
+ghost use Rattle.driver.specs.Stands.{stand_of, place};
+ghost use Rattle.driver.specs.Pipelines.{Says};
+ghost use Rattle.driver.specs.Requests.{query_view, query_run};
 ghost use Rattle.examples.specs.Reads.{first_int, rows_told};
 
-use connects::{Connection, Fault, Query, as_int};
-use driver::Rows;
+use client_tracking::Rows;
+use driver::{Connection, Fault, Query, as_int};
 use messages::{Count, Mode};
 use streams::{Sink, Source};
 use structures::Cell;

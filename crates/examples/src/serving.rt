@@ -1,7 +1,7 @@
 //! Serves a fixed table at a port of this machine, many connections at once, until it is ended.
 
+use cli_serve::{Limits, Place, Reason, serve_at};
 use engine::{FixedTable, OneUser};
-use listening::{Limits, Place, Reason, serve_at};
 use server::Server;
 use std::io;
 use std::io::ErrorKind;

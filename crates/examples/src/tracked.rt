@@ -1,9 +1,9 @@
 //! A caller of a client that keeps the account.
 ghost use Rattle.std.specs.Prelude.{◌≡◌};
-ghost use Rattle.driver.specs.Holding.{account_of};
+ghost use Rattle.client_tracking.specs.Holding.{account_of};
 
 use client::SubmitFault;
-use driver::{Rows, TrackingClient};
+use client_tracking::{Rows, TrackingClient};
 use messages::{Auth, Count, Mode};
 use structures::Cell;
 

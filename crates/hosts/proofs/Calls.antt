@@ -4,7 +4,7 @@ use Rattle.std.proofs.lemmas.Bool.{eq-eqb, eqb-true}
 use Rattle.std.proofs.lemmas.List.{map-append}
 use Rattle.engine.specs.declared.answer.Mode.{Mode as QueryMode}
 use Rattle.engine.specs.Prelude.{WriteView, ParameterView, EntryView, AnswerView, QueryFault, Welcome}
-use Rattle.session.specs.Prelude.{work_kept}
+use Rattle.server_session.specs.Prelude.{work_kept}
 use Rattle.server.specs.Prelude.{Rest, Live, find, fresh, with_session, fed_live, taken_from, setting, after_step, Event, opens, feeds, works, takes, noops, loses, after_call, after_event, after_events}
 use Rattle.lines.specs.Prelude.{Wire, Held, End, ends_by, ends_of, IsOn, AreOn, Moves, Turns, begins, then_opens, then_moves}
 use Rattle.hosts.specs.Prelude.{Gone, gone_with, gone_by, gone_of}

@@ -3,7 +3,7 @@ use Rattle.std.proofs.Common.{◌≡◌, ◌≢◌, ◌<◌, ◌≤◌, ◌+◌,
 use Rattle.std.proofs.lemmas.Bool.{eqb-true, eqb-false}
 use Rattle.engine.specs.declared.answer.Mode.{Mode as QueryMode}
 use Rattle.engine.specs.Prelude.{WriteView, ParameterView, EntryView, AnswerView, QueryFault, Welcome}
-use Rattle.session.specs.Prelude.{work_kept}
+use Rattle.server_session.specs.Prelude.{work_kept}
 use Rattle.server.specs.Prelude.{Rest, Live, find, without, is_full, opened, with_session, fed_live, taken_from, noop_put, setting, after_step, Event, opens, feeds, works, takes, noops, loses, after_call, after_event, after_events, AreBelow, IsKept}
 use Rattle.server.proofs.Runs.{leaves_others}
 use Rattle.lines.specs.Prelude.{end_of}

@@ -7,8 +7,8 @@ use Rattle.std.proofs.lemmas.Bool.{eq-eqb}
 use Rattle.std.proofs.lemmas.List.{map_push}
 use Rattle.engine.specs.declared.answer.Mode.{Mode as QueryMode}
 use Rattle.engine.specs.Prelude.{WriteView, ParameterView, EntryView, AnswerView, QueryFault, Welcome}
-use Rattle.session.specs.declared.kinds.Cause.{Cause}
-use Rattle.session.specs.declared.kinds.Cause.TheVariants as cause
+use Rattle.server_session.specs.declared.kinds.Cause.{Cause}
+use Rattle.server_session.specs.declared.kinds.Cause.TheVariants as cause
 use Rattle.server.specs.Prelude.{Rest, Live, find, fresh, opened, lost_at, cause_or, Opens, loses}
 use Rattle.lines.specs.declared.closing.Closing.{Closing}
 use Rattle.lines.specs.declared.limits.Limits.{Limits}

@@ -3,15 +3,15 @@ use Rattle.std.proofs.Common.{◌≡◌, sym, ap, subst, ◌∙◌, ℕ, ◌+◌
 use Rattle.std.specs.Io.KnownBytes.{Appends}
 use Rattle.std.proofs.KnownBytes.{Appends-nil, Appends-trans}
 use Rattle.engine.specs.Views.{EntryView}
-use Rattle.session.specs.declared.kinds.Cause.{Cause}
+use Rattle.server_session.specs.declared.kinds.Cause.{Cause}
 use Rattle.server.specs.Serving.{Live, Rest}
 use Rattle.server.specs.Views.{rest_of}
 use Rattle.server.specs.declared.server.Server.{Server}
-use Rattle.prints.specs.Prelude.{conn_line}
+use Rattle.cli_output.specs.Prelude.{conn_line}
 use Rattle.one_by_one.specs.Prelude.{HasServed}
 use Rattle.one_by_one.specs.Serving.{IsVacant}
-use Rattle.lasting.specs.Kept.{Kept, ledger_of}
-use Rattle.lasting.specs.Ledger.{LeavesLedger}
+use Rattle.engine_sqlite.specs.Kept.{Kept, ledger_of}
+use Rattle.engine_sqlite.specs.Ledger.{LeavesLedger}
 use Rattle.sqlite.specs.Held.{state}
 use Rattle.sqlite.specs.Store.{Ghosts}
 use Rattle.keeping.specs.declared.reasons.Reason.{Reason}

@@ -1,9 +1,9 @@
 -- What is said of the reason for which a server over a file ends.
 use Rattle.std.specs.Prelude.{◌≡◌, ◌⊎◌, ℕ, List, [], ◌∷◌, ◌++◌, codes}
 use Rattle.std.specs.Fmt.{decimal}
-use Rattle.lasting.specs.declared.fault.OpenFault.{OpenFault}
-use Rattle.lasting.specs.declared.fault.OpenFault.TheVariants.{Database, OtherTables, NoLedger, Memory}
-use Rattle.prints.specs.Escaping.{escaped}
+use Rattle.engine_sqlite.specs.declared.fault.OpenFault.{OpenFault}
+use Rattle.engine_sqlite.specs.declared.fault.OpenFault.TheVariants.{Database, OtherTables, NoLedger, Memory}
+use Rattle.cli_output.specs.Escaping.{escaped}
 use Rattle.keeping.specs.declared.reasons.Reason.{Reason}
 use Rattle.keeping.specs.declared.reasons.Reason.TheVariants as reason
 

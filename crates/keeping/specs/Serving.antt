@@ -2,16 +2,16 @@
 use Rattle.std.specs.Prelude.{◌≡◌, ℕ, ◌+◌, Bool, true, false, List, [], ◌∷◌, ◌++◌, codes, length, Option, Some, None}
 use Rattle.std.specs.Io.KnownBytes.{Appends}
 use Rattle.engine.specs.Views.{EntryView}
-use Rattle.lasting.specs.Kept.{Kept, ledger_of}
-use Rattle.lasting.specs.Ledger.{LeavesLedger}
+use Rattle.engine_sqlite.specs.Kept.{Kept, ledger_of}
+use Rattle.engine_sqlite.specs.Ledger.{LeavesLedger}
 use Rattle.sqlite.specs.Held.{state}
 use Rattle.sqlite.specs.Store.{Ghosts}
-use Rattle.session.specs.declared.kinds.Cause.{Cause}
+use Rattle.server_session.specs.declared.kinds.Cause.{Cause}
 use Rattle.server.specs.Serving.{Rest}
 use Rattle.streams.specs.declared.fault.StreamFault.{StreamFault}
 use Rattle.streams.specs.declared.fault.StreamFault.TheVariants as fault
-use Rattle.prints.specs.Telling.{conn_line}
-use Rattle.prints.specs.Stopping.{Gets}
+use Rattle.cli_output.specs.Telling.{conn_line}
+use Rattle.cli_output.specs.Stopping.{Gets}
 use Rattle.keeping.specs.declared.reasons.Reason.{Reason}
 use Rattle.keeping.specs.declared.reasons.Reason.TheVariants as reason
 

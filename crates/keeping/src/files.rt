@@ -1,8 +1,8 @@
 //! The server over a file.
 ghost use Rattle.std.specs.Prelude.{◌≡◌, [], List, false, Err, IfOk, IfErr};
 ghost use Rattle.engine.specs.Views.{EntryView};
-ghost use Rattle.lasting.specs.Kept.{Endures, ledger_of};
-ghost use Rattle.lasting.specs.Ledger.{HoldsLedger};
+ghost use Rattle.engine_sqlite.specs.Kept.{Endures, ledger_of};
+ghost use Rattle.engine_sqlite.specs.Ledger.{HoldsLedger};
 ghost use Rattle.sqlite.specs.Held.{state};
 ghost use Rattle.sqlite.specs.State.{HasCleanDisk};
 ghost use Rattle.keeping.specs.Reasons.{IsUnread};
@@ -10,7 +10,7 @@ ghost use Rattle.keeping.specs.Reasons.{IsUnread};
 use crate::connections::serve_until_failed;
 use crate::reasons::{Reason, put_reason};
 use engine::{Engine, FixedTable, Gate, OneUser};
-use lasting::Lasting;
+use engine_sqlite::Lasting;
 use server::Server;
 use sqlite::{Alter, Connection};
 use std::alloc::{AllocError, Global};

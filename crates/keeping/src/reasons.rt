@@ -1,10 +1,10 @@
 //! Why a server over a file ends, and what is said of it.
 ghost use Rattle.std.specs.Prelude.{ℕ, List, IfOk, string_bytes};
-ghost use Rattle.prints.specs.Stopping.{Gets};
+ghost use Rattle.cli_output.specs.Stopping.{Gets};
 ghost use Rattle.keeping.specs.Reasons.{IsLineOf, IsSaidOf, IsSaidOfFault};
 
-use lasting::OpenFault;
-use prints::{escape, tell};
+use cli_output::{escape, tell};
+use engine_sqlite::OpenFault;
 use std::alloc::{AllocError, Global};
 use std::io;
 use streams::Sink;

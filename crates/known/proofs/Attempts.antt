@@ -14,7 +14,7 @@ use Rattle.engine.specs.Prelude.{EntryView, under_token, TokensOnce, Other, foun
 use Rattle.engine.proofs.Once.{Has, only, under-append, answers_by_token}
 use Rattle.client.specs.declared.Outcome.{Outcome}
 use Rattle.client.specs.Prelude.{phase_accepted, outcome_of, has_more, verdict_of, resets}
-use Rattle.session.specs.Prelude.{Setting, Change, Written, Tx}
+use Rattle.server_session.specs.Prelude.{Setting, Change, Written, Tx}
 use Rattle.world.specs.Prelude.{Connection, Said, answer_count, said_version, World, ledger, Reached, goes_on, Each, SaidAt, transaction, is_success, tx_after, change, change_for, change_in, entries, outcome, outcome_in, tellings_of, delivered_whole, last_phase, server_outcome, if_lost, often, Never, Stands, StandsOnce, Good}
 use Rattle.world.proofs.Headline.{headline, reached_kept}
 use Rattle.world.proofs.Kept.{Inv, talks}
@@ -22,7 +22,7 @@ use Rattle.world.proofs.Outcomes.{SaidIs, said_is, said_request, outcome_said, s
 use Rattle.world.proofs.Serve.{has_left}
 use Rattle.world.proofs.Trace.{Trace, Denies, along_run}
 use Rattle.world.proofs.Limits.{commits_once, grows_by_work}
-use Rattle.driver.specs.Telling.{adds_nothing}
+use Rattle.client_tracking.specs.Telling.{adds_nothing}
 use Rattle.known.specs.Attempts.{BeginsUnder, IsAttempt, OthersStand, CommittedStands, RefusedCommitClashes, RefusedAddsNone, StaysKnown}
 
 -- no entry of a connection

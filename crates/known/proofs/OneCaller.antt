@@ -3,15 +3,15 @@ use Rattle.std.proofs.Common.{◌≡◌, refl, sym, ◌∙◌, ap, subst, ℕ, z
 use Rattle.std.proofs.lemmas.Bool.{and_parts, cases_Bool, eqb-false}
 use Rattle.engine.specs.Prelude.{EntryView}
 use Rattle.client.specs.declared.Outcome.{Outcome}
-use Rattle.session.specs.Prelude.{Setting}
+use Rattle.server_session.specs.Prelude.{Setting}
 use Rattle.world.specs.Prelude.{World, Reached, Each}
 use Rattle.world.proofs.Limits.{commits_once}
-use Rattle.driver.specs.declared.Tells.{Tells}
-use Rattle.driver.specs.declared.Retry.{Retry}
-use Rattle.driver.specs.declared.Fate.{Fate}
-use Rattle.driver.specs.Fates.{fate_of}
-use Rattle.driver.specs.Telling.{adds_nothing, is_committed, is_refused, all_nothing}
-use Rattle.driver.specs.Attempts.{told_of, Made, tells, tells_in}
+use Rattle.client_tracking.specs.declared.Tells.{Tells}
+use Rattle.client_tracking.specs.declared.Retry.{Retry}
+use Rattle.client_tracking.specs.declared.Fate.{Fate}
+use Rattle.client_tracking.specs.Fates.{fate_of}
+use Rattle.client_tracking.specs.Telling.{adds_nothing, is_committed, is_refused, all_nothing}
+use Rattle.client_tracking.specs.Attempts.{told_of, Made, tells, tells_in}
 use Rattle.known.specs.OneCaller.{IsMade, IsTry, OneStands, OneClashes, AddsNone, NoneAdded, OneCallerMayRely}
 use Rattle.known.proofs.Tied.{attempt_stands, attempt_clashes, attempt_adds_none}
 

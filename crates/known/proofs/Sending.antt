@@ -3,12 +3,12 @@ use Rattle.std.proofs.Common.{◌≡◌, refl, sym, subst, ap, ◌∙◌, ℕ, z
 use Rattle.messages.specs.declared.Count.TheVariants as count
 use Rattle.messages.specs.declared.Mode.{Mode}
 use Rattle.messages.specs.Prelude.{RequestView}
-use Rattle.driver.specs.declared.Tells.{Tells}
-use Rattle.driver.specs.Telling.{is_committed, is_refused, all_nothing}
-use Rattle.driver.specs.Attempts.{Made, told_of, tells}
-use Rattle.driver.proofs.Beyond.{told_beyond}
-use Rattle.connects.specs.declared.Break.{Break}
-use Rattle.connects.specs.Prelude.{AskedView, QueryView, asks_of, requests_of, Streams, Attempts, Ending, unmoved, AreTries}
+use Rattle.client_tracking.specs.declared.Tells.{Tells}
+use Rattle.client_tracking.specs.Telling.{is_committed, is_refused, all_nothing}
+use Rattle.client_tracking.specs.Attempts.{Made, told_of, tells}
+use Rattle.client_tracking.proofs.Beyond.{told_beyond}
+use Rattle.driver.specs.declared.Break.{Break}
+use Rattle.driver.specs.Prelude.{AskedView, QueryView, asks_of, requests_of, Streams, Attempts, Ending, unmoved, AreTries}
 use Rattle.world.specs.Prelude.{World, Each}
 use Rattle.known.specs.Attempts.{BeginsUnder}
 use Rattle.known.specs.OneCaller.{IsTry}

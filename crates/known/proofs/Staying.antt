@@ -4,13 +4,13 @@ use Rattle.std.proofs.lemmas.Bool.{cases_eq}
 use Rattle.std.proofs.lemmas.Option.{same_Some}
 use Rattle.client.specs.declared.SubmitFault.{SubmitFault}
 use Rattle.client.specs.Prelude.{refusal_of}
-use Rattle.session.specs.Prelude.{Setting}
+use Rattle.server_session.specs.Prelude.{Setting}
 use Rattle.messages.specs.Prelude.{RequestView}
 use Rattle.world.specs.Prelude.{Ours, Foreign, Connection, heard_by_bytes, World, Event, Seen, Effect, place}
 use Rattle.world.proofs.Deeds.{Did, opens, acts, step_did, set_same, set_other}
 use Rattle.world.proofs.Trace.{get_append}
 use Rattle.world.proofs.Sound.{Sound, reached_sound, Does, stays, asks, loses, gives, strange, deed_does}
-use Rattle.driver.specs.Attempts.{Attempt}
+use Rattle.client_tracking.specs.Attempts.{Attempt}
 use Rattle.known.specs.Tied.{IsAt, LostStays}
 
 module _ (w : World) (c : ℕ) (k : Connection) (a : Attempt) (at : IsAt w c k a) (lost : a.lost ≡ true) where

@@ -6,12 +6,12 @@ use Rattle.messages.specs.Prelude.{RequestView}
 use Rattle.engine.specs.Prelude.{EntryView}
 use Rattle.client.specs.declared.Outcome.{Outcome}
 use Rattle.client.specs.Prelude.{Told, Got, GotRow, Reading, knows_of, reading_of, losses}
-use Rattle.session.specs.Prelude.{Setting}
+use Rattle.server_session.specs.Prelude.{Setting}
 use Rattle.world.specs.Prelude.{Connection, heard_by_bytes, wish_of, World, Reached, Each, outcome, outcome_in, tellings_of, delivered_whole, by_peer, outcomes_at_loss, Good}
 use Rattle.world.proofs.Headline.{headline}
-use Rattle.driver.specs.Account.{outcome_lost}
-use Rattle.driver.specs.Telling.{adds_nothing}
-use Rattle.driver.specs.Attempts.{Attempt, read, told_lost, outcome_heard, told_of}
+use Rattle.client_tracking.specs.Account.{outcome_lost}
+use Rattle.client_tracking.specs.Telling.{adds_nothing}
+use Rattle.client_tracking.specs.Attempts.{Attempt, read, told_lost, outcome_heard, told_of}
 use Rattle.known.specs.Attempts.{BeginsUnder}
 use Rattle.known.specs.Tied.{IsAt, TellsOutcomes, AttemptStands, AttemptClashes, AttemptAddsNone}
 use Rattle.known.proofs.Attempts.{committed_stands, refused_commit_clashes, refused_adds_none}

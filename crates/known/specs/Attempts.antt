@@ -5,8 +5,8 @@ use Rattle.messages.specs.View.{RequestView}
 use Rattle.engine.specs.Views.{EntryView, WriteView}
 use Rattle.engine.specs.Tokens.{under_token}
 use Rattle.client.specs.declared.Outcome.{Outcome}
-use Rattle.session.specs.Session.{Setting}
-use Rattle.driver.specs.Telling.{adds_nothing}
+use Rattle.server_session.specs.Session.{Setting}
+use Rattle.client_tracking.specs.Telling.{adds_nothing}
 use Rattle.world.specs.Connections.{Ours, Connection}
 use Rattle.world.specs.World.{World, ledger, Reached, WStep, Event, Seen}
 use Rattle.world.specs.Good.{Each, outcome, change}

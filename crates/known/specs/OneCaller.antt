@@ -3,15 +3,15 @@ use Rattle.std.specs.Prelude.{◌≡◌, ◌⊎◌, ◌≤◌, ℕ, false, Optio
 use Rattle.messages.specs.View.{RequestView}
 use Rattle.engine.specs.Views.{EntryView}
 use Rattle.engine.specs.Tokens.{under_token}
-use Rattle.session.specs.Session.{Setting}
+use Rattle.server_session.specs.Session.{Setting}
 use Rattle.world.specs.Connections.{Connection}
 use Rattle.world.specs.World.{World, ledger, Reached}
 use Rattle.world.specs.Good.{Each, change}
-use Rattle.driver.specs.declared.Tells.{Tells}
-use Rattle.driver.specs.declared.Retry.{Retry}
-use Rattle.driver.specs.declared.Fate.{Fate}
-use Rattle.driver.specs.Fates.{fate_of}
-use Rattle.driver.specs.Attempts.{Made, tells, tells_in}
+use Rattle.client_tracking.specs.declared.Tells.{Tells}
+use Rattle.client_tracking.specs.declared.Retry.{Retry}
+use Rattle.client_tracking.specs.declared.Fate.{Fate}
+use Rattle.client_tracking.specs.Fates.{fate_of}
+use Rattle.client_tracking.specs.Attempts.{Made, tells, tells_in}
 use Rattle.known.specs.Attempts.{BeginsUnder, OthersStand}
 use Rattle.known.specs.Tied.{IsAt}
 

@@ -1,13 +1,13 @@
--- The meaning of a call of `until_known` of `connects` for the ledger.
+-- The meaning of a call of `until_known` of `driver` for the ledger.
 use Rattle.std.specs.Prelude.{◌≡◌, ℕ, false, Option, Some, None, List, map}
 use Rattle.engine.specs.Views.{EntryView}
-use Rattle.session.specs.Session.{Setting}
-use Rattle.driver.specs.declared.Retry.{Retry}
-use Rattle.driver.specs.declared.Fate.{Fate}
-use Rattle.driver.specs.Attempts.{Made, tells_in}
-use Rattle.driver.specs.Fates.{fate_of}
-use Rattle.connects.specs.Attempting.{AskedView}
-use Rattle.connects.specs.Retrying.{Ending, AreTries}
+use Rattle.server_session.specs.Session.{Setting}
+use Rattle.client_tracking.specs.declared.Retry.{Retry}
+use Rattle.client_tracking.specs.declared.Fate.{Fate}
+use Rattle.client_tracking.specs.Attempts.{Made, tells_in}
+use Rattle.client_tracking.specs.Fates.{fate_of}
+use Rattle.driver.specs.Attempting.{AskedView}
+use Rattle.driver.specs.Retrying.{Ending, AreTries}
 use Rattle.world.specs.Connections.{Connection}
 use Rattle.world.specs.World.{World, Reached}
 use Rattle.world.specs.Good.{Each}

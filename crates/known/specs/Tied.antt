@@ -4,12 +4,12 @@ use Rattle.messages.specs.View.{RequestView}
 use Rattle.engine.specs.Views.{EntryView}
 use Rattle.engine.specs.Tokens.{under_token}
 use Rattle.client.specs.declared.Outcome.{Outcome}
-use Rattle.session.specs.Session.{Setting}
+use Rattle.server_session.specs.Session.{Setting}
 use Rattle.world.specs.Connections.{Ours, Connection, bytes_delivered}
 use Rattle.world.specs.World.{World, Event, Seen, WStep, ledger, Reached}
 use Rattle.world.specs.Good.{Each, outcome, change}
-use Rattle.driver.specs.Telling.{adds_nothing}
-use Rattle.driver.specs.Attempts.{Attempt, told_of}
+use Rattle.client_tracking.specs.Telling.{adds_nothing}
+use Rattle.client_tracking.specs.Attempts.{Attempt, told_of}
 use Rattle.known.specs.Attempts.{BeginsUnder, OthersStand}
 
 -- The connection with this number in the world is the attempt. Its client is one of this library, and it has the attempt's wish. It submitted the

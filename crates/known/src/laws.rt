@@ -63,7 +63,7 @@ pub fn one_caller_may_rely()
     ensures { OneCallerMayRely }
 {}
 
-/// States the same of a call of `until_known` of `connects`, and of the attempts that it made over the connections that it opened.
+/// States the same of a call of `until_known` of `driver`, and of the attempts that it made over the connections that it opened.
 pub fn sent_until_known()
     ensures { SentUntilKnown }
 {}

@@ -1,8 +1,8 @@
 //! Serves a fixed table whose ledger is kept in a file, at a port of this machine, one connection after another, until its disk fails.
 #![tactic(auto)]
 
+use cli_output::fill_closed;
 use keeping::serve_file;
-use prints::fill_closed;
 use std::io;
 use std::io::ErrorKind;
 use std::process::ExitCode;

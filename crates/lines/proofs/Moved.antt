@@ -5,7 +5,7 @@ use Rattle.std.specs.Io.KnownBytes.{Appends}
 use Rattle.std.proofs.KnownBytes.{Appends-nil, Appends-trans}
 use Rattle.engine.specs.declared.answer.Mode.{Mode as QueryMode}
 use Rattle.engine.specs.Prelude.{WriteView, ParameterView, EntryView, AnswerView, QueryFault, Welcome}
-use Rattle.session.specs.declared.kinds.Worked.{Worked}
+use Rattle.server_session.specs.declared.kinds.Worked.{Worked}
 use Rattle.server.specs.declared.kinds.Took.{Took}
 use Rattle.server.specs.Prelude.{Rest, Event, feeds, works, takes, loses, after_call, after_event, after_events, feed_at, work_at, take_out_at, took_by, used_of, bytes_taken}
 use Rattle.lines.specs.Prelude.{Wire, Held, End, out_of, gave_by, bytes_given, ends_by, ends_of, AreOn, Moves, Carries}

@@ -5,9 +5,9 @@ use Rattle.std.proofs.lemmas.Bool.{eq-eqb}
 use Rattle.std.proofs.lemmas.List.{drop_all}
 use Rattle.engine.specs.declared.answer.Mode.{Mode as QueryMode}
 use Rattle.engine.specs.Prelude.{WriteView, ParameterView, EntryView, AnswerView, QueryFault, Welcome}
-use Rattle.session.specs.declared.kinds.Cause.{Cause}
-use Rattle.session.specs.declared.kinds.Cause.TheVariants as cause
-use Rattle.session.specs.Prelude.{take_kept}
+use Rattle.server_session.specs.declared.kinds.Cause.{Cause}
+use Rattle.server_session.specs.declared.kinds.Cause.TheVariants as cause
+use Rattle.server_session.specs.Prelude.{take_kept}
 use Rattle.server.specs.declared.kinds.Refused.{Refused}
 use Rattle.server.specs.declared.kinds.Refused.TheVariants as refused
 use Rattle.server.specs.Prelude.{Rest, Live, loses, find, replace, taken_from, with_kept, with_session, cause_or, take_out_at, lost_at, after_call, MayTakeOut}

@@ -2,7 +2,7 @@
 use Rattle.std.proofs.Common.{◌≡◌, refl, sym, ◌∙◌, ap, subst, ℕ, zero, suc, Some, None, Option, List, [], ◌∷◌, ◌++◌, slice_get, append-nil, append_assoc}
 use Rattle.engine.specs.Prelude.{EntryView, Token, TokensOnce, under_token}
 use Rattle.engine.proofs.Once.{under-append, only}
-use Rattle.session.specs.Prelude.{Setting, Change}
+use Rattle.server_session.specs.Prelude.{Setting, Change}
 use Rattle.world.specs.Connections.{Connection}
 use Rattle.world.specs.World.{World, ledger, Reached, begins, goes_on, takes_out, taken_out}
 use Rattle.world.specs.Good.{change, often, Stands, StandsOnce}

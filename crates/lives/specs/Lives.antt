@@ -4,7 +4,7 @@ use Rattle.wire.specs.declared.Wish.{Wish}
 use Rattle.engine.specs.Views.{EntryView, Token}
 use Rattle.engine.specs.Tokens.{under_token, TokensOnce}
 use Rattle.client.specs.declared.Outcome.{Outcome}
-use Rattle.session.specs.Session.{Setting, Change}
+use Rattle.server_session.specs.Session.{Setting, Change}
 use Rattle.world.specs.Connections.{Connection, Ours}
 use Rattle.world.specs.World.{World, ledger, Reached, IsLedger}
 use Rattle.world.specs.Good.{Good, outcome, change, entries}

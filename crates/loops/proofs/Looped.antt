@@ -13,16 +13,16 @@ pub use Rattle.std.proofs.Math.Seq.{drop-append_seam, drop-length, take-append-a
 pub use Rattle.std.proofs.lemmas.List.Sums.{fold-append}
 pub use borrow.Rule.Slice.PartMut.{post_of, put_mid}
 pub use Rattle.wire.proofs.Readers.{outputs-append}
-pub use Rattle.cells.proofs.Equality.{bytes_are, bytes_is}
+pub use Rattle.structures_cells.proofs.Equality.{bytes_are, bytes_is}
 pub use Rattle.engine.specs.Prelude.{EntryView, entries_view}
-pub use Rattle.session.specs.Prelude.{Setting, begun}
+pub use Rattle.server_session.specs.Prelude.{Setting, begun}
 pub use Rattle.server.specs.Prelude.{Fits, Live, Rest, find, opened, setting}
 pub use Rattle.streams.specs.Limits.{max_piece}
-pub use Rattle.asks.proofs.Tales.{over_tale}
-pub use Rattle.serves.proofs.Called.{grows_by, lives_same, replace-itself}
-pub use Rattle.serves.proofs.Talks.{item_talk-append, talk_by_items, told_over}
-pub use Rattle.serves.specs.Prelude.{Grows, IsLive, TakesPiece, Talk, item_talk, told_by, with_talk}
-pub use Rattle.serves.specs.declared.liveness.Liveness.{Liveness}
+pub use Rattle.client_blocking.proofs.Tales.{over_tale}
+pub use Rattle.server_blocking.proofs.Called.{grows_by, lives_same, replace-itself}
+pub use Rattle.server_blocking.proofs.Talks.{item_talk-append, talk_by_items, told_over}
+pub use Rattle.server_blocking.specs.Prelude.{Grows, IsLive, TakesPiece, Talk, item_talk, told_by, with_talk}
+pub use Rattle.server_blocking.specs.declared.liveness.Liveness.{Liveness}
 pub use Rattle.one_by_one.proofs.Served.{found_by}
 pub use Rattle.loops.specs.Prelude.{AreQuiet, Breaks, BreaksAt, BreaksAtSource, BreaksIn, Comes, EndsAt, Goes, HasHeard, HearsFront, HearsUpTo, HasLooped, IsHeardAll, IsQuiet, LetsReadWaiting, Meets}
 pub use Rattle.loops.specs.Prelude.{Numbers, Outset, Passes, ReadsUpTo, Sits, StandsAt, TellsLine, Turns, Way, Ways, all_sent, answer_to, asked, due, end, exchanged, next_turn, no_turns, outset}

@@ -2,13 +2,13 @@
 use Rattle.std.specs.Prelude.{◌⊎◌, ℕ, List, take, Option, Result, Ok, Err}
 use Rattle.std.specs.Io.KnownBytes.{Appends}
 use Rattle.engine.specs.Views.{EntryView}
-use Rattle.session.specs.Session.{Setting}
+use Rattle.server_session.specs.Session.{Setting}
 use Rattle.server.specs.Serving.{Rest}
 use Rattle.streams.specs.declared.fault.StreamFault.{StreamFault}
 use Rattle.streams.specs.Fronts.{AppendsFront}
-use Rattle.scripts.specs.Views.{ScriptRequestView}
-use Rattle.prints.specs.declared.stop.StopReason.TheVariants.{Broken}
-use Rattle.prints.specs.Telling.{entries_text}
+use Rattle.cli_scripts.specs.Views.{ScriptRequestView}
+use Rattle.cli_output.specs.declared.stop.StopReason.TheVariants.{Broken}
+use Rattle.cli_output.specs.Telling.{entries_text}
 use Rattle.loops.specs.declared.loops.Pair.{Pair}
 use Rattle.loops.specs.Turns.{AreQuiet, IsQuiet, Turns, all_sent, due, exchanged, stage, talk_for, turns_of}
 use Rattle.loops.specs.Ways.{Ways}

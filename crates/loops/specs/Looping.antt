@@ -2,29 +2,29 @@
 use Rattle.std.specs.Prelude.{◌≡◌, ◌⊎◌, ◌≤◌, ℕ, Bool, false, List, [], ◌++◌, length, Option, Some, IsSome, Result, Ok, Err}
 use Rattle.std.specs.Io.KnownBytes.{Appends, Consumes}
 use Rattle.wire.specs.Framing.{Opened}
-use Rattle.session.specs.Session.{Setting}
-use Rattle.scripts.specs.Rows.{request_line_of}
-use Rattle.scripts.specs.Views.{ScriptRequestView}
-use Rattle.scripts.specs.declared.fault.ScriptFault.{ScriptFault}
-use Rattle.scripts.specs.Script.{IsRefused}
+use Rattle.server_session.specs.Session.{Setting}
+use Rattle.cli_scripts.specs.Rows.{request_line_of}
+use Rattle.cli_scripts.specs.Views.{ScriptRequestView}
+use Rattle.cli_scripts.specs.declared.fault.ScriptFault.{ScriptFault}
+use Rattle.cli_scripts.specs.Script.{IsRefused}
 use Rattle.shells.specs.declared.caller.Caller.{Caller}
 use Rattle.loops.specs.declared.loops.Pair.{Pair}
-use Rattle.prints.specs.declared.stop.StopReason.{StopReason}
-use Rattle.prints.specs.declared.stop.StopReason.TheVariants.{Unreadable, Broken}
-use Rattle.prints.specs.Stopping.{Gets, IsStopOf, stop_text}
+use Rattle.cli_output.specs.declared.stop.StopReason.{StopReason}
+use Rattle.cli_output.specs.declared.stop.StopReason.TheVariants.{Unreadable, Broken}
+use Rattle.cli_output.specs.Stopping.{Gets, IsStopOf, stop_text}
 use Rattle.shells.specs.Talking.{Place, IsAt, text_of, place_after}
 use Rattle.loops.specs.Turns.{Turns, no_turns, AreQuiet, all_sent, given, talk_for, turns_of}
 use Rattle.loops.specs.Ways.{Way, Ways}
 use Rattle.loops.specs.Passing.{FailsToRead, FailsToWrite, Passes}
 use Rattle.server.specs.Serving.{Rest, find, opened}
 use Rattle.streams.specs.declared.fault.StreamFault.{StreamFault}
-use Rattle.serves.specs.declared.liveness.Liveness.{Liveness}
-use Rattle.serves.specs.Conversing.{Talk, with_talk}
+use Rattle.server_blocking.specs.declared.liveness.Liveness.{Liveness}
+use Rattle.server_blocking.specs.Conversing.{Talk, with_talk}
 use Rattle.streams.specs.Fronts.{AppendsFront}
 use Rattle.streams.specs.Limits.{max_piece}
-use Rattle.serves.specs.Settling.{Grows, Stands, TakesUp}
-use Rattle.serves.specs.Views.{SinkView}
-use Rattle.prints.specs.Telling.{entries_text}
+use Rattle.server_blocking.specs.Settling.{Grows, Stands, TakesUp}
+use Rattle.server_blocking.specs.Views.{SinkView}
+use Rattle.cli_output.specs.Telling.{entries_text}
 
 -- a stop at a line that can't be read has the number of the first such line
 abbrev pub Numbers : List ℕ → StopReason → Type 0

@@ -5,14 +5,14 @@ use Rattle.std.specs.List.{fold}
 use Rattle.std.specs.Option.{option_map_or}
 use Rattle.messages.specs.View.{RequestView}
 use Rattle.engine.specs.Views.{EntryView}
-use Rattle.session.specs.Session.{Setting}
+use Rattle.server_session.specs.Session.{Setting}
 use Rattle.client.specs.declared.SubmitFault.{SubmitFault}
 use Rattle.client.specs.Rest.{refuses, awaits}
-use Rattle.serves.specs.Conversing.{Talk, conversation}
-use Rattle.scripts.specs.Views.{ScriptRequestView}
-use Rattle.scripts.specs.Meant.{meant}
-use Rattle.prints.specs.Names.{refusal_code}
-use Rattle.prints.specs.Telling.{refused_line}
+use Rattle.server_blocking.specs.Conversing.{Talk, conversation}
+use Rattle.cli_scripts.specs.Views.{ScriptRequestView}
+use Rattle.cli_scripts.specs.Meant.{meant}
+use Rattle.cli_output.specs.Names.{refusal_code}
+use Rattle.cli_output.specs.Telling.{refused_line}
 use Rattle.shells.specs.Talking.{Place, first_place, submitted, place_after, text_of}
 
 -- where a client stands once a request is submitted: it is accepted, or refused

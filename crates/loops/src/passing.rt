@@ -3,16 +3,16 @@ ghost use Rattle.std.specs.Prelude.{◌≡◌, ◌⊎◌, ◌≤◌, ◌<◌, �
 ghost use Rattle.std.specs.Io.KnownBytes.{Consumes};
 ghost use Rattle.server.specs.Serving.{Rest, find, setting};
 ghost use Rattle.server.specs.Views.{Fits};
-ghost use Rattle.serves.specs.Settling.{IsLive, LivesOn};
+ghost use Rattle.server_blocking.specs.Settling.{IsLive, LivesOn};
 ghost use Rattle.loops.specs.Passing.{BreaksAtSource, GivesNoMore, GivesSome, LetsReadWaiting, Passes};
 ghost use Rattle.loops.specs.Looping.{HandsOver, HasHeard, HearsFront, IsHeardAll, Outset, Sits, StandsAt};
 ghost use Rattle.shells.specs.Talking.{Place};
 
 use crate::ways::OneWay;
-use asks::feed_piece;
+use client_blocking::feed_piece;
 use engine::{Engine, Gate};
 use server::Server;
-use serves::{Liveness, take_piece};
+use server_blocking::{Liveness, take_piece};
 use shells::Caller;
 use std::alloc::Global;
 use streams::{Buffer, MAX_PIECE, PeerSource, Sink, StreamFault, write_all};
@@ -135,7 +135,7 @@ pub(crate) fn hand_over<T: Sink, S: PeerSource, O: Sink>(
 }
 
 /// The session takes a piece and puts out what it makes due, unless it has ended.
-#[tactic(auto, using(serves::proofs::Called::lives_same))]
+#[tactic(auto, using(server_blocking::proofs::Called::lives_same))]
 pub(crate) fn give<E: Engine, G: Gate>(
     server: &mut Server<E, G>,
     conn: u64,

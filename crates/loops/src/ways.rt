@@ -10,7 +10,7 @@ pub struct OneWay<T: Sink, S: PeerSource> {
 }
 
 impl<T: Sink, S: PeerSource> Model for OneWay<T, S> {
-    ghost use Rattle.prints.specs.Seen.{Seen};
+    ghost use Rattle.cli_output.specs.Seen.{Seen};
     ghost use Rattle.loops.specs.Ways.{Way};
 
     ghost Value = { Seen (T × S) Way };
@@ -37,7 +37,7 @@ pub struct BothWays<A: PeerSource, B: Sink, C: PeerSource, D: Sink, O: Sink> {
 }
 
 impl<A: PeerSource, B: Sink, C: PeerSource, D: Sink, O: Sink> Model for BothWays<A, B, C, D, O> {
-    ghost use Rattle.prints.specs.Seen.{Seen};
+    ghost use Rattle.cli_output.specs.Seen.{Seen};
     ghost use Rattle.loops.specs.Ways.{Ways};
 
     ghost Value = { Seen ((B × C) × (D × A) × O) Ways };

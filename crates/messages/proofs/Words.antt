@@ -46,16 +46,16 @@ pub use Rattle.wire.specs.declared.Version.TheVariants.{V44, V50, V51}
 pub use Rattle.wire.specs.declared.Wish.{Wish}
 pub use Rattle.wire.specs.declared.Wish.TheVariants.{Only, Newest}
 pub use Rattle.wire.specs.declared.items.Piece.{Piece}
-pub use Rattle.cells.proofs.Fine.{fine_scan}
-pub use Rattle.cells.proofs.Views.{shape-Dict, shape-List, Pair}
-pub use Rattle.cells.specs.Prelude.{scan, fault as structure_fault, structures, structures_in, structures_under, fault_of_structure, IsWritable, text_of, shape, entries, shapes}
-pub use Rattle.cells.specs.declared.cell.Cell.{Cell, Dict as DictCell, List as ListCell}
-pub use Rattle.cells.specs.declared.fault.Reason.{Reason as CellReason}
+pub use Rattle.structures_cells.proofs.Fine.{fine_scan}
+pub use Rattle.structures_cells.proofs.Views.{shape-Dict, shape-List, Pair}
+pub use Rattle.structures_cells.specs.Prelude.{scan, fault as structure_fault, structures, structures_in, structures_under, fault_of_structure, IsWritable, text_of, shape, entries, shapes}
+pub use Rattle.structures_cells.specs.declared.cell.Cell.{Cell, Dict as DictCell, List as ListCell}
+pub use Rattle.structures_cells.specs.declared.fault.Reason.{Reason as CellReason}
 pub use Rattle.structures.proofs.Clauses.{reads_by, writes_by}
 pub use Rattle.structures.proofs.Formed.{again, form_is as formed_is, form_of}
 pub use Rattle.structures.specs.Prelude.{HasGoodForm, form, typed, typed_all, typed_under, Form, Reads, Writes, form_all, form_under, to_local}
 pub use Rattle.structures.specs.declared.fault.CellFault.{CellFault}
-pub use Rattle.scanner.specs.Fronts.{SpellsFront}
+pub use Rattle.structures_decoder.specs.Fronts.{SpellsFront}
 pub use Rattle.messages.specs.Prelude.{rows_put, value_told, is_token, requests, request_view, request_contents, request_held, responses, response_view, response_contents}
 pub use Rattle.messages.specs.Prelude.{response_held, contents_by, form_put, lookup, entries_seen, how_many, all_named, ◌>>=◌, contents_in, named_text, auth_view, token_view}
 pub use Rattle.messages.specs.Prelude.{refused, ignored, of_transaction, RECORD, contents}

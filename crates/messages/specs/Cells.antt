@@ -4,9 +4,9 @@ use Rattle.packstream.specs.declared.fault.Reason.{Reason as PackReason}
 use Rattle.packstream.specs.Tree.{Tree}
 use Rattle.packstream.specs.Making.{first_fault, faults_in}
 use Rattle.wire.specs.declared.Version.{Version}
-use Rattle.cells.specs.declared.fault.Reason.{Reason as CellReason}
-use Rattle.cells.specs.Faults.{scan, structures}
-use Rattle.cells.specs.Writing.{fault_of_structure}
+use Rattle.structures_cells.specs.declared.fault.Reason.{Reason as CellReason}
+use Rattle.structures_cells.specs.Faults.{scan, structures}
+use Rattle.structures_cells.specs.Writing.{fault_of_structure}
 use Rattle.structures.specs.Form.{form}
 use Rattle.messages.specs.declared.fault.MsgFault.{MsgFault}
 use Rattle.messages.specs.declared.fault.MsgFault.TheVariants as fault

@@ -2,8 +2,8 @@
 use Rattle.std.specs.Prelude.{if◌then◌else◌, ◌≡◌, ℕ, map, String, string_bytes, pos, negsuc, int_le, List, [], ◌∷◌, ◌++◌, codes, Option, None, Some, Result, Ok, Err}
 use Rattle.std.specs.Borrow.{Bor}
 use Rattle.std.specs.declared.alloc.Global.{Global}
-use Rattle.cells.specs.Shape.{text_of, entries, shapes}
-use Rattle.cells.specs.declared.cell.Cell.{Cell}
+use Rattle.structures_cells.specs.Shape.{text_of, entries, shapes}
+use Rattle.structures_cells.specs.declared.cell.Cell.{Cell}
 use Rattle.packstream.specs.declared.fault.Reason.{Reason}
 use Rattle.packstream.specs.Tree.{Tree, null, int, text, list, dict, structure, Trees, no_trees, tree_then, Entries}
 use Rattle.packstream.specs.declared.value.Value.{Value}

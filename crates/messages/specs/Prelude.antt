@@ -20,4 +20,4 @@ pub use Rattle.packstream.specs.Prelude.{Tree, int, text, dict, structure, no_tr
 unfoldable pub use Rattle.packstream.specs.Prelude.{whole_of}
 unfoldable pub use Rattle.wire.specs.Prelude.{written_run}
 pub use Rattle.wire.specs.Limits.{max_message}
-pub use Rattle.cells.specs.Shape.{shape, text_of, entries}
+pub use Rattle.structures_cells.specs.Shape.{shape, text_of, entries}

@@ -4,7 +4,7 @@ use Rattle.packstream.specs.Tree.{Tree, Trees, Entries, dict, list}
 use Rattle.packstream.specs.Good.{IsGood, depth}
 use Rattle.packstream.specs.Spelling.{Spells, SpellsText, SpellsTree}
 use Rattle.wire.specs.declared.Version.{Version}
-use Rattle.scanner.specs.Fronts.{SpellsFront}
+use Rattle.structures_decoder.specs.Fronts.{SpellsFront}
 use Rattle.messages.specs.declared.request.Mode.{Mode}
 use Rattle.messages.specs.declared.request.Count.{Count}
 use Rattle.messages.specs.Table.{Named, Others, ignored, refused, of_transaction, how_many}

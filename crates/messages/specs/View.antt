@@ -2,7 +2,7 @@
 use Rattle.std.specs.Prelude.{ℕ, List, String, string_bytes, Option, None, Some, option_map}
 use Rattle.std.specs.declared.alloc.Global.{Global}
 use Rattle.packstream.specs.Tree.{Tree}
-use Rattle.cells.specs.Shape.{shapes, entries}
+use Rattle.structures_cells.specs.Shape.{shapes, entries}
 use Rattle.messages.specs.declared.request.Mode.{Mode}
 use Rattle.messages.specs.declared.request.Count.{Count}
 use Rattle.messages.specs.declared.request.Auth.{Auth}

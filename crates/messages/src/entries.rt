@@ -48,7 +48,7 @@ impl Item for Value {
 impl Item for Cell {
     ghost seen = { shape };
 
-    #[tactic(auto, using(speller::proofs::Flat::shape_of_dict))]
+    #[tactic(auto, using(structures_encoder::proofs::Flat::shape_of_dict))]
     fn kind(&self) -> Kind<'_, Cell> {
         match self {
             Cell::Text(text) => Kind::Text(text),

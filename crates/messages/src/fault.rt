@@ -4,9 +4,9 @@ ghost use Rattle.messages.specs.Prelude.{of_pack, of_cell};
 ghost use Rattle.messages.specs.declared.fault.MsgFault.TheVariants.{Memory};
 
 use packstream::PackFault;
-use scanner::Unscanned;
 use std::alloc::{AllocError, AllocFailed};
 use structures::CellFault;
+use structures_decoder::Unscanned;
 use thiserror::Error;
 
 /// Why bytes are no message of a version, or a message can't be written at it. The texts are the codes that programs

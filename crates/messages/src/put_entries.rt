@@ -6,7 +6,7 @@ use crate::entries::is_token;
 use crate::request::{Auth, Mode};
 use crate::write_parts::{Spelled, put_structure};
 use packstream::writing::put_head;
-use speller::{Output, Unspelled, put_text};
+use structures_encoder::{Output, Unspelled, put_text};
 
 /// The entry of a token, the last.
 #[tactic(auto, using(crate::proofs::Named::token_entry_added))]

@@ -4,9 +4,9 @@ ghost use Rattle.messages.specs.Prelude.{tree, shape, Answers, SpellsDict, field
 
 use crate::fault::{Answer, MsgFault};
 use packstream::Value;
-use scanner::{Unscanned, scan_dict};
 use std::alloc::Global;
 use structures::{Cell, read_value};
+use structures_decoder::{Unscanned, scan_dict};
 use wire::Version;
 
 /// The entries of a dictionary of cells.
@@ -75,7 +75,7 @@ fn cell_in(alloc: Global, version: Version, field: &Value) -> Result<Cell, MsgFa
 }
 
 /// A dictionary of cells.
-#[tactic(auto, using(speller::proofs::Flat::shape_of_dict))]
+#[tactic(auto, using(structures_encoder::proofs::Flat::shape_of_dict))]
 pub(crate) fn cells_in(alloc: Global, version: Version, field: &Value) -> Answer<Cells>
     ensures { Answers (λ v. cells_tree v.items) result (dict_of_cells version (tree field.now)) }
 {

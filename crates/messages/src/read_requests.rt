@@ -10,8 +10,8 @@ use crate::request::Request;
 use crate::scan_entries::{cells_of_extra, rows_in, transaction_in};
 use crate::tags;
 use packstream::Value;
-use scanner::{Unscanned, scan_text};
 use std::alloc::Global;
+use structures_decoder::{Unscanned, scan_text};
 use wire::Version;
 
 /// A request without fields.

@@ -11,8 +11,8 @@ use crate::response::Response;
 use crate::scan_entries::cells_of_extra;
 use crate::tags;
 use packstream::Value;
-use scanner::{Unscanned, scan_list};
 use std::alloc::Global;
+use structures_decoder::{Unscanned, scan_list};
 use wire::Version;
 
 /// The response of a value, by the table of responses.

@@ -7,8 +7,8 @@ use crate::fault::{Answer, MsgFault};
 use crate::request::Request;
 use crate::write_requests::put_request;
 use bytes::BytesMut;
-use speller::{Output, Unspelled};
 use std::alloc::AllocError;
+use structures_encoder::{Output, Unspelled};
 use wire::{Version, put_message};
 
 /// How many bytes the header of a chunk has.

@@ -6,8 +6,8 @@ ghost use Rattle.messages.specs.Prelude.{canon, dict, entries_of, shape, mode_pa
 use crate::entries::{Transaction, count_in, is_token, transaction_of};
 use crate::read_parts::{Cells, FIELD_DEPTH, Scanned, behind, end};
 use crate::request::{Count, Mode};
-use scanner::{Unscanned, scan_dict, scan_int, scan_text};
 use std::alloc::Global;
+use structures_decoder::{Unscanned, scan_dict, scan_int, scan_text};
 use wire::Version;
 
 /// The count that a number of rows is.

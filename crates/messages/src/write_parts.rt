@@ -6,9 +6,9 @@ use crate::fault::{Answer, MsgFault};
 use crate::read_parts::{Cells, FIELD_DEPTH};
 use bytes::BytesMut;
 use packstream::{MAX_SIZE, Value};
-use speller::{Output, Unspelled, put_dict};
 use std::alloc::{AllocError, Global};
 use structures::write_entries;
+use structures_encoder::{Output, Unspelled, put_dict};
 use wire::Version;
 
 /// The entries of a dictionary.

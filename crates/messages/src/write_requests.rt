@@ -13,8 +13,8 @@ use crate::write_parts::{
 };
 use bytes::BytesMut;
 use packstream::Value;
-use speller::{Output, Unspelled, put_int, put_text};
 use std::alloc::{AllocError, Global};
+use structures_encoder::{Output, Unspelled, put_int, put_text};
 use wire::Version;
 
 /// The entry of a mode; that of writing isn't written.

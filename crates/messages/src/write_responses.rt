@@ -13,9 +13,9 @@ use crate::write_parts::{
 };
 use bytes::BytesMut;
 use packstream::Value;
-use speller::{Output, Unspelled, put_list};
 use std::alloc::Global;
 use structures::{Cell, write_members};
+use structures_encoder::{Output, Unspelled, put_list};
 use wire::Version;
 
 /// The value of a list of cells.

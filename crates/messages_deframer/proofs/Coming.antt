@@ -13,11 +13,11 @@ use Rattle.wire.proofs.Cuts.{cuts_agree, further-further, further-zero}
 use Rattle.wire.proofs.Framed.{answers_take}
 use Rattle.wire.proofs.Limits.{tells_too_big}
 use Rattle.wire.proofs.Room.{part_wants}
-use Rattle.reader.specs.Prelude.{Point, Reads}
-use Rattle.inbox.specs.declared.stream.Stream.{Stream}
-use Rattle.inbox.specs.Standing.{IsAt}
-use Rattle.inbox.specs.Scanning.{Scans, Comes, item_ended, rest_ended}
-use Rattle.inbox.proofs.Room.{further_wants, fewer_wants, comes_end}
+use Rattle.packstream_incremental.specs.Prelude.{Point, Reads}
+use Rattle.messages_deframer.specs.declared.stream.Stream.{Stream}
+use Rattle.messages_deframer.specs.Standing.{IsAt}
+use Rattle.messages_deframer.specs.Scanning.{Scans, Comes, item_ended, rest_ended}
+use Rattle.messages_deframer.proofs.Room.{further_wants, fewer_wants, comes_end}
 
 -- before the first byte of the piece
 pub comes_none : (s : Stream) (u : Unfinished) (piece : List ℕ) → IsAt s u → s.is_over ≡ false → Comes u piece 0 s.chunks s.reader.here

@@ -9,15 +9,15 @@ use Rattle.wire.specs.Prelude.{Place, start, cut_at, IsData, BeginsWith, Unfinis
 use Rattle.wire.proofs.First.{takes_first}
 use Rattle.wire.proofs.Readers.{reads_pieces}
 use Rattle.wire.proofs.Room.{part_wants}
-use Rattle.reader.specs.Prelude.{Point, Reads, MayGoOn}
-use Rattle.reader.proofs.Pieces.{nothing_goes_on}
-use Rattle.inbox.specs.declared.stream.Stream.{Stream}
-use Rattle.inbox.specs.Standing.{IsAt}
-use Rattle.inbox.specs.Taking.{whole_message, WantsRoom}
-use Rattle.inbox.specs.Scanning.{Comes, Scans}
-use Rattle.inbox.proofs.Coming.{comes_none, comes_on, comes_all, left_of, taken_as, from_here}
-use Rattle.inbox.proofs.Parts.{keeps_going}
-use Rattle.inbox.proofs.Taken.{empty_is, at_part, UsesUp, uses_up}
+use Rattle.packstream_incremental.specs.Prelude.{Point, Reads, MayGoOn}
+use Rattle.packstream_incremental.proofs.Pieces.{nothing_goes_on}
+use Rattle.messages_deframer.specs.declared.stream.Stream.{Stream}
+use Rattle.messages_deframer.specs.Standing.{IsAt}
+use Rattle.messages_deframer.specs.Taking.{whole_message, WantsRoom}
+use Rattle.messages_deframer.specs.Scanning.{Comes, Scans}
+use Rattle.messages_deframer.proofs.Coming.{comes_none, comes_on, comes_all, left_of, taken_as, from_here}
+use Rattle.messages_deframer.proofs.Parts.{keeps_going}
+use Rattle.messages_deframer.proofs.Taken.{empty_is, at_part, UsesUp, uses_up}
 
 -- where room is wanted of a piece
 pub wants : (s : Stream) (u v : Unfinished) (piece : List ℕ) → u ≡ v → IsAt s u → s.is_over ≡ false → MayGoOn u.body → wants_room (length u.body) (answer_from u piece) ≡ true → WantsRoom v piece

@@ -3,7 +3,7 @@ use Rattle.std.proofs.Common.{◌≡◌, refl, sym, ◌∙◌, ap, ap₂, ℕ, z
 use Rattle.std.proofs.lemmas.Bool.Decides.{nat_tests}
 use Rattle.std.proofs.lemmas.List.{take_all}
 use Rattle.wire.specs.Prelude.{Unfinished, fresh, Took, takes, one_more, ends_at, Item, Opening, chunks, Opened, opening, reading, opening_reader}
-use Rattle.inbox.specs.Opening.{come}
+use Rattle.messages_deframer.specs.Opening.{come}
 
 -- what is taken of chunks, in a stream that is open
 abbrev pub opened : Took Unfinished Item → Took Opened Item

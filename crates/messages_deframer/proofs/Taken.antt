@@ -6,14 +6,14 @@ use Rattle.wire.specs.declared.parts.Part.TheVariants as part
 use Rattle.wire.specs.Prelude.{Place, start, Unfinished, fresh, unfinished_at, refused, after_limit, next, Took, takes, one_more, Item, Message, chunks, Holds}
 use Rattle.wire.specs.Framing.{after_step as kept_after}
 use Rattle.packstream.specs.Prelude.{AreBytes}
-use Rattle.reader.specs.Prelude.{Point, Reads}
+use Rattle.packstream_incremental.specs.Prelude.{Point, Reads}
 use Rattle.messages.specs.declared.fault.MsgFault.{MsgFault}
-use Rattle.inbox.specs.declared.brought.Brought.{Brought}
-use Rattle.inbox.specs.declared.brought.Brought.TheVariants as brought
-use Rattle.inbox.specs.declared.stream.Stream.{Stream}
-use Rattle.inbox.specs.Standing.{IsAt}
-use Rattle.inbox.specs.Taking.{Brings, TakesAt, Takes, used_up}
-use Rattle.inbox.specs.Scanning.{Scans}
+use Rattle.messages_deframer.specs.declared.brought.Brought.{Brought}
+use Rattle.messages_deframer.specs.declared.brought.Brought.TheVariants as brought
+use Rattle.messages_deframer.specs.declared.stream.Stream.{Stream}
+use Rattle.messages_deframer.specs.Standing.{IsAt}
+use Rattle.messages_deframer.specs.Taking.{Brings, TakesAt, Takes, used_up}
+use Rattle.messages_deframer.specs.Scanning.{Scans}
 
 pub empty_is : (b : List ℕ) → length b ≡ 0 → b ≡ []
 empty_is [] e = refl

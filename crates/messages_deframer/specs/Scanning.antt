@@ -9,8 +9,8 @@ use Rattle.wire.specs.Items.{answer_from, further, wants_room}
 use Rattle.wire.specs.Scanning.{Holds, After}
 use Rattle.wire.specs.Reader.{takes}
 use Rattle.wire.specs.Framing.{Item, Noop, Message, TooBig, chunks}
-use Rattle.reader.specs.Piecewise.{Point, Reads}
-use Rattle.inbox.specs.declared.stream.Stream.{Stream}
+use Rattle.packstream_incremental.specs.Piecewise.{Point, Reads}
+use Rattle.messages_deframer.specs.declared.stream.Stream.{Stream}
 
 -- the item that ends with bytes of a kind, where these are its data
 abbrev pub item_ended : Part → List ℕ → Option Item

@@ -2,8 +2,8 @@
 use Rattle.std.specs.Prelude.{◌≡◌, false}
 use Rattle.wire.specs.Unfinished.{Unfinished, unfinished_at}
 use Rattle.wire.specs.Scanning.{Holds}
-use Rattle.reader.specs.Piecewise.{Reads}
-use Rattle.inbox.specs.declared.stream.Stream.{Stream}
+use Rattle.packstream_incremental.specs.Piecewise.{Reads}
+use Rattle.messages_deframer.specs.declared.stream.Stream.{Stream}
 
 -- The stream stands in this item: its reader has read the data, and while no message was refused its position is that of the item.
 pub record IsAt (s : Stream) (u : Unfinished) : Type 0 where

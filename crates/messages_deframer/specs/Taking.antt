@@ -4,13 +4,13 @@ use Rattle.wire.specs.Unfinished.{Unfinished}
 use Rattle.wire.specs.Items.{answer_to, wants_room}
 use Rattle.wire.specs.Reader.{Took}
 use Rattle.wire.specs.Framing.{Item, Noop, Message, TooBig}
-use Rattle.reader.specs.Piecewise.{MayGoOn}
+use Rattle.packstream_incremental.specs.Piecewise.{MayGoOn}
 use Rattle.messages.specs.declared.fault.MsgFault.{MsgFault}
 use Rattle.messages.specs.declared.fault.MsgFault.TheVariants as fault
-use Rattle.inbox.specs.declared.brought.Brought.{Brought}
-use Rattle.inbox.specs.declared.brought.Brought.TheVariants as brought
-use Rattle.inbox.specs.declared.stream.Stream.{Stream}
-use Rattle.inbox.specs.Standing.{IsAt}
+use Rattle.messages_deframer.specs.declared.brought.Brought.{Brought}
+use Rattle.messages_deframer.specs.declared.brought.Brought.TheVariants as brought
+use Rattle.messages_deframer.specs.declared.stream.Stream.{Stream}
+use Rattle.messages_deframer.specs.Standing.{IsAt}
 
 -- What was brought is this item, or that none ended; and of a message, what may be told of its bytes.
 abbrev pub Brings : {M : Type 0} → (List ℕ → Result M MsgFault → Type 0) → Option Item → Brought M

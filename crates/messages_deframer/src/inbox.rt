@@ -5,8 +5,8 @@ use crate::begun::Begun;
 use crate::brought::Brought;
 use crate::readable::Readable;
 use crate::stream::Stream;
-use reader::Reader;
-use reader::laws::{good_may_go_on, reads_more, reads_nothing};
+use packstream_incremental::Reader;
+use packstream_incremental::laws::{good_may_go_on, reads_more, reads_nothing};
 use std::alloc::{AllocError, Global};
 use std::marker::Model;
 use wire::{Chunks, Version};
@@ -20,7 +20,7 @@ pub struct Inbox {
 
 impl Model for Inbox {
     ghost use Rattle.wire.specs.Unfinished.{Unfinished};
-    ghost use Rattle.inbox.specs.Standing.{IsKept};
+    ghost use Rattle.messages_deframer.specs.Standing.{IsKept};
 
     ghost Value = { Unfinished };
 
@@ -35,8 +35,8 @@ impl Inbox {
     ghost use Rattle.wire.specs.Texts.{BeginsWith};
     ghost use Rattle.wire.specs.Framing.{chunks};
     ghost use Rattle.wire.specs.Reader.{takes};
-    ghost use Rattle.reader.specs.Piecewise.{Reads};
-    ghost use Rattle.inbox.specs.Taking.{Takes, used_up, whole_message, WantsRoom};
+    ghost use Rattle.packstream_incremental.specs.Piecewise.{Reads};
+    ghost use Rattle.messages_deframer.specs.Taking.{Takes, used_up, whole_message, WantsRoom};
 
     /// Before the first byte of the chunks. Takes no memory.
     pub fn new(alloc: Global) -> Inbox

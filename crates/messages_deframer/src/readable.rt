@@ -28,7 +28,7 @@ impl Readable for Request {
     ghost use Rattle.messages.specs.View.{request_view};
     ghost use Rattle.messages.specs.Reading.{Answers};
     ghost use Rattle.messages.specs.Messages.{request_of};
-    ghost use Rattle.inbox.specs.NoValue.{no_request};
+    ghost use Rattle.messages_deframer.specs.NoValue.{no_request};
 
     ghost reads = { λ v b told. Answers request_view told (request_of v b) };
 
@@ -43,7 +43,7 @@ impl Readable for Response {
     ghost use Rattle.messages.specs.View.{response_view};
     ghost use Rattle.messages.specs.Reading.{Answers};
     ghost use Rattle.messages.specs.Messages.{response_of};
-    ghost use Rattle.inbox.specs.NoValue.{no_response};
+    ghost use Rattle.messages_deframer.specs.NoValue.{no_response};
 
     ghost reads = { λ v b told. Answers response_view told (response_of v b) };
 

@@ -7,16 +7,16 @@ ghost use Rattle.wire.specs.Framing.{chunks as reader_of_chunks};
 ghost use Rattle.wire.specs.Reader.{takes};
 ghost use Rattle.wire.specs.Parts.{cut_at, IsData};
 ghost use Rattle.wire.specs.Scanning.{with_data};
-ghost use Rattle.reader.specs.Piecewise.{Reads};
-ghost use Rattle.inbox.specs.Standing.{IsAt};
-ghost use Rattle.inbox.specs.Taking.{TakesAt};
-ghost use Rattle.inbox.specs.Scanning.{Scans};
+ghost use Rattle.packstream_incremental.specs.Piecewise.{Reads};
+ghost use Rattle.messages_deframer.specs.Standing.{IsAt};
+ghost use Rattle.messages_deframer.specs.Taking.{TakesAt};
+ghost use Rattle.messages_deframer.specs.Scanning.{Scans};
 
 use crate::brought::Brought;
 use crate::readable::Readable;
 use crate::whole_message::read_data;
-use reader::Reader;
-use reader::laws::reads_more;
+use packstream_incremental::Reader;
+use packstream_incremental::laws::reads_more;
 use std::alloc::{AllocError, Global};
 use wire::{Chunks, Cut, Part, Version};
 

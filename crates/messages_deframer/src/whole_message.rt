@@ -1,14 +1,14 @@
 //! A message that is whole, by its bytes or by the reader that has read them.
 ghost use Rattle.std.specs.Prelude.{◌≡◌, ℕ, List, None, Some, IfOk, OnErr};
 ghost use Rattle.wire.specs.Framing.{Message};
-ghost use Rattle.reader.specs.Piecewise.{Reads};
-ghost use Rattle.inbox.specs.Taking.{Brings};
+ghost use Rattle.packstream_incremental.specs.Piecewise.{Reads};
+ghost use Rattle.messages_deframer.specs.Taking.{Brings};
 
 use crate::brought::Brought;
 use crate::readable::Readable;
 use messages::MsgFault;
-use reader::Reader;
-use reader::laws::finish_reads;
+use packstream_incremental::Reader;
+use packstream_incremental::laws::finish_reads;
 use std::alloc::{AllocError, Global};
 use wire::Version;
 

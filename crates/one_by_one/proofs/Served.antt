@@ -4,7 +4,7 @@ use Rattle.std.proofs.lemmas.Bool.{eq-eqb}
 use Rattle.server.specs.declared.kinds.Refused.{Refused}
 use Rattle.server.specs.declared.kinds.Refused.TheVariants.{NoSuchConnection, SessionsFull, Memory}
 use Rattle.server.specs.Prelude.{Live, Rest, find, without, fresh, opened, Opens}
-use Rattle.serves.specs.Prelude.{LeavesOthers}
+use Rattle.server_blocking.specs.Prelude.{LeavesOthers}
 use Rattle.one_by_one.specs.Prelude.{HasOpened, HasServed}
 
 -- nothing was opened

@@ -2,15 +2,15 @@
 use Rattle.std.specs.Prelude.{◌≡◌, ◌⊎◌, ◌≤◌, ℕ, ◌+◌, true, List, [], ◌++◌, length, Some, None, Result, Ok, Err, IfErr}
 use Rattle.std.specs.Io.KnownBytes.{Consumes, IsAtEnd}
 use Rattle.engine.specs.Views.{EntryView}
-use Rattle.session.specs.declared.kinds.Cause.{Cause}
-use Rattle.session.specs.Session.{Setting}
+use Rattle.server_session.specs.declared.kinds.Cause.{Cause}
+use Rattle.server_session.specs.Session.{Setting}
 use Rattle.server.specs.declared.server.Server.{Server}
 use Rattle.server.specs.Serving.{Rest, opened}
 use Rattle.server.specs.Views.{Fits}
 use Rattle.streams.specs.declared.fault.StreamFault.{StreamFault}
 use Rattle.streams.specs.Moving.{Grows}
-use Rattle.serves.specs.Settling.{IsDueTo}
-use Rattle.serves.specs.Serving.{Serves}
+use Rattle.server_blocking.specs.Settling.{IsDueTo}
+use Rattle.server_blocking.specs.Serving.{Serves}
 use Rattle.one_by_one.specs.declared.connections.ServedOne.{ServedOne}
 use Rattle.one_by_one.specs.Streams.{Connection, source_of, sink_of}
 

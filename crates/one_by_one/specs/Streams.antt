@@ -1,6 +1,6 @@
 -- The view of the streams of a connection at its server's end.
 use Rattle.std.specs.Prelude.{ℕ, Bool, List, Option}
-use Rattle.serves.specs.Views.{SourceView, SinkView}
+use Rattle.server_blocking.specs.Views.{SourceView, SinkView}
 
 -- The streams of a connection at its server's end: all bytes that the source has given, those that are left, if they are known, and how many
 -- more reads may give some; all bytes that the sink has taken, and those that it holds, if they are known; and what has failed.

@@ -3,14 +3,14 @@ ghost use Rattle.std.specs.Prelude.{◌≡◌, [], true, IfErr, IfOk, MatchResul
 ghost use Rattle.std.specs.Io.KnownBytes.{Appends};
 ghost use Rattle.server.specs.Serving.{Rest, opened, setting};
 ghost use Rattle.server.specs.Views.{Fits};
-ghost use Rattle.serves.specs.Settling.{IsLive};
-ghost use Rattle.prints.specs.Telling.{conn_line};
+ghost use Rattle.server_blocking.specs.Settling.{IsLive};
+ghost use Rattle.cli_output.specs.Telling.{conn_line};
 ghost use Rattle.one_by_one.specs.Serving.{Drains, IsVacant, HasOpened, HasServed, MayHaveServed, ServesSo, told_of};
 
+use cli_output::put_end;
 use engine::{Engine, Gate};
-use prints::put_end;
 use server::{Cause, Server};
-use serves::serve_one;
+use server_blocking::serve_one;
 use std::alloc::Global;
 use std::marker::Model;
 use streams::{Sink, Source, StreamFault};
@@ -23,7 +23,7 @@ pub struct ServerStreams<I: Source, O: Sink> {
 }
 
 impl<I: Source, O: Sink> Model for ServerStreams<I, O> {
-    ghost use Rattle.prints.specs.Seen.{Seen};
+    ghost use Rattle.cli_output.specs.Seen.{Seen};
     ghost use Rattle.one_by_one.specs.Streams.{Connection};
 
     ghost Value = { Seen (I × O) Connection };

@@ -3,10 +3,10 @@ use Rattle.std.proofs.Common.{◌≡◌, ◌≤◌, ◌<◌, ◌+◌, ◌-◌, �
 use Rattle.std.proofs.lemmas.Option.{slice_get_within, slice_get-get_or}
 use Rattle.std.proofs.lemmas.List.{length-drop, map_push}
 use Rattle.std.proofs.Math.Seq.{take-length}
-use Rattle.reader.specs.declared.texts.Key.{Key}
-use Rattle.reader.specs.declared.texts.Link.{Link}
-use Rattle.reader.specs.Prelude.{Name, name, names_of, text_of, digest_of, HangsOn, IsInPlace, IsTree, IsFree, IsFreeAt, with_below, hung_at, hung, HasLink}
-use Rattle.reader.proofs.Treeing.{get_front, get_last, get_pushed, one_element, IsSameKey, same_key, in_place, stays_in_place, still_hangs, still_leads, leads_on, leads_up, tree_extends}
+use Rattle.packstream_incremental.specs.declared.texts.Key.{Key}
+use Rattle.packstream_incremental.specs.declared.texts.Link.{Link}
+use Rattle.packstream_incremental.specs.Prelude.{Name, name, names_of, text_of, digest_of, HangsOn, IsInPlace, IsTree, IsFree, IsFreeAt, with_below, hung_at, hung, HasLink}
+use Rattle.packstream_incremental.proofs.Treeing.{get_front, get_last, get_pushed, one_element, IsSameKey, same_key, in_place, stays_in_place, still_hangs, still_leads, leads_on, leads_up, tree_extends}
 
 length_hung_at : (at : ℕ) (side : Bool) (n : ℕ) (keys : List Key) → length (hung_at at side n keys) ≡ length keys
 length_hung_at at side n [] = refl

@@ -11,7 +11,7 @@ use Rattle.packstream.specs.declared.marker.Marker.TheVariants as announces
 use Rattle.packstream.specs.Prelude.{AreBytes, width, size_len, IsNumber, IsSize, needs, text_in}
 use Rattle.packstream.proofs.Shortest.{number_of}
 use Rattle.std.specs.Int.{byte_at}
-use Rattle.reader.specs.Prelude.{field, size_with, body, number_from, IsTiny, AreTiny}
+use Rattle.packstream_incremental.specs.Prelude.{field, size_with, body, number_from, IsTiny, AreTiny}
 
 -- ---- a byte more behind a number
 

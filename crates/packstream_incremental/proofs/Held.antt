@@ -9,13 +9,13 @@ use Rattle.packstream.proofs.Bounds.{good_spelled}
 use Rattle.packstream.proofs.Ranges.{both_bytes}
 use Rattle.packstream.proofs.Staying.{stays}
 use Rattle.packstream.proofs.Deciding.{whole_value, whole_fault, err_parts}
-use Rattle.reader.specs.declared.progress.Part.{Part}
-use Rattle.reader.specs.declared.progress.Part.TheVariants as part
-use Rattle.reader.specs.declared.progress.Mark.{Mark}
-use Rattle.reader.specs.declared.progress.Cursor.{Cursor}
-use Rattle.reader.specs.declared.read_fault.ReadFault.TheVariants as stop
-use Rattle.reader.specs.Prelude.{Frame, AreLevels, part_head, Point, IsBeginning, Takes, MayGoOn, Holds, point, mark_of, at_mark, with_fault, points_at, IsKeptAt, Goes, IsLacking, IsDone, IsStanding, IsKeeping, HasGrown, IsKept, IsMark, HoldsOn, IsFaultOf}
-use Rattle.reader.proofs.Opening.{bad_behind, part_is_short}
+use Rattle.packstream_incremental.specs.declared.progress.Part.{Part}
+use Rattle.packstream_incremental.specs.declared.progress.Part.TheVariants as part
+use Rattle.packstream_incremental.specs.declared.progress.Mark.{Mark}
+use Rattle.packstream_incremental.specs.declared.progress.Cursor.{Cursor}
+use Rattle.packstream_incremental.specs.declared.read_fault.ReadFault.TheVariants as stop
+use Rattle.packstream_incremental.specs.Prelude.{Frame, AreLevels, part_head, Point, IsBeginning, Takes, MayGoOn, Holds, point, mark_of, at_mark, with_fault, points_at, IsKeptAt, Goes, IsLacking, IsDone, IsStanding, IsKeeping, HasGrown, IsKept, IsMark, HoldsOn, IsFaultOf}
+use Rattle.packstream_incremental.proofs.Opening.{bad_behind, part_is_short}
 
 pub cut_cut : (m k : Mark) (h : Holds) → m.store ≤ k.store → m.keys ≤ k.keys → at_mark m (at_mark k h) ≡ at_mark m h
 cut_cut m k h a b = rw (take-take m.store k.store h.store a, take-take m.keys k.keys h.names b) refl

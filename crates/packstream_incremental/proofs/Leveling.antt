@@ -4,10 +4,10 @@ use Rattle.std.proofs.lemmas.Bool.{lt-ltb, le-ltb}
 use Rattle.std.proofs.lemmas.List.{get_or-set_same, get_or-set_other, length-set}
 use Rattle.std.proofs.lemmas.Option.{slice_get_within, slice_get-get_or, get_or_from_slice_get}
 use Rattle.packstream.specs.Prelude.{Tree, Entries, Opened, in_list, at_key, at_value}
-use Rattle.reader.specs.declared.open.Inside.{Inside}
-use Rattle.reader.specs.declared.open.Inside.TheVariants as inside
-use Rattle.reader.specs.declared.open.Level.{Level}
-use Rattle.reader.specs.Prelude.{Frame, level, next_of, after_value, AreLevels, waits, with_member, tree_so_far, whole, still, ends}
+use Rattle.packstream_incremental.specs.declared.open.Inside.{Inside}
+use Rattle.packstream_incremental.specs.declared.open.Inside.TheVariants as inside
+use Rattle.packstream_incremental.specs.declared.open.Level.{Level}
+use Rattle.packstream_incremental.specs.Prelude.{Frame, level, next_of, after_value, AreLevels, waits, with_member, tree_so_far, whole, still, ends}
 
 next_put : (f : Opened) (t : Tree) → next_of (with_member f t) ≡ after_value (next_of f)
 next_put (in_list ts) t = refl

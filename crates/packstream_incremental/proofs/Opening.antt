@@ -3,7 +3,7 @@ use Rattle.std.proofs.Common.{◌≡◌, ◌<◌, ◌+◌, ℕ, List, [], ◌∷
 use Rattle.std.proofs.lemmas.List.{append-nil, length-append}
 use Rattle.packstream.specs.declared.fault.Reason.{Reason}
 use Rattle.packstream.specs.Prelude.{count, entry_count, is_among, Place, Opened, in_list, in_struct, at_key, at_value, key_there, within, innermost, outside, IsOpened, AreOpened, fault_at, Bad, is_text, nests, needs, text_in, is_repeated, fault_of, marker, size_len}
-use Rattle.reader.specs.Prelude.{Frame, IsFrame, place, AreFrames, head_fault, field, body, size_with, head_bytes, part_head, IsPart, IsLacking}
+use Rattle.packstream_incremental.specs.Prelude.{Frame, IsFrame, place, AreFrames, head_fault, field, body, size_with, head_bytes, part_head, IsPart, IsLacking}
 use Rattle.std.proofs.lemmas.Bool.{lt-ltb, le-ltb}
 use Rattle.std.specs.Str.{is_utf8}
 use Rattle.byteorder.specs.Endian.{big_bytes}
@@ -12,9 +12,9 @@ use Rattle.packstream.specs.declared.fault.Reason.TheVariants as reason
 use Rattle.packstream.specs.declared.marker.Size.{Size}
 use Rattle.packstream.specs.declared.marker.Marker.{Marker}
 use Rattle.packstream.specs.declared.marker.Marker.TheVariants as announces
-use Rattle.reader.specs.declared.progress.Part.{Part}
-use Rattle.reader.specs.declared.progress.Part.TheVariants as part
-use Rattle.reader.proofs.Heads.{needs_are, needs_more, text_there}
+use Rattle.packstream_incremental.specs.declared.progress.Part.{Part}
+use Rattle.packstream_incremental.specs.declared.progress.Part.TheVariants as part
+use Rattle.packstream_incremental.proofs.Heads.{needs_are, needs_more, text_there}
 
 -- the outermost first
 abbrev pub outer_first : List Frame → List Opened

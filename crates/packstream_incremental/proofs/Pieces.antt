@@ -8,7 +8,7 @@ use Rattle.packstream.specs.declared.fault.PackFault.TheVariants as fault
 use Rattle.packstream.specs.Prelude.{Tree, IsGood, AreBytes, Spells, Place, Bad, IsBadAlways, fault_at, innermost, outside, UnlessMemory, Tells, whole_of}
 use Rattle.packstream.proofs.Ranges.{both_bytes}
 use Rattle.packstream.proofs.Deciding.{whole_value, whole_fault, err_parts}
-use Rattle.reader.specs.Prelude.{Point, Joins, TurnsBad, Takes, Reads, MayGoOn, TellsValue, TellsFault, Finishes}
+use Rattle.packstream_incremental.specs.Prelude.{Point, Joins, TurnsBad, Takes, Reads, MayGoOn, TellsValue, TellsFault, Finishes}
 
 abbrev Told : Type 0
 Told = Result Tree PackFault

@@ -6,7 +6,7 @@ use Rattle.packstream.specs.declared.marker.Size.{Size}
 use Rattle.packstream.specs.declared.marker.Marker.{Marker}
 use Rattle.packstream.specs.declared.marker.Marker.TheVariants as announces
 use Rattle.packstream.specs.Prelude.{Tree, list, dict, structure, Trees, no_trees, tree_then, Entries, no_entries, entry_then, depth, count, entry_count, trees_depth, entries_depth, IsSound, AreSound, HaveSoundValues, AreNewKeys, is_among, Begins, IsSize, SpellsText, SpellsTree, SpellsAll, SpellsEntries, Opened, in_list, in_struct, at_key, at_value, keys_of, key_there}
-use Rattle.reader.specs.Prelude.{Frame, IsFrame, place, AreFrames, push_tree, push_entry, with_member, tree_so_far, ends, Stands}
+use Rattle.packstream_incremental.specs.Prelude.{Frame, IsFrame, place, AreFrames, push_tree, push_entry, with_member, tree_so_far, ends, Stands}
 use Rattle.packstream.proofs.Table.{few_fields}
 
 -- ---- one member more

@@ -7,12 +7,12 @@ use Rattle.std.specs.List.{list_any}
 use Rattle.std.proofs.lemmas.List.Folds.{list_any-append}
 use Rattle.std.proofs.lemmas.Slice.Eq.{bytes_eq-Decides}
 use Rattle.packstream.specs.Prelude.{Tree, Entries, no_entries, entry_then, depth, is_among, Opened, at_key, at_value, keys_of, key_there}
-use Rattle.reader.specs.declared.open.Open.{Open}
-use Rattle.reader.specs.declared.open.Level.{Level}
-use Rattle.reader.specs.declared.progress.Part.TheVariants as part
-use Rattle.reader.specs.Prelude.{head_bytes, Name, IsNamed, ArePlaced, IsRoot, text_of, Frame, place, AreFrames, AreLevels, AreNames, HasNames, IsApart, BeginBefore, BeginsBefore, HaveNames, with_member, tree_so_far, push_entry, Left, whole, still, ends, Stands, IsLeft, Holds, with_item, Goes, IsStanding, IsValue, HasTaken}
-use Rattle.reader.proofs.Pushing.{ends_stand}
-use Rattle.reader.proofs.Treeing.{get_front, get_last, get_pushed, text_more}
+use Rattle.packstream_incremental.specs.declared.open.Open.{Open}
+use Rattle.packstream_incremental.specs.declared.open.Level.{Level}
+use Rattle.packstream_incremental.specs.declared.progress.Part.TheVariants as part
+use Rattle.packstream_incremental.specs.Prelude.{head_bytes, Name, IsNamed, ArePlaced, IsRoot, text_of, Frame, place, AreFrames, AreLevels, AreNames, HasNames, IsApart, BeginBefore, BeginsBefore, HaveNames, with_member, tree_so_far, push_entry, Left, whole, still, ends, Stands, IsLeft, Holds, with_item, Goes, IsStanding, IsValue, HasTaken}
+use Rattle.packstream_incremental.proofs.Pushing.{ends_stand}
+use Rattle.packstream_incremental.proofs.Treeing.{get_front, get_last, get_pushed, text_more}
 
 -- ---- counts
 

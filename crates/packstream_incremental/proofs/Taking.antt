@@ -13,18 +13,18 @@ use Rattle.std.proofs.lemmas.Str.{is_utf8-from_IsUtf8}
 use Rattle.std.proofs.lemmas.Bool.{le-leb, lt-leb}
 use Rattle.packstream.proofs.Bounds.{good_spelled}
 use Rattle.packstream.proofs.Ranges.{front_bytes}
-use Rattle.reader.specs.declared.progress.Part.{Part}
-use Rattle.reader.specs.declared.progress.Part.TheVariants as part
-use Rattle.reader.specs.Prelude.{field, body, size_with, number_from, head_bytes, part_head, IsTiny, AreTiny, Name, IsNamed, Frame, place, AreLevels, HaveNames, head_fault, waits, next_of, AreFrames, HasOwnNames, with_member, Passes, Holds, IsAdmitted, IsPart, IsLacking, Goes, IsDone, IsStanding, HasTaken, with_item}
-use Rattle.reader.specs.declared.open.Level.{Level}
-use Rattle.reader.proofs.Heads.{joined_bytes, joined_fits}
-use Rattle.reader.proofs.Opening.{bad_behind, heads_are, not_text, twice}
-use Rattle.reader.proofs.Hanging.{text_from}
-use Rattle.reader.proofs.Values.{IsKeyFrame}
-use Rattle.reader.proofs.Standing.{levels_depth, names_more, placed_more, few_frames, after, goes_on}
-use Rattle.reader.specs.declared.open.Open.{Open}
-use Rattle.reader.specs.declared.open.Inside.TheVariants as inside
-use Rattle.reader.proofs.Pushing.{stays_open}
+use Rattle.packstream_incremental.specs.declared.progress.Part.{Part}
+use Rattle.packstream_incremental.specs.declared.progress.Part.TheVariants as part
+use Rattle.packstream_incremental.specs.Prelude.{field, body, size_with, number_from, head_bytes, part_head, IsTiny, AreTiny, Name, IsNamed, Frame, place, AreLevels, HaveNames, head_fault, waits, next_of, AreFrames, HasOwnNames, with_member, Passes, Holds, IsAdmitted, IsPart, IsLacking, Goes, IsDone, IsStanding, HasTaken, with_item}
+use Rattle.packstream_incremental.specs.declared.open.Level.{Level}
+use Rattle.packstream_incremental.proofs.Heads.{joined_bytes, joined_fits}
+use Rattle.packstream_incremental.proofs.Opening.{bad_behind, heads_are, not_text, twice}
+use Rattle.packstream_incremental.proofs.Hanging.{text_from}
+use Rattle.packstream_incremental.proofs.Values.{IsKeyFrame}
+use Rattle.packstream_incremental.proofs.Standing.{levels_depth, names_more, placed_more, few_frames, after, goes_on}
+use Rattle.packstream_incremental.specs.declared.open.Open.{Open}
+use Rattle.packstream_incremental.specs.declared.open.Inside.TheVariants as inside
+use Rattle.packstream_incremental.proofs.Pushing.{stays_open}
 
 -- with other parts, or more bytes in the store
 abbrev pub parted : Part → Holds → Holds

@@ -4,8 +4,8 @@ use Rattle.std.proofs.lemmas.Bool.{le-ltb}
 use Rattle.std.proofs.lemmas.Nat.Bits.{shr_and_one}
 use Rattle.std.proofs.lemmas.List.{length-map, take-append-le, drop-append-le, length-drop, length-append, take-append-drop}
 use Rattle.std.proofs.lemmas.Option.{slice_get_within, slice_get-map}
-use Rattle.reader.specs.declared.texts.Key.{Key}
-use Rattle.reader.specs.Prelude.{Name, name, names_of, text_of, IsNamed, ArePlaced, IsRoot, digest_of, side_of, HangsOn, Leads, IsInPlace, IsTree, HangsNone, IsFree}
+use Rattle.packstream_incremental.specs.declared.texts.Key.{Key}
+use Rattle.packstream_incremental.specs.Prelude.{Name, name, names_of, text_of, IsNamed, ArePlaced, IsRoot, digest_of, side_of, HangsOn, Leads, IsInPlace, IsTree, HangsNone, IsFree}
 
 -- ---- elements of lists
 

@@ -11,15 +11,15 @@ use Rattle.packstream.specs.declared.marker.Marker.{Marker}
 use Rattle.packstream.specs.declared.marker.Marker.TheVariants as announces
 use Rattle.packstream.specs.Prelude.{Tree, null, boolean, int, float, byte_string, text, list, dict, structure, no_trees, Entries, no_entries, depth, IsSound, is_among, width, marker, size_len, SpellsText, SpellsTree, Opened, in_list, in_struct, at_key, at_value, keys_of, key_there, is_text, nests}
 use Rattle.packstream.proofs.Shortest.{number_of}
-use Rattle.reader.specs.declared.open.Open.{Open}
-use Rattle.reader.specs.declared.open.Inside.TheVariants as inside
-use Rattle.reader.specs.declared.progress.Part.TheVariants as part
-use Rattle.reader.specs.Prelude.{field, body, size_with, head_bytes, Name, IsNamed, ArePlaced, IsRoot, text_of, Frame, waits, next_of, place, IsFrame, AreFrames, AreLevels, HasOwnNames, HaveNames, head_fault, Holds, with_item, Goes, IsStanding, IsValue, IsListOf}
-use Rattle.reader.proofs.Heads.{sized_by}
-use Rattle.reader.proofs.Opening.{heads_are}
-use Rattle.reader.proofs.Pushing.{IsWhole, list_closes, dict_closes, struct_closes, list_frame, dict_frame, struct_frame, key_waits}
-use Rattle.reader.proofs.Treeing.{get_pushed}
-use Rattle.reader.proofs.Standing.{levels_depth, few_frames, after, goes_on, names_push, key_named, no_names, all_before, root_of}
+use Rattle.packstream_incremental.specs.declared.open.Open.{Open}
+use Rattle.packstream_incremental.specs.declared.open.Inside.TheVariants as inside
+use Rattle.packstream_incremental.specs.declared.progress.Part.TheVariants as part
+use Rattle.packstream_incremental.specs.Prelude.{field, body, size_with, head_bytes, Name, IsNamed, ArePlaced, IsRoot, text_of, Frame, waits, next_of, place, IsFrame, AreFrames, AreLevels, HasOwnNames, HaveNames, head_fault, Holds, with_item, Goes, IsStanding, IsValue, IsListOf}
+use Rattle.packstream_incremental.proofs.Heads.{sized_by}
+use Rattle.packstream_incremental.proofs.Opening.{heads_are}
+use Rattle.packstream_incremental.proofs.Pushing.{IsWhole, list_closes, dict_closes, struct_closes, list_frame, dict_frame, struct_frame, key_waits}
+use Rattle.packstream_incremental.proofs.Treeing.{get_pushed}
+use Rattle.packstream_incremental.proofs.Standing.{levels_depth, few_frames, after, goes_on, names_push, key_named, no_names, all_before, root_of}
 
 -- ---- what a head may be
 

@@ -5,15 +5,15 @@ use Rattle.packstream.specs.declared.fault.Reason.{Reason}
 use Rattle.packstream.specs.declared.fault.Reason.TheVariants as reason
 use Rattle.packstream.specs.declared.marker.Marker.{Marker}
 use Rattle.packstream.specs.declared.marker.Marker.TheVariants as announces
-use Rattle.reader.specs.declared.open.Inside.{Inside}
-use Rattle.reader.specs.declared.open.Inside.TheVariants as inside
-use Rattle.reader.specs.declared.open.Level.{Level}
-use Rattle.reader.specs.declared.open.Open.{Open}
+use Rattle.packstream_incremental.specs.declared.open.Inside.{Inside}
+use Rattle.packstream_incremental.specs.declared.open.Inside.TheVariants as inside
+use Rattle.packstream_incremental.specs.declared.open.Level.{Level}
+use Rattle.packstream_incremental.specs.declared.open.Open.{Open}
 use Rattle.packstream.specs.Tree.{Tree, list, dict, structure, Trees, no_trees, tree_then, Entries, no_entries, entry_then}
 use Rattle.packstream.specs.Good.{depth, count, entry_count, trees_depth, entries_depth, IsSound, AreSound, HaveSoundValues, AreNewKeys, is_among}
 use Rattle.packstream.specs.Spelling.{Begins, IsSize, SpellsText, SpellsTree, SpellsAll, SpellsEntries}
 use Rattle.packstream.specs.Faults.{Place, Opened, in_list, in_struct, at_key, at_value, keys_of, key_there, outside, is_text, nests}
-use Rattle.reader.specs.Naming.{Name, IsNamed}
+use Rattle.packstream_incremental.specs.Naming.{Name, IsNamed}
 use Rattle.packstream.specs.Limits.{max_depth}
 
 -- what is open, how many members or pairs it lacks, and where its keys begin among all

@@ -6,8 +6,8 @@ use Rattle.packstream.specs.declared.marker.Size.TheVariants.{Here, After}
 use Rattle.packstream.specs.declared.marker.Marker.{Marker}
 use Rattle.packstream.specs.declared.marker.Marker.TheVariants as announces
 use Rattle.packstream.specs.Markers.{width, marker, size_len}
-use Rattle.reader.specs.declared.progress.Part.{Part}
-use Rattle.reader.specs.declared.progress.Part.TheVariants as part
+use Rattle.packstream_incremental.specs.declared.progress.Part.{Part}
+use Rattle.packstream_incremental.specs.declared.progress.Part.TheVariants as part
 
 -- how many bytes the number after a marker takes
 abbrev pub field : Option Marker → ℕ

@@ -10,17 +10,17 @@ use Rattle.packstream.specs.Plain.{AreBytes}
 use Rattle.packstream.specs.Markers.{marker}
 use Rattle.packstream.specs.Spelling.{SpellsTree}
 use Rattle.packstream.specs.Faults.{Place, Bad}
-use Rattle.reader.specs.declared.read_fault.ReadFault.{ReadFault}
-use Rattle.reader.specs.declared.read_fault.ReadFault.TheVariants as stop
-use Rattle.reader.specs.declared.progress.Part.{Part}
-use Rattle.reader.specs.declared.progress.Part.TheVariants as part
-use Rattle.reader.specs.declared.progress.Cursor.{Cursor}
-use Rattle.reader.specs.declared.progress.Mark.{Mark}
-use Rattle.reader.specs.declared.progress.Reading.{Reading}
-use Rattle.reader.specs.Heads.{field, body, size_with, head_bytes, part_head}
-use Rattle.reader.specs.Naming.{Name, ArePlaced}
-use Rattle.reader.specs.Frames.{Frame, place, AreFrames, AreLevels, HaveNames, head_fault}
-use Rattle.reader.specs.Piecewise.{Point, Points, IsBeginning}
+use Rattle.packstream_incremental.specs.declared.read_fault.ReadFault.{ReadFault}
+use Rattle.packstream_incremental.specs.declared.read_fault.ReadFault.TheVariants as stop
+use Rattle.packstream_incremental.specs.declared.progress.Part.{Part}
+use Rattle.packstream_incremental.specs.declared.progress.Part.TheVariants as part
+use Rattle.packstream_incremental.specs.declared.progress.Cursor.{Cursor}
+use Rattle.packstream_incremental.specs.declared.progress.Mark.{Mark}
+use Rattle.packstream_incremental.specs.declared.progress.Reading.{Reading}
+use Rattle.packstream_incremental.specs.Heads.{field, body, size_with, head_bytes, part_head}
+use Rattle.packstream_incremental.specs.Naming.{Name, ArePlaced}
+use Rattle.packstream_incremental.specs.Frames.{Frame, place, AreFrames, AreLevels, HaveNames, head_fault}
+use Rattle.packstream_incremental.specs.Piecewise.{Point, Points, IsBeginning}
 use Rattle.packstream.specs.Limits.{max_depth}
 
 -- the bytes that were read, the names of keys among them, and what stands beside them

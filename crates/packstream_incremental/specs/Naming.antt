@@ -1,8 +1,8 @@
 -- Which texts are keys of which dictionary, and the tree of a dictionary's keys.
 use Rattle.std.specs.Prelude.{◌≡◌, ◌⊎◌, ◌≤◌, ◌<◌, ◌+◌, ◌*◌, ◌-◌, ◌/◌, ◌%◌, ◌^◌, ◌==◌, ℕ, zero, suc, Bool, false, if◌then◌else◌, nat_lt, List, [], ◌∷◌, length, take, drop, map, slice_get, Option, Some, None}
 use Rattle.std.specs.Int.{bit_at}
-use Rattle.reader.specs.declared.texts.Key.{Key}
-use Rattle.reader.specs.declared.texts.Link.{Link}
+use Rattle.packstream_incremental.specs.declared.texts.Key.{Key}
+use Rattle.packstream_incremental.specs.declared.texts.Link.{Link}
 
 -- where the bytes of a key are, and where the keys of its dictionary begin
 pub record Name : Type 0 where

@@ -1,7 +1,7 @@
 //! The head of a value or a key: its marker, and the number after it.
 ghost use Rattle.std.specs.Prelude.{◌≡◌, ◌≤◌, ◌<◌, ◌^◌, length, take, Some};
 ghost use Rattle.packstream.specs.Markers.{size_len};
-ghost use Rattle.reader.specs.Heads.{field, body, size_with, number_from, AreTiny};
+ghost use Rattle.packstream_incremental.specs.Heads.{field, body, size_with, number_from, AreTiny};
 
 use packstream::marker::{Marker, Size, marker_of};
 

@@ -4,10 +4,10 @@ ghost use Rattle.std.specs.Str.{IsUtf8};
 ghost use Rattle.packstream.specs.Markers.{marker as marker_at};
 ghost use Rattle.packstream.specs.Plain.{AreBytes};
 ghost use Rattle.packstream.specs.declared.marker.Marker.TheVariants as announces;
-ghost use Rattle.reader.specs.declared.progress.Part.TheVariants as part;
-ghost use Rattle.reader.specs.Heads.{size_with};
-ghost use Rattle.reader.specs.Frames.{Frame, AreLevels, place};
-ghost use Rattle.reader.specs.Holding.{holds, with_item, Goes, IsStanding, IsValue, IsListOf, HasGrown, Answers};
+ghost use Rattle.packstream_incremental.specs.declared.progress.Part.TheVariants as part;
+ghost use Rattle.packstream_incremental.specs.Heads.{size_with};
+ghost use Rattle.packstream_incremental.specs.Frames.{Frame, AreLevels, place};
+ghost use Rattle.packstream_incremental.specs.Holding.{holds, with_item, Goes, IsStanding, IsValue, IsListOf, HasGrown, Answers};
 
 use crate::head::{body_len, field_len, join, size_in};
 use crate::progress::{Part, Reading};

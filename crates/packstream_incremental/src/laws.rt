@@ -4,7 +4,7 @@ ghost use Rattle.packstream.specs.declared.fault.PackFault.{PackFault as AnyFaul
 ghost use Rattle.packstream.specs.Tree.{Tree};
 ghost use Rattle.packstream.specs.Answers.{Tells, UnlessMemory, whole_of};
 ghost use Rattle.packstream.specs.Plain.{AreBytes};
-ghost use Rattle.reader.specs.Piecewise.{Point, IsBeginning, MayGoOn, nothing_read, Reads, Takes, TellsValue, TellsFault, Finishes};
+ghost use Rattle.packstream_incremental.specs.Piecewise.{Point, IsBeginning, MayGoOn, nothing_read, Reads, Takes, TellsValue, TellsFault, Finishes};
 
 use crate::reader::Reader;
 

@@ -39,9 +39,9 @@ pub(crate) struct Open {
 impl Open {
     ghost use Rattle.packstream.specs.Tree.{Tree, Entries};
     ghost use Rattle.packstream.specs.Faults.{Opened, at_key, at_value};
-    ghost use Rattle.reader.specs.declared.open.Inside.TheVariants as inside;
-    ghost use Rattle.reader.specs.Heads.{AreTiny};
-    ghost use Rattle.reader.specs.Frames.{Frame, AreLevels, HasRoom, Passes, ends, IsLeft, next_of, waits, place, head_fault};
+    ghost use Rattle.packstream_incremental.specs.declared.open.Inside.TheVariants as inside;
+    ghost use Rattle.packstream_incremental.specs.Heads.{AreTiny};
+    ghost use Rattle.packstream_incremental.specs.Frames.{Frame, AreLevels, HasRoom, Passes, ends, IsLeft, next_of, waits, place, head_fault};
 
     /// Nothing is open, and nothing has been read.
     pub(crate) fn new() -> Open
@@ -256,7 +256,7 @@ fn nests(announced: Marker) -> bool
 }
 
 impl Level {
-    ghost use Rattle.reader.specs.Frames.{after_value};
+    ghost use Rattle.packstream_incremental.specs.Frames.{after_value};
 
     /// One member or pair more.
     fn with_member(self) -> Level

@@ -1,10 +1,10 @@
 //! What is read of a value whose bytes come in pieces.
 ghost use Rattle.std.specs.Prelude.{◌≡◌, ◌⊎◌, ◌++◌, [], None, length, true, false, Ok, OnOk, OnErr, IfOk, ◌≤◌};
-ghost use Rattle.reader.specs.declared.progress.Part.TheVariants as part;
-ghost use Rattle.reader.specs.Heads.{AreTiny};
-ghost use Rattle.reader.specs.Frames.{HasRoom};
-ghost use Rattle.reader.specs.Piecewise.{nothing_read, Takes};
-ghost use Rattle.reader.specs.Holding.{holds, point, at_mark, mark_of, with_fault, Goes, IsStanding, IsKeeping, IsMark, HoldsOn, HasGrown, HasTaken, Answers};
+ghost use Rattle.packstream_incremental.specs.declared.progress.Part.TheVariants as part;
+ghost use Rattle.packstream_incremental.specs.Heads.{AreTiny};
+ghost use Rattle.packstream_incremental.specs.Frames.{HasRoom};
+ghost use Rattle.packstream_incremental.specs.Piecewise.{nothing_read, Takes};
+ghost use Rattle.packstream_incremental.specs.Holding.{holds, point, at_mark, mark_of, with_fault, Goes, IsStanding, IsKeeping, IsMark, HoldsOn, HasGrown, HasTaken, Answers};
 
 use crate::open::Open;
 use crate::read_fault::ReadFault;

@@ -1,6 +1,6 @@
 //! What ends the reading.
 ghost use Rattle.std.specs.Prelude.{◌≡◌};
-ghost use Rattle.reader.specs.declared.read_fault.ReadFault.TheVariants.{Memory};
+ghost use Rattle.packstream_incremental.specs.declared.read_fault.ReadFault.TheVariants.{Memory};
 
 use packstream::Reason;
 use std::alloc::{AllocError, AllocFailed};

@@ -7,7 +7,7 @@ ghost use Rattle.packstream.specs.Faults.{Bad};
 ghost use Rattle.packstream.specs.Answers.{UnlessMemory};
 ghost use Rattle.packstream.specs.declared.fault.Reason.{Reason};
 ghost use Rattle.packstream.specs.declared.fault.PackFault.TheVariants as fault;
-ghost use Rattle.reader.specs.Piecewise.{fresh, Takes, IsBeginning, MayGoOn};
+ghost use Rattle.packstream_incremental.specs.Piecewise.{fresh, Takes, IsBeginning, MayGoOn};
 
 use crate::progress::{Mark, Reading};
 use packstream::{PackFault, Packed, decode};
@@ -33,8 +33,8 @@ pub struct Reader {
 }
 
 impl Model for Reader {
-    ghost use Rattle.reader.specs.Piecewise.{Points};
-    ghost use Rattle.reader.specs.Holding.{holds, points_at, IsKeptAt};
+    ghost use Rattle.packstream_incremental.specs.Piecewise.{Points};
+    ghost use Rattle.packstream_incremental.specs.Holding.{holds, points_at, IsKeptAt};
 
     ghost Value = { Points };
 

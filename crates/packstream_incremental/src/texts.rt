@@ -1,8 +1,8 @@
 //! The bytes of texts and byte strings, and which of them are keys of which dictionary.
 ghost use Rattle.std.specs.Prelude.{◌≡◌, ◌≤◌, ◌<◌, ◌+◌, ◌-◌, ◌++◌, ◌↔◌, IsTrue, ℕ, [], ◌∷◌, length, take, drop, Option, Some, Ok, OnErr, OnOk, true, false};
-ghost use Rattle.reader.specs.Naming.{name, names_of, text_of, IsNamed, ArePlaced, IsTree, IsRoot, HangsOn, IsFree, HasLink, hung, digest_of, side_of};
-ghost use Rattle.reader.specs.declared.texts.Found.TheVariants as found;
-ghost use Rattle.reader.specs.declared.texts.Link.{Link as OfKey};
+ghost use Rattle.packstream_incremental.specs.Naming.{name, names_of, text_of, IsNamed, ArePlaced, IsTree, IsRoot, HangsOn, IsFree, HasLink, hung, digest_of, side_of};
+ghost use Rattle.packstream_incremental.specs.declared.texts.Found.TheVariants as found;
+ghost use Rattle.packstream_incremental.specs.declared.texts.Link.{Link as OfKey};
 
 use std::alloc::{AllocError, Global};
 use std::marker::Model;
@@ -39,7 +39,7 @@ pub(crate) struct Texts {
 }
 
 impl Model for Texts {
-    ghost use Rattle.reader.specs.Naming.{Kept, names_of, IsTree};
+    ghost use Rattle.packstream_incremental.specs.Naming.{Kept, names_of, IsTree};
 
     ghost Value = { Kept };
 

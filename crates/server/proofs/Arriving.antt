@@ -5,9 +5,9 @@ use Rattle.wire.specs.Prelude.{Took, state, takes, Item, Opening, Message, Opene
 use Rattle.messages.specs.declared.fault.MsgFault.{MsgFault}
 use Rattle.messages.specs.Prelude.{RequestView, request_of, Arrival, Shook, NoMagic, Asked, Unread, TooLong, version_shaken, server_end, arrival_of_offer, then_request, requests_in, after_shake, arrivals_of, arrivals}
 use Rattle.server.specs.Prelude.{arrives, places_of}
-use Rattle.session.specs.Prelude.{arrival_by, unread_among}
+use Rattle.server_session.specs.Prelude.{arrival_by, unread_among}
 use Rattle.wire.proofs.Opening.{IsChunk}
-use Rattle.inbox.proofs.Arriving.{Next, opens, follows, items_then, next_item, item_adds}
+use Rattle.messages_deframer.proofs.Arriving.{Next, opens, follows, items_then, next_item, item_adds}
 
 -- what stands for no request takes a slot
 pub unread_placed : (xs : List Arrival) → unread_among (places_of xs) ≡ unread_among xs

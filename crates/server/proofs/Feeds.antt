@@ -3,15 +3,15 @@ use Rattle.std.proofs.Common.{◌≡◌, sym, ◌∙◌, ap, subst, ℕ, ◌+◌
 use Rattle.std.proofs.lemmas.Bool.Decides.{nat_tests}
 use Rattle.std.proofs.lemmas.List.{take_all}
 use Rattle.wire.specs.Prelude.{Unfinished, fresh, takes, Item, Opened, chunks, reading, at_server}
-use Rattle.reader.proofs.Pieces.{nothing_goes_on}
+use Rattle.packstream_incremental.proofs.Pieces.{nothing_goes_on}
 use Rattle.messages.specs.Prelude.{arrival_of_offer}
-use Rattle.inbox.specs.Taking.{WantsRoom as ChunksWant}
-use Rattle.inbox.specs.Opening.{come}
-use Rattle.inbox.proofs.Opening.{takes_part, takes_whole, takes_open, come_part, come_open, opened}
+use Rattle.messages_deframer.specs.Taking.{WantsRoom as ChunksWant}
+use Rattle.messages_deframer.specs.Opening.{come}
+use Rattle.messages_deframer.proofs.Opening.{takes_part, takes_whole, takes_open, come_part, come_open, opened}
 use Rattle.server.specs.declared.input.Offer.{Offer}
 use Rattle.server.specs.declared.kinds.Took.{Took}
-use Rattle.session.specs.declared.kinds.What.{What}
-use Rattle.session.specs.Prelude.{Kept, Receives, after_item, what_of}
+use Rattle.server_session.specs.declared.kinds.What.{What}
+use Rattle.server_session.specs.Prelude.{Kept, Receives, after_item, what_of}
 use Rattle.server.specs.Prelude.{arrival, takes_item, WantsRoom, offered, fed}
 
 -- what is told, by how many bytes were used and what ended with them

@@ -9,11 +9,11 @@ use Rattle.machine.specs.declared.states.State.{State}
 use Rattle.machine.specs.declared.rows.Verdict.{Verdict}
 use Rattle.machine.specs.Prelude.{kind_of, is_reset, interruptible}
 use Rattle.engine.specs.Prelude.{EntryView}
-use Rattle.session.specs.declared.kinds.Cause.{Cause}
+use Rattle.server_session.specs.declared.kinds.Cause.{Cause}
 use Rattle.server.specs.declared.kinds.Took.{Took}
-use Rattle.session.specs.declared.kinds.What.{What}
-use Rattle.session.specs.Prelude.{Setting, Reply, OneRow, Summary, Bye, Kept, Step, Ended, Full, puts, cause_of, ends, after_item, full, noop_kept, puts_noop, replies, rests, reset_among, shut, after_interrupt, turns, unread_among, version_of, work_kept}
-use Rattle.inbox.proofs.Arriving.{rest_then}
+use Rattle.server_session.specs.declared.kinds.What.{What}
+use Rattle.server_session.specs.Prelude.{Setting, Reply, OneRow, Summary, Bye, Kept, Step, Ended, Full, puts, cause_of, ends, after_item, full, noop_kept, puts_noop, replies, rests, reset_among, shut, after_interrupt, turns, unread_among, version_of, work_kept}
+use Rattle.messages_deframer.proofs.Arriving.{rest_then}
 use Rattle.server.specs.Prelude.{arrival, takes_item, takes_none, Live, after_feeding, fresh, fed_live, with_kept, Agrees, Follows, IsLater, answers_by, places_of}
 use Rattle.server.proofs.Arriving.{is_shake, IsNext, unread_placed, more_arrives, next_arrival, placed-append}
 

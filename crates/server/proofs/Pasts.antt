@@ -9,7 +9,7 @@ use Rattle.messages.specs.declared.fault.MsgFault.{MsgFault}
 use Rattle.messages.proofs.Arriving.{arrives_whole}
 use Rattle.engine.specs.declared.answer.Mode.{Mode as QueryMode}
 use Rattle.engine.specs.Prelude.{WriteView, ParameterView, EntryView, AnswerView, QueryFault, Welcome}
-use Rattle.session.specs.Prelude.{Step, take_kept, work_kept}
+use Rattle.server_session.specs.Prelude.{Step, take_kept, work_kept}
 use Rattle.server.specs.declared.kinds.Took.{Took}
 use Rattle.server.specs.Prelude.{Live, Rest, after_step, empty, fed_live, find, fresh, is_full, noop_put, opened, replace, setting, taken_from, with_kept, with_session, without, AreBelow, Event, opens, feeds, works, takes, noops, loses, after_call, after_event, after_events, Asks, Follows, bytes_taken, call_answered, places_of, requests_answered, step_answered, took_by, used_of}
 use Rattle.server.proofs.Bounds.{FewRows}

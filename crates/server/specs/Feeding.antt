@@ -4,12 +4,12 @@ use Rattle.wire.specs.declared.Version.{Version}
 use Rattle.wire.specs.Reader.{Took as TookOf, takes}
 use Rattle.wire.specs.Framing.{Item, Opening, Noop, Message, TooBig, Opened, opening, reading, at_server}
 use Rattle.wire.specs.Items.{answer_to, wants_room}
-use Rattle.reader.specs.Piecewise.{MayGoOn}
-use Rattle.inbox.specs.Opening.{data_of}
+use Rattle.packstream_incremental.specs.Piecewise.{MayGoOn}
+use Rattle.messages_deframer.specs.Opening.{data_of}
 use Rattle.messages.specs.Messages.{request_of}
 use Rattle.messages.specs.Arrivals.{Arrival, TooLong, arrival_of_offer}
-use Rattle.session.specs.declared.kinds.What.{What}
-use Rattle.session.specs.Rest.{Kept, version_of, arrival_by, after_item, what_of, shut, full}
+use Rattle.server_session.specs.declared.kinds.What.{What}
+use Rattle.server_session.specs.Rest.{Kept, version_of, arrival_by, after_item, what_of, shut, full}
 use Rattle.server.specs.declared.kinds.Took.{Took}
 
 -- what a whole item of the bytes is, at a version

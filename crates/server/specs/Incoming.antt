@@ -3,12 +3,12 @@ use Rattle.std.specs.Prelude.{◌≡◌, ℕ, List, take, Option, Result, Ok, Er
 use Rattle.std.specs.declared.alloc.AllocError.{AllocError}
 use Rattle.wire.specs.Framing.{Opened}
 use Rattle.messages.specs.Arrivals.{Arrival}
-use Rattle.inbox.specs.Opening.{come}
+use Rattle.messages_deframer.specs.Opening.{come}
 use Rattle.server.specs.declared.input.Incoming.{Incoming}
 use Rattle.server.specs.declared.input.Offer.{Offer}
 use Rattle.server.specs.declared.kinds.Took.{Took}
-use Rattle.session.specs.declared.kinds.What.{What}
-use Rattle.session.specs.Rest.{Kept, what_of, after_item}
+use Rattle.server_session.specs.declared.kinds.What.{What}
+use Rattle.server_session.specs.Rest.{Kept, what_of, after_item}
 use Rattle.server.specs.Feeding.{Feeding}
 
 -- the bytes of the handshake that have come

@@ -11,10 +11,10 @@ use Rattle.messages.specs.Arrivals.{Arrival, Shook, NoMagic, Asked, Unread, TooL
 use Rattle.engine.specs.declared.answer.Mode.{Mode as QueryMode}
 use Rattle.engine.specs.Views.{WriteView, ParameterView, EntryView, AnswerView, QueryFault}
 use Rattle.engine.specs.Welcomes.{Welcome}
-use Rattle.session.specs.declared.kinds.Cause.{Cause}
-use Rattle.session.specs.declared.kinds.Cause.TheVariants as cause
+use Rattle.server_session.specs.declared.kinds.Cause.{Cause}
+use Rattle.server_session.specs.declared.kinds.Cause.TheVariants as cause
 use Rattle.server.specs.declared.kinds.Took.{Took}
-use Rattle.session.specs.Rest.{Kept, Done, Wrote, work_kept}
+use Rattle.server_session.specs.Rest.{Kept, Done, Wrote, work_kept}
 use Rattle.server.specs.Serving.{Live, Rest, find, setting, feed_at}
 use Rattle.server.specs.Running.{Event, feeds, works, after_event}
 

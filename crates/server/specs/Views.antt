@@ -1,10 +1,10 @@
 -- What contracts see of a server: each session by what it keeps.
 use Rattle.std.specs.Prelude.{◌≡◌, List, map, Option, Some, None}
 use Rattle.std.specs.Borrow.{Bor}
-use Rattle.reader.specs.Piecewise.{Points, Reads}
+use Rattle.packstream_incremental.specs.Piecewise.{Points, Reads}
 use Rattle.engine.specs.Views.{EntryView}
-use Rattle.session.specs.Views.{kept_of}
-use Rattle.inbox.specs.Opening.{data_of}
+use Rattle.server_session.specs.Views.{kept_of}
+use Rattle.messages_deframer.specs.Opening.{data_of}
 use Rattle.server.specs.declared.server.Server.{Server}
 use Rattle.server.specs.declared.connected.Connected.{Connected}
 use Rattle.server.specs.Serving.{Live, Rest}

@@ -5,7 +5,7 @@ use crate::kinds::Took;
 use bytes::Bytes;
 use engine::{Engine, Gate};
 use machine::State;
-use session::{Cause, Session, What, Worked};
+use server_session::{Cause, Session, What, Worked};
 use std::alloc::{AllocError, Global};
 
 /// One connection, from its first byte.
@@ -19,7 +19,7 @@ pub(crate) struct Connected {
 impl Connected {
     ghost use Rattle.std.specs.Prelude.{◌≡◌, IfOk, OnErr};
     ghost use Rattle.server.specs.Serving.{fresh, with_kept, fed_live, taken_from, noop_put, MayFeed, MayTakeOut, MayPutNoop, MayWork};
-    ghost use Rattle.session.specs.Rest.{IsCounted, WritesRows, stepped};
+    ghost use Rattle.server_session.specs.Rest.{IsCounted, WritesRows, stepped};
     ghost use Rattle.server.specs.Views.{live_of};
 
     pub(crate) fn new(alloc: Global, conn: u64) -> Result<Connected, AllocError>

@@ -4,8 +4,8 @@ ghost use Rattle.wire.specs.Unfinished.{fresh};
 
 use crate::kinds::Took;
 use crate::receipt::{receive, receive_message};
-use inbox::Inbox;
-use session::{Session, What};
+use messages_deframer::Inbox;
+use server_session::{Session, What};
 use std::alloc::{AllocError, Global};
 
 /// How many bytes a handshake has.
@@ -37,8 +37,8 @@ pub(crate) struct Incoming {
 
 impl Incoming {
     ghost use Rattle.std.specs.Prelude.{false, IfOk, OnErr};
-    ghost use Rattle.session.specs.Rest.{full};
-    ghost use Rattle.session.specs.Views.{kept_of};
+    ghost use Rattle.server_session.specs.Rest.{full};
+    ghost use Rattle.server_session.specs.Views.{kept_of};
     ghost use Rattle.wire.specs.Framing.{at_server};
     ghost use Rattle.wire.specs.Reader.{takes};
     ghost use Rattle.server.specs.Feeding.{takes_item, WantsRoom};

@@ -14,7 +14,7 @@ mod server;
 
 pub use kinds::{Refused, Took};
 pub use server::Server;
-pub use session::{Cause, What, Worked};
+pub use server_session::{Cause, What, Worked};
 
 /// The most sessions that live: `open` answers N2 if as many do.
 pub const MAX_SESSIONS: usize = 16;

@@ -4,15 +4,15 @@ ghost use Rattle.wire.specs.Framing.{Item, Message};
 ghost use Rattle.messages.specs.View.{request_view};
 ghost use Rattle.messages.specs.Reading.{Answers};
 ghost use Rattle.messages.specs.Messages.{request_of};
-ghost use Rattle.inbox.specs.Taking.{Brings};
-ghost use Rattle.session.specs.Rest.{full, version_of, Receives};
-ghost use Rattle.session.specs.Views.{kept_of};
+ghost use Rattle.messages_deframer.specs.Taking.{Brings};
+ghost use Rattle.server_session.specs.Rest.{full, version_of, Receives};
+ghost use Rattle.server_session.specs.Views.{kept_of};
 ghost use Rattle.server.specs.Feeding.{arrival, arrives};
 ghost use Rattle.server.specs.Incoming.{IsReceived};
 
-use inbox::Brought;
 use messages::{Request, read_request};
-use session::{Session, What};
+use messages_deframer::Brought;
+use server_session::{Session, What};
 use std::alloc::AllocError;
 
 /// Hands the session a message that is whole. An `Err` is want of memory, and changes nothing.

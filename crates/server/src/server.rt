@@ -1,7 +1,7 @@
 //! Up to sixteen sessions over one engine and one gate.
 ghost use Rattle.std.specs.Prelude.{◌≡◌, ◌↔◌, Some, None, option_map, IfOk, IfErr, OnErr, IfSome, IsErrOf};
 ghost use Rattle.server.specs.Serving.{empty, find, feed_at, work_at, take_out_at, noop_at, unsent_at, sent_at, lost_at, state_at, cause_at, is_full, Opens, WritesAt, RefusesCall, MayFeed, MayTakeOut, MayWork, MayPutNoop};
-ghost use Rattle.session.specs.Rest.{IsCounted};
+ghost use Rattle.server_session.specs.Rest.{IsCounted};
 ghost use Rattle.server.specs.Views.{rest_of, Lends};
 
 use crate::connected::Connected;
@@ -11,8 +11,8 @@ use crate::{MAX_NUMBERS, MAX_SESSIONS};
 use bytes::Bytes;
 use engine::{Engine, Gate};
 use machine::State;
-use reader::Reader;
-use session::{Cause, Worked};
+use packstream_incremental::Reader;
+use server_session::{Cause, Worked};
 use std::alloc::Global;
 
 /// A server: its live sessions in the order in which they were opened, over one engine and one gate.

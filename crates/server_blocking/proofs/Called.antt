@@ -8,20 +8,20 @@ use Rattle.server.proofs.Known.{gone}
 use Rattle.server.proofs.Runs.{find_replaced, find-conn}
 use Rattle.engine.specs.Prelude.{EntryView, WriteView, ParameterView, AnswerView, QueryFault, Welcome}
 use Rattle.wire.specs.Prelude.{Opened, Item, at_server, Took as TookOf, takes, outputs}
-use Rattle.session.specs.Prelude.{Kept, worked_of, work_kept, commit_entries, shut, full, after_item}
-use Rattle.serves.specs.Prelude.{Talk, with_talk, heard_out, without_talk, LeavesOthers, Grows, GrowsOn, LivesOn, Puts, said_by, Feeds, IsPartOut, Holds, HoldsPart, StandsOver, SinkView, PutsBytes, PutsFront}
+use Rattle.server_session.specs.Prelude.{Kept, worked_of, work_kept, commit_entries, shut, full, after_item}
+use Rattle.server_blocking.specs.Prelude.{Talk, with_talk, heard_out, without_talk, LeavesOthers, Grows, GrowsOn, LivesOn, Puts, said_by, Feeds, IsPartOut, Holds, HoldsPart, StandsOver, SinkView, PutsBytes, PutsFront}
 use Rattle.streams.specs.Moving.{Grows as HasGrown}
 use Rattle.engine.specs.declared.answer.Mode.{Mode as QueryMode}
-use Rattle.session.specs.declared.kinds.Worked.{Worked}
+use Rattle.server_session.specs.declared.kinds.Worked.{Worked}
 use Rattle.std.specs.Io.KnownBytes.{Appends}
 use Rattle.std.proofs.KnownBytes.{Appends-trans}
 use Rattle.streams.proofs.Moving.{Grows-trans}
-use Rattle.serves.proofs.Views.{puts_trans, part_after, part_all, part_front, part_held, part_taken, part_then}
+use Rattle.server_blocking.proofs.Views.{puts_trans, part_after, part_all, part_front, part_held, part_taken, part_then}
 use Rattle.streams.specs.declared.fault.StreamFault.{StreamFault}
 use Rattle.wire.proofs.Readers.{reads_pieces, takes_outputs}
 use Rattle.server.specs.declared.kinds.Took.{Took}
-use Rattle.session.specs.declared.kinds.What.{What}
-use Rattle.session.specs.declared.kinds.Cause.{Cause}
+use Rattle.server_session.specs.declared.kinds.What.{What}
+use Rattle.server_session.specs.declared.kinds.Cause.{Cause}
 
 -- by whether there is one
 pub by_option : {A : Type 0} (P : Option A → Type 0) (o : Option A) → ((x : A) → o ≡ Some x → P (Some x)) → (o ≡ None → P None) → P o

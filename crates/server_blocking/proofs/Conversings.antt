@@ -3,18 +3,18 @@ use Rattle.std.proofs.Common.{◌≡◌, refl, sym, ap, subst, ◌∙◌, ℕ, L
 use Rattle.std.specs.Io.KnownBytes.{Consumes, IsAtEnd}
 use Rattle.std.proofs.lemmas.List.{append_cancel_left}
 use Rattle.streams.specs.Prelude.{Grows, MovesFront}
-use Rattle.session.specs.Prelude.{Setting, Kept, begun}
+use Rattle.server_session.specs.Prelude.{Setting, Kept, begun}
 use Rattle.wire.specs.Prelude.{state, at_server, opening}
 use Rattle.server.specs.Prelude.{Rest, Live, find, fresh}
-use Rattle.serves.specs.declared.liveness.Liveness.{Liveness}
-use Rattle.serves.specs.declared.liveness.Liveness.TheVariants.{Open, Over}
+use Rattle.server_blocking.specs.declared.liveness.Liveness.{Liveness}
+use Rattle.server_blocking.specs.declared.liveness.Liveness.TheVariants.{Open, Over}
 use Rattle.streams.specs.declared.fault.StreamFault.{StreamFault}
-use Rattle.serves.specs.Prelude.{StandsOver, told_by, BreaksIn, Stands, HoldsAfter, BreaksHolding, TakesItems, TakesPiece, taken_and_put, Puts, IsDueTo, Talk, conversation, with_talk, IsTurn, IsBrokenOff, IsFront, Converses, ConversesWhole, ConversesFront, SourceView, SinkView, GivesBytes, PutsBytes, PutsFront}
-use Rattle.serves.proofs.Talks.{breaks_more, breaks_whole, comes_by_items, talk_by_items, told_over, told_rests}
-use Rattle.serves.proofs.Stepping.{breaks_off, heard_same}
-use Rattle.serves.proofs.Views.{gives_nil, gives_trans, puts_nil, puts_whole}
+use Rattle.server_blocking.specs.Prelude.{StandsOver, told_by, BreaksIn, Stands, HoldsAfter, BreaksHolding, TakesItems, TakesPiece, taken_and_put, Puts, IsDueTo, Talk, conversation, with_talk, IsTurn, IsBrokenOff, IsFront, Converses, ConversesWhole, ConversesFront, SourceView, SinkView, GivesBytes, PutsBytes, PutsFront}
+use Rattle.server_blocking.proofs.Talks.{breaks_more, breaks_whole, comes_by_items, talk_by_items, told_over, told_rests}
+use Rattle.server_blocking.proofs.Stepping.{breaks_off, heard_same}
+use Rattle.server_blocking.proofs.Views.{gives_nil, gives_trans, puts_nil, puts_whole}
 use Rattle.streams.specs.declared.fault.StreamFault.TheVariants as stream_fault
-use Rattle.serves.proofs.Called.{replace-itself, held_out, holds_some, part_out, part_stands}
+use Rattle.server_blocking.proofs.Called.{replace-itself, held_out, holds_some, part_out, part_stands}
 
 -- Before a piece nothing is held.
 pub begins_held : {G : Type 0} (r : Rest G) (conn : ℕ) (S : Setting) {before taken : SinkView} (up : List ℕ) {Now : Rest G → Type 0} → Stands r conn S Now before taken up → HoldsAfter r conn S Now before taken up

@@ -2,12 +2,12 @@
 use Rattle.std.proofs.Common.{◌≡◌, refl, sym, ap, subst, ◌∙◌, ℕ, List, [], ◌++◌, Option, Some, IsSome}
 use Rattle.std.specs.Io.KnownBytes.{Consumes}
 use Rattle.engine.specs.Prelude.{EntryView}
-use Rattle.session.specs.Prelude.{Setting}
+use Rattle.server_session.specs.Prelude.{Setting}
 use Rattle.server.specs.Prelude.{Live, Rest, empty, find, fresh, opened}
-use Rattle.serves.specs.declared.response.End.{End}
-use Rattle.serves.specs.Prelude.{Talk, conversation, with_talk, ConversesWhole, end_of, SourceView, SinkView}
-use Rattle.serves.proofs.Called.{here, talk-found}
-use Rattle.serves.proofs.Conversings.{read_all}
+use Rattle.server_blocking.specs.declared.response.End.{End}
+use Rattle.server_blocking.specs.Prelude.{Talk, conversation, with_talk, ConversesWhole, end_of, SourceView, SinkView}
+use Rattle.server_blocking.proofs.Called.{here, talk-found}
+use Rattle.server_blocking.proofs.Conversings.{read_all}
 
 module _ {G : Type 0} (ledger : List EntryView) (gate : G) (conn : ℕ) (first : conn ≡ 0) where
   -- the server with its first session

@@ -3,15 +3,15 @@ use Rattle.std.proofs.Common.{◌≡◌, ◌∙◌, refl, ap, sym, subst, ℕ, z
 use Rattle.wire.specs.Prelude.{Opened}
 use Rattle.engine.specs.declared.answer.Mode.{Mode as QueryMode}
 use Rattle.engine.specs.Prelude.{WriteView, ParameterView, EntryView, AnswerView, QueryFault, Welcome}
-use Rattle.session.specs.declared.kinds.Worked.{Worked}
-use Rattle.session.specs.declared.kinds.Worked.TheVariants as worked
-use Rattle.session.specs.Prelude.{Kept, Snapshot, StepsRow, WritesRows, work_kept}
+use Rattle.server_session.specs.declared.kinds.Worked.{Worked}
+use Rattle.server_session.specs.declared.kinds.Worked.TheVariants as worked
+use Rattle.server_session.specs.Prelude.{Kept, Snapshot, StepsRow, WritesRows, work_kept}
 use Rattle.server.specs.Prelude.{Live, Rest, find, replace, with_kept, with_session, with_sessions, setting, after_step, work_at, WritesAt}
 use Rattle.server.proofs.Runs.{find-conn, find_replaced}
-use Rattle.serves.specs.Prelude.{Talk, GoesOn, GrowsOn, SinkView}
-use Rattle.serves.specs.declared.due.Next.TheVariants as next
-use Rattle.serves.proofs.Called.{by_option, grows_same, grows_worked, replace-itself, replace-replace}
-use Rattle.serves.proofs.Stepping.{goes_by}
+use Rattle.server_blocking.specs.Prelude.{Talk, GoesOn, GrowsOn, SinkView}
+use Rattle.server_blocking.specs.declared.due.Next.TheVariants as next
+use Rattle.server_blocking.proofs.Called.{by_option, grows_same, grows_worked, replace-itself, replace-replace}
+use Rattle.server_blocking.proofs.Stepping.{goes_by}
 
 -- so many calls told a row each
 abbrev pub TellsRows : {G : Type 0} → (Rest G → Option (Worked × Rest G)) → ℕ → Rest G → Rest G → Type 0

@@ -6,18 +6,18 @@ use Rattle.messages.specs.Arrivals as arrival
 use Rattle.machine.specs.declared.states.State.{State}
 use Rattle.machine.specs.Prelude.{kind_of, is_reset, interruptible}
 use Rattle.engine.specs.Prelude.{EntryView, WriteView, ParameterView, AnswerView, QueryFault, Welcome}
-use Rattle.session.specs.declared.kinds.Cause.{Cause}
-use Rattle.session.specs.Prelude.{Setting, Open, no_result, Tx, Reply, OneRow, Summary, Bye, no_tx, serve, Kept, rests, ends, turns, serves, reset_among, Done, Idle, Full, WroteRow, Wrote, Ended, Step, work_kept, replies, after_interrupt, after_item, version_of, commit_entries, worked_of}
-use Rattle.session.proofs.Served.{Served, writes_row, serving}
+use Rattle.server_session.specs.declared.kinds.Cause.{Cause}
+use Rattle.server_session.specs.Prelude.{Setting, Open, no_result, Tx, Reply, OneRow, Summary, Bye, no_tx, serve, Kept, rests, ends, turns, serves, reset_among, Done, Idle, Full, WroteRow, Wrote, Ended, Step, work_kept, replies, after_interrupt, after_item, version_of, commit_entries, worked_of}
+use Rattle.server_session.proofs.Served.{Served, writes_row, serving}
 use Rattle.machine.specs.declared.kinds.Kind.{Kind}
-use Rattle.serves.specs.Prelude.{Talk, silent, after_bytes, talk_then, heard_out, step_then, steps, steps_due, with_talk, IsPlaced, due, next_of, Works, Holds, HoldsPart, settled, IsPartSettled, GoesOn, BreaksAt, IsFront, SinkView}
-use Rattle.serves.specs.declared.due.Next.{Next}
-use Rattle.serves.specs.declared.due.Next.TheVariants as next
+use Rattle.server_blocking.specs.Prelude.{Talk, silent, after_bytes, talk_then, heard_out, step_then, steps, steps_due, with_talk, IsPlaced, due, next_of, Works, Holds, HoldsPart, settled, IsPartSettled, GoesOn, BreaksAt, IsFront, SinkView}
+use Rattle.server_blocking.specs.declared.due.Next.{Next}
+use Rattle.server_blocking.specs.declared.due.Next.TheVariants as next
 use Rattle.wire.specs.Prelude.{Opened}
 use Rattle.server.specs.Prelude.{Rest, find, setting, work_at}
 use Rattle.engine.specs.declared.answer.Mode.{Mode as QueryMode}
-use Rattle.serves.proofs.Called.{by_option, stepped_talk}
-use Rattle.serves.proofs.Views.{part_held}
+use Rattle.server_blocking.proofs.Called.{by_option, stepped_talk}
+use Rattle.server_blocking.proofs.Views.{part_held}
 
 -- A row that is written leaves fewer.
 pub Lessens : ℕ → Reply → Type 0

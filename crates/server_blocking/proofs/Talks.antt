@@ -4,19 +4,19 @@ use Rattle.wire.specs.Prelude.{Item, Opened, at_server, items_received, Opening,
 use Rattle.messages.specs.Prelude.{Arrival, Asked, Unread, TooLong, Shook, NoMagic, then_request, requests_in, after_shake, arrivals, arrivals_of, RequestView, request_of}
 use Rattle.machine.specs.Prelude.{kind_of, is_reset, interruptible}
 use Rattle.engine.specs.Prelude.{EntryView}
-use Rattle.session.specs.declared.kinds.Cause.{Cause}
-use Rattle.session.specs.Prelude.{Setting, Kept, after_item, after_interrupt, version_of, begun, shut, unread_among, arrival_by, what_of}
+use Rattle.server_session.specs.declared.kinds.Cause.{Cause}
+use Rattle.server_session.specs.Prelude.{Setting, Kept, after_item, after_interrupt, version_of, begun, shut, unread_among, arrival_by, what_of}
 use Rattle.server.specs.declared.kinds.Took.{Took as AnyTook}
 use Rattle.server.specs.Prelude.{arrives, arrival as arrival_of, Rest, feed_at, find, takes_item}
-use Rattle.serves.proofs.Called.{by_option, fed_item, fed_none}
-use Rattle.serves.proofs.Views.{part_held}
+use Rattle.server_blocking.proofs.Called.{by_option, fed_item, fed_none}
+use Rattle.server_blocking.proofs.Views.{part_held}
 use Rattle.streams.specs.declared.fault.StreamFault.{StreamFault}
-use Rattle.serves.specs.Prelude.{Talk, silent, after_bytes, heard_out, steps, steps_due, talk_of_due, unless_ended, talk_then, with_talk, talk_of_arrivals, conversation, IsPartOfDue, due_of, ComesTo, nothing_yet, part_of_first, after_first, as_it_is, ConversationComesTo, IsPlaced, due, as_item, item_talk, liveness_of, rest_after, Holds, HoldsPart, settled, IsPartSettled, SettlesWhole, BreaksAt, IsFront, told_by, told_to, HoldsAfter, BreaksHolding, TakesOne, TakesFront, TakesItems, Feeds, SinkView}
-use Rattle.serves.proofs.Stepping.{Grown, Rested, RestsAs, after_twice, steps_grow, steps_none, steps_rest, behind, heard_same, item_behind, silent_same, front_later, front_same, front_then}
+use Rattle.server_blocking.specs.Prelude.{Talk, silent, after_bytes, heard_out, steps, steps_due, talk_of_due, unless_ended, talk_then, with_talk, talk_of_arrivals, conversation, IsPartOfDue, due_of, ComesTo, nothing_yet, part_of_first, after_first, as_it_is, ConversationComesTo, IsPlaced, due, as_item, item_talk, liveness_of, rest_after, Holds, HoldsPart, settled, IsPartSettled, SettlesWhole, BreaksAt, IsFront, told_by, told_to, HoldsAfter, BreaksHolding, TakesOne, TakesFront, TakesItems, Feeds, SinkView}
+use Rattle.server_blocking.proofs.Stepping.{Grown, Rested, RestsAs, after_twice, steps_grow, steps_none, steps_rest, behind, heard_same, item_behind, silent_same, front_later, front_same, front_then}
 use Rattle.wire.proofs.Readers.{outputs-append, state-append, takes_outputs}
-use Rattle.serves.specs.declared.liveness.Liveness.{Liveness}
-use Rattle.serves.specs.declared.liveness.Liveness.TheVariants.{Open, Over}
-use Rattle.serves.specs.declared.intake.Taken.{Taken}
+use Rattle.server_blocking.specs.declared.liveness.Liveness.{Liveness}
+use Rattle.server_blocking.specs.declared.liveness.Liveness.TheVariants.{Open, Over}
+use Rattle.server_blocking.specs.declared.intake.Taken.{Taken}
 use Rattle.streams.proofs.Parts.{fed_more}
 use Rattle.wire.specs.declared.Version.{Version}
 use Rattle.messages.specs.declared.MsgFault.{MsgFault}

@@ -4,7 +4,7 @@ use Rattle.std.specs.Io.KnownBytes.{Keeps}
 use Rattle.std.proofs.KnownBytes.{Appends-nil, Appends-trans, Consumes-kept, Consumes-nil, Consumes-trans}
 use Rattle.streams.proofs.Fronts.{front_whole}
 use Rattle.streams.proofs.Moving.{Grows-kept, Grows-nil, Grows-trans, moved_whole}
-use Rattle.serves.specs.Prelude.{SourceView, SinkView, GivesBytes, PutsBytes, PutsFront, IsPartOut}
+use Rattle.server_blocking.specs.Prelude.{SourceView, SinkView, GivesBytes, PutsBytes, PutsFront, IsPartOut}
 
 pub gives_nil : (a : SourceView) → GivesBytes a a []
 gives_nil a = record { grows = Grows-nil a.given; known = Consumes-nil a.left }

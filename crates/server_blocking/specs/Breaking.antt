@@ -2,10 +2,10 @@
 use Rattle.std.specs.Prelude.{◌≡◌, ℕ, List, ◌∷◌, ◌++◌, Some, None}
 use Rattle.messages.specs.Arrivals.{Arrival, arrivals}
 use Rattle.engine.specs.Views.{EntryView}
-use Rattle.session.specs.Session.{Setting}
-use Rattle.session.specs.Rest.{Kept, begun, after_item}
-use Rattle.serves.specs.Conversing.{Talk, silent, after_bytes, heard_out, steps, talk_of_due}
-use Rattle.serves.specs.Views.{SinkView, PutsFront}
+use Rattle.server_session.specs.Session.{Setting}
+use Rattle.server_session.specs.Rest.{Kept, begun, after_item}
+use Rattle.server_blocking.specs.Conversing.{Talk, silent, after_bytes, heard_out, steps, talk_of_due}
+use Rattle.server_blocking.specs.Views.{SinkView, PutsFront}
 
 -- all that is unsent, and then some of the steps that are due
 abbrev pub IsPartOfDue : Setting → ℕ → List EntryView → Kept → Talk → Type 0

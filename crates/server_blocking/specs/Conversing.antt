@@ -3,9 +3,9 @@ use Rattle.std.specs.Prelude.{ℕ, zero, suc, List, [], ◌∷◌, ◌++◌, len
 use Rattle.wire.specs.Framing.{Opened}
 use Rattle.messages.specs.Arrivals.{Arrival, arrivals}
 use Rattle.engine.specs.Views.{EntryView}
-use Rattle.session.specs.declared.kinds.Cause.{Cause}
-use Rattle.session.specs.Session.{Setting}
-use Rattle.session.specs.Rest.{Kept, begun, Done, Idle, Full, WroteRow, Wrote, Ended, Step, work_kept, after_item, commit_entries}
+use Rattle.server_session.specs.declared.kinds.Cause.{Cause}
+use Rattle.server_session.specs.Session.{Setting}
+use Rattle.server_session.specs.Rest.{Kept, begun, Done, Idle, Full, WroteRow, Wrote, Ended, Step, work_kept, after_item, commit_entries}
 use Rattle.server.specs.Serving.{Rest, replace, without}
 
 -- what was put out, the ledger then, and what the session keeps then

@@ -2,8 +2,8 @@
 use Rattle.std.specs.Prelude.{◌≡◌, ℕ, List, [], Some, ◌⊎◌, Result, Ok, Err}
 use Rattle.server.specs.Serving.{Live, Rest, on_live, with_kept}
 use Rattle.streams.specs.declared.fault.StreamFault.{StreamFault}
-use Rattle.serves.specs.Conversing.{heard_out}
-use Rattle.serves.specs.Views.{SinkView, PutsBytes, PutsFront}
+use Rattle.server_blocking.specs.Conversing.{heard_out}
+use Rattle.server_blocking.specs.Views.{SinkView, PutsBytes, PutsFront}
 
 -- all that a session has said, and the session after it is taken out
 abbrev pub said_by : Live → List ℕ × Live

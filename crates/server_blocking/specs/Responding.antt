@@ -4,11 +4,11 @@ use Rattle.engine.specs.declared.answer.Mode.{Mode as QueryMode}
 use Rattle.engine.specs.Views.{WriteView, ParameterView, EntryView, AnswerView, QueryFault}
 use Rattle.engine.specs.Welcomes.{Welcome}
 use Rattle.machine.specs.declared.states.State.{State}
-use Rattle.session.specs.declared.kinds.Cause.{Cause}
-use Rattle.session.specs.Session.{Setting}
-use Rattle.session.specs.Rest.{Kept}
-use Rattle.serves.specs.declared.response.End.{End}
-use Rattle.serves.specs.declared.response.End.TheVariants.{Live, Over}
+use Rattle.server_session.specs.declared.kinds.Cause.{Cause}
+use Rattle.server_session.specs.Session.{Setting}
+use Rattle.server_session.specs.Rest.{Kept}
+use Rattle.server_blocking.specs.declared.response.End.{End}
+use Rattle.server_blocking.specs.declared.response.End.TheVariants.{Live, Over}
 
 -- how a session stands: over by this cause, or live in this state if there is none
 abbrev pub end_by : Option Cause → State → End

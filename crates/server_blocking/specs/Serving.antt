@@ -3,15 +3,15 @@ use Rattle.std.specs.Prelude.{◌≡◌, ◌⊎◌, ℕ, List, ◌++◌, Option,
 use Rattle.std.specs.Io.KnownBytes.{Appends, Consumes, IsAtEnd}
 use Rattle.wire.specs.Framing.{Opened}
 use Rattle.engine.specs.Views.{EntryView}
-use Rattle.session.specs.declared.kinds.Cause.{Cause}
-use Rattle.session.specs.Session.{Setting}
+use Rattle.server_session.specs.declared.kinds.Cause.{Cause}
+use Rattle.server_session.specs.Session.{Setting}
 use Rattle.server.specs.Serving.{cause_or, Rest}
 use Rattle.streams.specs.declared.fault.StreamFault.{StreamFault}
 use Rattle.streams.specs.declared.fault.StreamFault.TheVariants as stream_fault
-use Rattle.serves.specs.Conversing.{Talk, conversation, with_talk, without_talk}
-use Rattle.serves.specs.Breaking.{ConversationComesTo, BreaksOff}
-use Rattle.serves.specs.Settling.{StandsOver}
-use Rattle.serves.specs.Views.{SourceView, SinkView, GivesBytes, PutsBytes}
+use Rattle.server_blocking.specs.Conversing.{Talk, conversation, with_talk, without_talk}
+use Rattle.server_blocking.specs.Breaking.{ConversationComesTo, BreaksOff}
+use Rattle.server_blocking.specs.Settling.{StandsOver}
+use Rattle.server_blocking.specs.Views.{SourceView, SinkView, GivesBytes, PutsBytes}
 
 module _ {G : Type 0} (r : Rest G) (conn : ℕ) (S : Setting) where
   -- what the session does with these bytes of its client

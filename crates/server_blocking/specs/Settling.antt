@@ -6,28 +6,28 @@ use Rattle.wire.specs.Reader.{state}
 use Rattle.wire.specs.Framing.{Item, Opened, at_server, items_received}
 use Rattle.messages.specs.Arrivals.{Arrival, Asked, Unread, TooLong}
 use Rattle.engine.specs.Views.{EntryView}
-use Rattle.session.specs.declared.kinds.Cause.{Cause}
+use Rattle.server_session.specs.declared.kinds.Cause.{Cause}
 use Rattle.server.specs.declared.server.Server.{Server}
 use Rattle.server.specs.declared.kinds.Took.{Took}
-use Rattle.session.specs.declared.kinds.Worked.{Worked}
-use Rattle.session.specs.declared.kinds.Worked.TheVariants as worked
-use Rattle.session.specs.declared.kinds.What.{What}
-use Rattle.session.specs.declared.kinds.What.TheVariants as what
-use Rattle.session.specs.Session.{Setting}
-use Rattle.session.specs.Rest.{Kept, begun, after_item, version_of}
+use Rattle.server_session.specs.declared.kinds.Worked.{Worked}
+use Rattle.server_session.specs.declared.kinds.Worked.TheVariants as worked
+use Rattle.server_session.specs.declared.kinds.What.{What}
+use Rattle.server_session.specs.declared.kinds.What.TheVariants as what
+use Rattle.server_session.specs.Session.{Setting}
+use Rattle.server_session.specs.Rest.{Kept, begun, after_item, version_of}
 use Rattle.server.specs.Feeding.{arrives}
 use Rattle.server.specs.Serving.{Rest, find}
 use Rattle.server.specs.Views.{Fits}
 use Rattle.streams.specs.declared.fault.StreamFault.{StreamFault}
 use Rattle.streams.specs.declared.fault.StreamFault.TheVariants.{ReadFailed, WriteFailed, Memory}
-use Rattle.serves.specs.declared.due.Next.{Next}
-use Rattle.serves.specs.declared.due.Next.TheVariants as next
-use Rattle.serves.specs.declared.intake.Taken.{Taken}
-use Rattle.serves.specs.declared.liveness.Liveness.{Liveness}
-use Rattle.serves.specs.declared.liveness.Liveness.TheVariants.{Open, Over}
-use Rattle.serves.specs.Conversing.{Talk, silent, steps, steps_due, talk_of_due, unless_ended, talk_then, with_talk}
-use Rattle.serves.specs.Breaking.{BreaksAt, BreaksOff, ComesTo}
-use Rattle.serves.specs.Views.{SinkView, PutsBytes}
+use Rattle.server_blocking.specs.declared.due.Next.{Next}
+use Rattle.server_blocking.specs.declared.due.Next.TheVariants as next
+use Rattle.server_blocking.specs.declared.intake.Taken.{Taken}
+use Rattle.server_blocking.specs.declared.liveness.Liveness.{Liveness}
+use Rattle.server_blocking.specs.declared.liveness.Liveness.TheVariants.{Open, Over}
+use Rattle.server_blocking.specs.Conversing.{Talk, silent, steps, steps_due, talk_of_due, unless_ended, talk_then, with_talk}
+use Rattle.server_blocking.specs.Breaking.{BreaksAt, BreaksOff, ComesTo}
+use Rattle.server_blocking.specs.Views.{SinkView, PutsBytes}
 
 -- a stream is reported as failed only if it has failed
 abbrev pub IsDueTo : StreamFault → Bool → Bool → Type 0

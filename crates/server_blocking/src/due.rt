@@ -3,10 +3,10 @@ ghost use Rattle.std.specs.Prelude.{◌≡◌, [], Option, None, IsSome, IfErr, 
 ghost use Rattle.wire.specs.Framing.{Opened};
 ghost use Rattle.server.specs.Serving.{Rest, cause_at, find, setting, work_at};
 ghost use Rattle.server.specs.Views.{rest_of, Fits};
-ghost use Rattle.serves.specs.Views.{SinkView, sink_view};
-ghost use Rattle.serves.specs.Conversing.{Talk};
-ghost use Rattle.serves.specs.Putting.{Puts};
-ghost use Rattle.serves.specs.Settling.{GrowsOn, IsDueTo, IsPlaced, GoesOn, Holds, Settles, Steps, Works, next_of, liveness_of};
+ghost use Rattle.server_blocking.specs.Views.{SinkView, sink_view};
+ghost use Rattle.server_blocking.specs.Conversing.{Talk};
+ghost use Rattle.server_blocking.specs.Putting.{Puts};
+ghost use Rattle.server_blocking.specs.Settling.{GrowsOn, IsDueTo, IsPlaced, GoesOn, Holds, Settles, Steps, Works, next_of, liveness_of};
 
 use crate::liveness::Liveness;
 use engine::{Engine, Gate};

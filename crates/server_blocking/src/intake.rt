@@ -2,14 +2,14 @@
 ghost use Rattle.std.specs.Prelude.{◌≡◌, ◌<◌, ◌≤◌, ℕ, List, Option, None, length, IsSome, IfOk, IfErr, false};
 ghost use Rattle.server.specs.Serving.{Rest, find, feed_at, setting};
 ghost use Rattle.server.specs.Views.{rest_of, Fits};
-ghost use Rattle.serves.specs.Views.{SinkView, sink_view};
-ghost use Rattle.serves.specs.Settling.{GrowsOn, IsDueTo, IsLive, LivesOn, Feeds, HoldsAfter, Stands, TakesOne, TakesItems, TakesPiece, rest_after, taken_and_put, told_by};
+ghost use Rattle.server_blocking.specs.Views.{SinkView, sink_view};
+ghost use Rattle.server_blocking.specs.Settling.{GrowsOn, IsDueTo, IsLive, LivesOn, Feeds, HoldsAfter, Stands, TakesOne, TakesItems, TakesPiece, rest_after, taken_and_put, told_by};
 
 use crate::due::{put_out, settle};
 use crate::liveness::Liveness;
 use engine::{Engine, Gate};
 use server::{Server, Took};
-use session::What;
+use server_session::What;
 use streams::{Sink, StreamFault};
 
 /// The number of bytes of a piece that were used, and the session's liveness after them.

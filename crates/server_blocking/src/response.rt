@@ -2,8 +2,8 @@
 ghost use Rattle.std.specs.Prelude.{◌≡◌, Some, IfOk};
 ghost use Rattle.server.specs.Serving.{Live, Rest, find};
 ghost use Rattle.server.specs.Views.{Fits};
-ghost use Rattle.serves.specs.Conversing.{conversation};
-ghost use Rattle.serves.specs.Responding.{end_of, setting_of};
+ghost use Rattle.server_blocking.specs.Conversing.{conversation};
+ghost use Rattle.server_blocking.specs.Responding.{end_of, setting_of};
 
 use crate::server_end::converse;
 use engine::{Engine, Gate};

@@ -2,9 +2,9 @@
 ghost use Rattle.std.specs.Prelude.{◌≡◌, ◌<◌, ◌≤◌, ◌++◌, ℕ, List, Some, IsSome, length, IfErr, OnOk, OnErr};
 ghost use Rattle.server.specs.Serving.{Rest, find, fresh, setting};
 ghost use Rattle.server.specs.Views.{Fits};
-ghost use Rattle.serves.specs.Views.{source_view, sink_view};
-ghost use Rattle.serves.specs.Settling.{IsDueTo, IsLive, LivesOn};
-ghost use Rattle.serves.specs.Serving.{Converses, IsTurn, LeavesOthers, Serves, talk_for};
+ghost use Rattle.server_blocking.specs.Views.{source_view, sink_view};
+ghost use Rattle.server_blocking.specs.Settling.{IsDueTo, IsLive, LivesOn};
+ghost use Rattle.server_blocking.specs.Serving.{Converses, IsTurn, LeavesOthers, Serves, talk_for};
 ghost use Rattle.streams.specs.Moving.{MovesFront};
 ghost use Rattle.streams.specs.Reading.{LetsRead};
 ghost use Rattle.streams.specs.Limits.{max_piece};

@@ -5,9 +5,9 @@ use Rattle.messages.specs.declared.MsgFault.{MsgFault}
 use Rattle.messages.specs.declared.MsgFault.TheVariants.{Memory}
 use Rattle.messages.specs.declared.request.Request.{Request}
 use Rattle.messages.specs.Prelude.{request_view, RequestView, Answers}
-use Rattle.session.specs.declared.kinds.What.{What}
-use Rattle.session.specs.Prelude.{Kept, Receives, arrival_by}
-use Rattle.session.specs.Views.{arrival_told}
+use Rattle.server_session.specs.declared.kinds.What.{What}
+use Rattle.server_session.specs.Prelude.{Kept, Receives, arrival_by}
+use Rattle.server_session.specs.Views.{arrival_told}
 
 -- what was asked is what they stand for, unless memory ran out
 pub received_by : (asked : Result Request MsgFault) (defined : Result RequestView MsgFault) (r : Result What AllocError) (old new : Kept) → Answers request_view asked defined → (asked ≡ Err Memory → IsErr r)

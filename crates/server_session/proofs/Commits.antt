@@ -4,7 +4,7 @@ use Rattle.messages.specs.Prelude.{ResponseView}
 use Rattle.engine.specs.declared.ledger.Commit.{Commit}
 use Rattle.engine.specs.declared.ledger.Commit.TheVariants.{Added}
 use Rattle.engine.specs.Prelude.{Found, Free, found_in, commit_by, known_by, EntryView}
-use Rattle.session.specs.Prelude.{Change, commits_as, commits_over, commits_by}
+use Rattle.server_session.specs.Prelude.{Change, commits_as, commits_over, commits_by}
 
 by_found : (len : ℕ) (change : Change) (said : ℕ → ResponseView) (f : Found) → commits_by change said (commit_by len f) ≡ commits_as len change said f
 by_found len change said Free = refl

@@ -4,15 +4,15 @@ use Rattle.std.proofs.lemmas.List.{append-nil}
 use Rattle.packstream.specs.Prelude.{Tree, text, dict, Trees, count, depth, trees_depth, entries_of, trees_of, head, int_bytes, text_bytes, canon, canon_all, IsGood, AreSound, ArePlain}
 use Rattle.packstream.proofs.Ranges.{fits_pos}
 use Rattle.wire.specs.declared.Version.{Version}
-use Rattle.cells.specs.Prelude.{scan, fault as structure_fault, structures, structures_in}
+use Rattle.structures_cells.specs.Prelude.{scan, fault as structure_fault, structures, structures_in}
 use Rattle.structures.specs.Prelude.{typed_all}
 use Rattle.wire.specs.Prelude.{written_run}
 use Rattle.messages.specs.Prelude.{SUCCESS, run_of_result, contents, form_put, response_contents, response_spelling, IsCell, Adds}
 use Rattle.messages.proofs.Added.{cells_added, appended}
 use Rattle.messages.proofs.Rounds.{response_reads_back}
-use Rattle.session.specs.Prelude.{fields_told, fields_said, fits, IsRun}
-use Rattle.session.proofs.Fitting.{said_fits}
-use Rattle.session.proofs.Summed.{small_head}
+use Rattle.server_session.specs.Prelude.{fields_told, fields_said, fits, IsRun}
+use Rattle.server_session.proofs.Fitting.{said_fits}
+use Rattle.server_session.proofs.Summed.{small_head}
 
 -- the names, as trees
 abbrev pub names_in : List (List ℕ) → Trees

@@ -4,17 +4,17 @@ use Rattle.std.proofs.lemmas.Bool.{and_from}
 use Rattle.std.proofs.lemmas.Bool.Decides.{nat_tests}
 use Rattle.packstream.specs.Prelude.{Tree, AreBytes}
 use Rattle.wire.specs.declared.Version.{Version}
-use Rattle.cells.specs.Prelude.{same_tree}
-use Rattle.cells.proofs.Equality.{tree_is, bytes_is}
+use Rattle.structures_cells.specs.Prelude.{same_tree}
+use Rattle.structures_cells.proofs.Equality.{tree_is, bytes_is}
 use Rattle.messages.specs.declared.fault.MsgFault.{MsgFault}
 use Rattle.messages.specs.declared.fault.MsgFault.TheVariants as writer
 use Rattle.messages.specs.Prelude.{ResponseView, Success, Record, Ignored, Failure, Resp, response_of, response_spelling, IsResponse}
 use Rattle.messages.proofs.Sent.{response_fits, response_is}
 use Rattle.messages.proofs.Rounds.{response_reads_back}
-use Rattle.session.specs.Prelude.{same_cells, same_metadata, same_say, is_reading, are_bytes, is_text, fits, of_writer, unwritable, IsBody, Refuses, unwritten_of}
-use Rattle.session.specs.declared.fault.Fault.{Fault}
-use Rattle.session.specs.declared.spelling.Unwritten.{Unwritten}
-use Rattle.session.specs.declared.spelling.Unwritten.TheVariants as unwritten
+use Rattle.server_session.specs.Prelude.{same_cells, same_metadata, same_say, is_reading, are_bytes, is_text, fits, of_writer, unwritable, IsBody, Refuses, unwritten_of}
+use Rattle.server_session.specs.declared.fault.Fault.{Fault}
+use Rattle.server_session.specs.declared.spelling.Unwritten.{Unwritten}
+use Rattle.server_session.specs.declared.spelling.Unwritten.TheVariants as unwritten
 
 -- Each is the same as itself.
 same_cells-refl : (ts : List Tree) → same_cells ts ts ≡ true

@@ -6,9 +6,9 @@ use Rattle.machine.specs.declared.states.State.{State}
 use Rattle.machine.specs.declared.kinds.Kind.{Kind}
 use Rattle.machine.specs.Prelude.{kind_of}
 use Rattle.engine.specs.Prelude.{EntryView}
-use Rattle.session.specs.Prelude.{Setting, Open, Tx, Reply, serve, IsFree}
-pub use Rattle.session.specs.Prelude.{entry_in}
-use Rattle.session.proofs.Served.{Served, adds, serving}
+use Rattle.server_session.specs.Prelude.{Setting, Open, Tx, Reply, serve, IsFree}
+pub use Rattle.server_session.specs.Prelude.{entry_in}
+use Rattle.server_session.proofs.Served.{Served, adds, serving}
 
 -- what a request is answered with adds what is free
 served_free : (S : Setting) (ledger : List EntryView) (s : State) (left : Open) (tx : Tx) (k : Kind) (reply : Reply) → Served S ledger s left tx k reply → IsFree ledger (entry_in reply)

@@ -4,17 +4,17 @@ use Rattle.std.proofs.lemmas.List.{take-map, drop-map, drop-drop}
 use Rattle.std.specs.List.{AllZip}
 use Rattle.packstream.specs.Prelude.{Tree, list, trees_of}
 use Rattle.wire.specs.declared.Version.{Version}
-use Rattle.cells.specs.declared.cell.Cell.{Cell, List as ListCell}
-use Rattle.cells.specs.Prelude.{shape, shapes}
-use Rattle.cells.proofs.Views.{shape-List}
+use Rattle.structures_cells.specs.declared.cell.Cell.{Cell, List as ListCell}
+use Rattle.structures_cells.specs.Prelude.{shape, shapes}
+use Rattle.structures_cells.proofs.Views.{shape-List}
 use Rattle.structures.specs.Prelude.{fitted}
 use Rattle.structures.proofs.Fitted.{fitted_list}
 use Rattle.engine.specs.declared.answer.Answer.{Answer}
 use Rattle.engine.specs.declared.answer.Mode.{Mode as QueryMode}
 use Rattle.engine.specs.Prelude.{cells_in, rows_in, answer_view, IsAnswer}
 use Rattle.engine.proofs.Columns.{length-rows_in}
-use Rattle.session.specs.declared.remaining.Remaining.{Remaining}
-use Rattle.session.specs.Prelude.{rows_fitted, remaining_rows}
+use Rattle.server_session.specs.declared.remaining.Remaining.{Remaining}
+use Rattle.server_session.specs.Prelude.{rows_fitted, remaining_rows}
 
 same_trees : (xs ys : List Tree) → trees_of xs ≡ trees_of ys → xs ≡ ys
 same_trees [] [] h = refl

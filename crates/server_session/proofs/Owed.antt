@@ -7,13 +7,13 @@ use Rattle.messages.specs.Prelude.{RequestView, Arrival, Asked}
 use Rattle.machine.specs.declared.states.State.{State}
 use Rattle.machine.specs.Prelude.{interruptible}
 use Rattle.engine.specs.Prelude.{EntryView}
-use Rattle.session.specs.declared.kinds.Worked.{Worked}
-use Rattle.session.specs.declared.kinds.Worked.TheVariants as worked
-use Rattle.session.specs.Limits.{max_unsent}
-use Rattle.session.specs.Prelude.{Open, Kept, Step, StepsRow, WritesRows, SendsRow, Steps, Reply, AreOwed, passed, one_less, owes_row, streams, used_up, reset_among, replies, turns, work_kept, worked_of, commit_entries, version_of}
-use Rattle.session.proofs.Replies.{owed_served, owed_some}
-use Rattle.session.proofs.Sent.{row_sent}
-use Rattle.session.proofs.Turns.{turns_served}
+use Rattle.server_session.specs.declared.kinds.Worked.{Worked}
+use Rattle.server_session.specs.declared.kinds.Worked.TheVariants as worked
+use Rattle.server_session.specs.Limits.{max_unsent}
+use Rattle.server_session.specs.Prelude.{Open, Kept, Step, StepsRow, WritesRows, SendsRow, Steps, Reply, AreOwed, passed, one_less, owes_row, streams, used_up, reset_among, replies, turns, work_kept, worked_of, commit_entries, version_of}
+use Rattle.server_session.proofs.Replies.{owed_served, owed_some}
+use Rattle.server_session.proofs.Sent.{row_sent}
+use Rattle.server_session.proofs.Turns.{turns_served}
 
 -- ---- what is owed
 

@@ -1,11 +1,11 @@
 -- What waits, as the list of what arrived.
 use Rattle.std.proofs.Common.{◌≡◌, ◌≤◌, ◌+◌, ◌∙◌, refl, ap, drop, ℕ, nat_lt, Bool, true, false, if◌then◌else◌, List, [], ◌∷◌, ◌++◌, length, ◌||◌, arith}
 use Rattle.std.proofs.lemmas.Bool.Decides.{nat_tests}
-use Rattle.session.specs.declared.waiting.Waiting.{Waiting}
-use Rattle.session.specs.declared.waiting.Waiting.TheVariants as waiting
+use Rattle.server_session.specs.declared.waiting.Waiting.{Waiting}
+use Rattle.server_session.specs.declared.waiting.Waiting.TheVariants as waiting
 use Rattle.messages.specs.Prelude.{request_view}
 use Rattle.machine.specs.Prelude.{kind_of, is_reset}
-use Rattle.session.specs.Prelude.{unread_among, reset_among, waiting_in, is_unread, is_reset_in, one_of, count_of, first_of, turn_in, turn_by}
+use Rattle.server_session.specs.Prelude.{unread_among, reset_among, waiting_in, is_unread, is_reset_in, one_of, count_of, first_of, turn_in, turn_by}
 
 -- what is counted is found
 counted_or : (b : Bool) (n : ℕ) (r : Bool) → nat_lt 0 n ≡ r → nat_lt 0 ((if b then 1 else 0) + n) ≡ (b || r)

@@ -1,7 +1,7 @@
 -- What is decided, as the model's reply.
 use Rattle.std.proofs.Common.{◌≡◌, ◌∙◌, ap, sym, subst, refl, ℕ, ◌<◌, ◌≤◌, Bool, true, false, not, ◌&&◌, ◌==◌, List, [], ◌∷◌, length, drop, None, arith, length-drop, Result, Ok, Err, IfOk}
 use Rattle.std.specs.declared.alloc.AllocError.{AllocError}
-use Rattle.session.specs.declared.acts.Act.{Act}
+use Rattle.server_session.specs.declared.acts.Act.{Act}
 use Rattle.std.proofs.lemmas.List.{drop_all}
 use Rattle.packstream.specs.Prelude.{Tree}
 use Rattle.wire.specs.declared.Version.{Version}
@@ -12,10 +12,10 @@ use Rattle.machine.specs.declared.states.State.{State}
 use Rattle.machine.specs.declared.states.State.TheVariants as states
 use Rattle.machine.specs.declared.rows.Verdict.{Verdict}
 use Rattle.engine.specs.Prelude.{EntryView, Token}
-use Rattle.session.specs.declared.fault.Fault.{Fault}
-use Rattle.session.specs.declared.spelling.Unwritten.{Unwritten}
-use Rattle.session.specs.declared.spelling.Unwritten.TheVariants as unwritten
-use Rattle.session.specs.Prelude.{Setting, Open, Tx, Reply, Summary, close, close_last, used_up, count_at, left_after, pull, serve, fits, fails, if_fits, unwritable, IsBody, IsRefused, Refuses, reply_of, streams, owes_row, runs, asked_by, token_of, reply_to_run, row_reply}
+use Rattle.server_session.specs.declared.fault.Fault.{Fault}
+use Rattle.server_session.specs.declared.spelling.Unwritten.{Unwritten}
+use Rattle.server_session.specs.declared.spelling.Unwritten.TheVariants as unwritten
+use Rattle.server_session.specs.Prelude.{Setting, Open, Tx, Reply, Summary, close, close_last, used_up, count_at, left_after, pull, serve, fits, fails, if_fits, unwritable, IsBody, IsRefused, Refuses, reply_of, streams, owes_row, runs, asked_by, token_of, reply_to_run, row_reply}
 
 -- of an act whose reply is another name of the same
 pub acts_same : (left : Open) (tx : Tx) (r : Result Act AllocError) (x y : Reply) → x ≡ y → IfOk r (λ act. (token : Token) → reply_of left tx token act ≡ x) → IfOk r (λ act. (token : Token) → reply_of left tx token act ≡ y)

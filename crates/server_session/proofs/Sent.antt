@@ -4,21 +4,21 @@ use Rattle.std.proofs.lemmas.List.{append-nil}
 use Rattle.packstream.specs.Prelude.{Tree, list, trees_of, canon, IsGood, depth}
 use Rattle.wire.specs.declared.Version.{Version}
 use Rattle.wire.specs.Prelude.{written_run}
-use Rattle.cells.specs.declared.cell.Cell.{Cell}
-use Rattle.cells.specs.Prelude.{shapes, structures, fault_of_structure, IsWritable, are_typed}
-use Rattle.cells.proofs.Both.{both_true}
-use Rattle.cells.proofs.Fine.{fine_scan}
-use Rattle.cells.proofs.Typed.{typed_shape}
+use Rattle.structures_cells.specs.declared.cell.Cell.{Cell}
+use Rattle.structures_cells.specs.Prelude.{shapes, structures, fault_of_structure, IsWritable, are_typed}
+use Rattle.structures_cells.proofs.Both.{both_true}
+use Rattle.structures_cells.proofs.Fine.{fine_scan}
+use Rattle.structures_cells.proofs.Typed.{typed_shape}
 use Rattle.structures.specs.Prelude.{form}
 use Rattle.structures.proofs.Formed.{form_typed}
 use Rattle.messages.specs.Prelude.{RequestView, ResponseView, Arrival, RECORD, contents, form_put, response_contents, response_spelling, IsCell, Adds, Told, run_of_result}
 use Rattle.messages.proofs.Added.{field_of_cells, formed_cells, appended}
 use Rattle.messages.proofs.Rounds.{response_reads_back}
 use Rattle.engine.specs.Prelude.{EntryView}
-use Rattle.session.specs.declared.kinds.Worked.TheVariants as worked
-use Rattle.session.specs.Prelude.{Open, Reply, OneRow, Kept, Steps, replies, puts, row_reply, version_of, IsPut, SendsRow, fits, IsBody, one_less}
-use Rattle.session.specs.Acts.{after_bytes}
-use Rattle.session.proofs.Fitting.{said_fits, said_body}
+use Rattle.server_session.specs.declared.kinds.Worked.TheVariants as worked
+use Rattle.server_session.specs.Prelude.{Open, Reply, OneRow, Kept, Steps, replies, puts, row_reply, version_of, IsPut, SendsRow, fits, IsBody, one_less}
+use Rattle.server_session.specs.Acts.{after_bytes}
+use Rattle.server_session.proofs.Fitting.{said_fits, said_body}
 
 -- a row of cells is typed
 pub typed_row : (cs : List Cell) → are_typed (trees_of (shapes cs)) ≡ true

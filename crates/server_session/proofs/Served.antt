@@ -14,8 +14,8 @@ use Rattle.machine.specs.declared.rows.Verdict.{Verdict}
 use Rattle.machine.specs.Prelude.{phase_of, kind_of, is_goodbye, is_reset, row_at, commits}
 use Rattle.engine.specs.declared.answer.Mode.{Mode as QueryMode}
 use Rattle.engine.specs.Prelude.{Found, Free, There, Other, found_in, WriteView, ParameterView, Token, EntryView, AnswerView, QueryFault}
-use Rattle.session.specs.declared.fault.Fault.TheVariants as fault
-use Rattle.session.specs.Prelude.{fits, Setting, Open, no_result, Tx, no_tx, Change, Reply, OneRow, Summary, Bye, fails, succeeds, commits_as, commits_over, change_alone, change_inside, close, left_after, rows_of, if_fits, unwritable, pull, used_up, greets, reply_to_hello, reply_to_login, reply_to_run, result_of_answer, with_write, in_transaction, fields_said, perform, serve, passed_over, is_halted}
+use Rattle.server_session.specs.declared.fault.Fault.TheVariants as fault
+use Rattle.server_session.specs.Prelude.{fits, Setting, Open, no_result, Tx, no_tx, Change, Reply, OneRow, Summary, Bye, fails, succeeds, commits_as, commits_over, change_alone, change_inside, close, left_after, rows_of, if_fits, unwritable, pull, used_up, greets, reply_to_hello, reply_to_login, reply_to_run, result_of_answer, with_write, in_transaction, fields_said, perform, serve, passed_over, is_halted}
 
 pub data Served (S : Setting) (ledger : List EntryView) (s : State) (left : Open) (tx : Tx) (k : Kind) : Reply → Type 0 where
   leaves : Served S ledger s left tx k Bye

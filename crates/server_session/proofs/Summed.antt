@@ -7,7 +7,7 @@ use Rattle.wire.specs.declared.Version.{Version}
 use Rattle.wire.specs.Prelude.{written_run}
 use Rattle.messages.specs.Prelude.{Summary, run_of_result, response_of_summary, form_of, IsShort}
 use Rattle.messages.proofs.Fitting.{text_is}
-use Rattle.session.specs.Prelude.{IsRun}
+use Rattle.server_session.specs.Prelude.{IsRun}
 
 -- a place for a header and the head of a structure of one dictionary, then its entries
 pub headed : (tag n : ℕ) (es : Entries) (a new : List ℕ) → head 0xA0 0xD8 (entry_count es) ≡ n ∷ [] → a ≡ 0 ∷ 0 ∷ 0xB1 ∷ tag ∷ n ∷ [] → new ≡ a ++ canon_entries es → new ≡ 0 ∷ 0 ∷ canon (structure tag (tree_then (dict es) no_trees))

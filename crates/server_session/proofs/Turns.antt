@@ -6,10 +6,10 @@ use Rattle.machine.specs.declared.states.State.{State}
 use Rattle.machine.specs.declared.kinds.Kind.{Kind}
 use Rattle.machine.specs.Prelude.{kind_of, is_goodbye, is_reset, interruptible}
 use Rattle.engine.specs.Prelude.{EntryView}
-use Rattle.session.specs.declared.acts.Turn.TheVariants as turn
-use Rattle.session.specs.declared.kinds.Cause.{Cause}
-use Rattle.session.specs.Prelude.{Setting, Reply, serve, passed_over, Kept, Step, Ended, rests, ends, replies, after_interrupt, turns, reset_among, version_of, row_reply, reply_to_run, asked_by, token_of, owes_row, runs, Answers}
-use Rattle.session.proofs.Replies.{owed_served, owed_elsewhere, run_served, runs_elsewhere}
+use Rattle.server_session.specs.declared.acts.Turn.TheVariants as turn
+use Rattle.server_session.specs.declared.kinds.Cause.{Cause}
+use Rattle.server_session.specs.Prelude.{Setting, Reply, serve, passed_over, Kept, Step, Ended, rests, ends, replies, after_interrupt, turns, reset_among, version_of, row_reply, reply_to_run, asked_by, token_of, owes_row, runs, Answers}
+use Rattle.server_session.proofs.Replies.{owed_served, owed_elsewhere, run_served, runs_elsewhere}
 
 pub asked_head : (a b : RequestView) (xs ys : List Arrival) → (Asked a ∷ xs) ≡ (Asked b ∷ ys) → a ≡ b
 asked_head a b xs ys e = cc

@@ -2,7 +2,7 @@
 use Rattle.std.proofs.Common.{◌≡◌, ◌≤◌, suc, refl, ap, List, [], ◌∷◌, length, arith, option_to_list}
 use Rattle.engine.specs.declared.ledger.Write.{Write}
 use Rattle.engine.specs.Prelude.{writes_view}
-use Rattle.session.specs.Prelude.{first_of}
+use Rattle.server_session.specs.Prelude.{first_of}
 
 -- a list of one write, or of none
 pub one_write : (ws : List Write) → length ws ≤ 1 → option_to_list (first_of (writes_view ws)) ≡ writes_view ws

@@ -18,30 +18,30 @@ use Rattle.engine.specs.declared.answer.Rows.{Rows}
 use Rattle.engine.specs.declared.ledger.Write.{Write}
 use Rattle.engine.specs.Tokens.{Free, found_in}
 use Rattle.engine.specs.Views.{Token, rows_view, write_view, WriteView, ParameterView, EntryView, AnswerView, QueryFault, unknown_text}
-use Rattle.session.specs.declared.waiting.Waiting.{Waiting}
-use Rattle.session.specs.declared.waiting.Waiting.TheVariants as waiting
-use Rattle.session.specs.declared.kinds.Cause.{Cause}
-use Rattle.session.specs.declared.kinds.Cause.TheVariants as cause
-use Rattle.session.specs.declared.kinds.Worked.{Worked}
-use Rattle.session.specs.declared.acts.Turn.{Turn}
-use Rattle.session.specs.declared.acts.Turn.TheVariants as turn
-use Rattle.session.specs.declared.acts.Act.{Act}
-use Rattle.session.specs.declared.acts.After.{After}
-use Rattle.session.specs.declared.acts.After.TheVariants as after
-use Rattle.session.specs.declared.summary.Summary.{Summary}
-use Rattle.session.specs.declared.summary.Summary.TheVariants as summary
+use Rattle.server_session.specs.declared.waiting.Waiting.{Waiting}
+use Rattle.server_session.specs.declared.waiting.Waiting.TheVariants as waiting
+use Rattle.server_session.specs.declared.kinds.Cause.{Cause}
+use Rattle.server_session.specs.declared.kinds.Cause.TheVariants as cause
+use Rattle.server_session.specs.declared.kinds.Worked.{Worked}
+use Rattle.server_session.specs.declared.acts.Turn.{Turn}
+use Rattle.server_session.specs.declared.acts.Turn.TheVariants as turn
+use Rattle.server_session.specs.declared.acts.Act.{Act}
+use Rattle.server_session.specs.declared.acts.After.{After}
+use Rattle.server_session.specs.declared.acts.After.TheVariants as after
+use Rattle.server_session.specs.declared.summary.Summary.{Summary}
+use Rattle.server_session.specs.declared.summary.Summary.TheVariants as summary
 use Rattle.messages.specs.declared.fault.MsgFault.{MsgFault}
 use Rattle.messages.specs.declared.fault.MsgFault.TheVariants as writer
-use Rattle.session.specs.declared.fault.Fault.{Fault}
-use Rattle.session.specs.declared.fault.Fault.TheVariants as fault
-use Rattle.session.specs.declared.spelling.Unwritten.{Unwritten}
-use Rattle.session.specs.declared.spelling.Unwritten.TheVariants as unwritten
-use Rattle.session.specs.Faults.{failure}
-use Rattle.session.specs.Said.{fits}
+use Rattle.server_session.specs.declared.fault.Fault.{Fault}
+use Rattle.server_session.specs.declared.fault.Fault.TheVariants as fault
+use Rattle.server_session.specs.declared.spelling.Unwritten.{Unwritten}
+use Rattle.server_session.specs.declared.spelling.Unwritten.TheVariants as unwritten
+use Rattle.server_session.specs.Faults.{failure}
+use Rattle.server_session.specs.Said.{fits}
 use Rattle.machine.specs.Following.{interruptible}
 use Rattle.machine.specs.Rows.{row_at}
-use Rattle.session.specs.Session.{Open, no_result, Tx, no_tx, Change, change_alone, change_inside, Reply, fails, if_fits, used_up, unwritable, in_transaction, query_mode}
-use Rattle.session.specs.Rest.{Kept, Step, version_of, worked_of, commit_entries, reset_among}
+use Rattle.server_session.specs.Session.{Open, no_result, Tx, no_tx, Change, change_alone, change_inside, Reply, fails, if_fits, used_up, unwritable, in_transaction, query_mode}
+use Rattle.server_session.specs.Rest.{Kept, Step, version_of, worked_of, commit_entries, reset_among}
 use Rattle.wire.specs.Limits.{max_message}
 use Rattle.engine.specs.Limits.{ledger_bound}
 

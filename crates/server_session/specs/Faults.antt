@@ -4,8 +4,8 @@ use Rattle.messages.specs.declared.fault.MsgFault.{MsgFault}
 use Rattle.messages.specs.declared.fault.MsgFault.TheVariants as unwritten
 use Rattle.messages.specs.Summaries.{Summary, Refused}
 use Rattle.engine.specs.Views.{QueryFault, unknown_text, bad_parameter, write_in_read_mode, too_many_rows}
-use Rattle.session.specs.declared.fault.Fault.{Fault}
-use Rattle.session.specs.declared.fault.Fault.TheVariants as fault
+use Rattle.server_session.specs.declared.fault.Fault.{Fault}
+use Rattle.server_session.specs.declared.fault.Fault.TheVariants as fault
 
 -- the code of a FAILURE
 abbrev pub code_of : Fault → List ℕ

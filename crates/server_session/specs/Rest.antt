@@ -12,12 +12,12 @@ use Rattle.machine.specs.Asks.{kind_of, is_reset}
 use Rattle.machine.specs.Rows.{row_at}
 use Rattle.machine.specs.Following.{interruptible}
 use Rattle.engine.specs.Views.{EntryView}
-use Rattle.session.specs.declared.kinds.Cause.{Cause}
-use Rattle.session.specs.declared.kinds.What.{What}
-use Rattle.session.specs.declared.kinds.Worked.{Worked}
-use Rattle.session.specs.declared.kinds.Worked.TheVariants as worked
-use Rattle.session.specs.Session.{Setting, Open, no_result, Tx, no_tx, Change, Reply, OneRow, Summary, Bye, serve}
-use Rattle.session.specs.Limits.{max_unsent}
+use Rattle.server_session.specs.declared.kinds.Cause.{Cause}
+use Rattle.server_session.specs.declared.kinds.What.{What}
+use Rattle.server_session.specs.declared.kinds.Worked.{Worked}
+use Rattle.server_session.specs.declared.kinds.Worked.TheVariants as worked
+use Rattle.server_session.specs.Session.{Setting, Open, no_result, Tx, no_tx, Change, Reply, OneRow, Summary, Bye, serve}
+use Rattle.server_session.specs.Limits.{max_unsent}
 use Rattle.machine.specs.Limits.{max_ordinals, max_waiting}
 use Rattle.engine.specs.Limits.{ledger_bound}
 

@@ -23,11 +23,11 @@ use Rattle.engine.specs.declared.answer.Mode.TheVariants as query
 use Rattle.engine.specs.Views.{WriteView, ParameterView, Token, EntryView, AnswerView, QueryFault}
 use Rattle.engine.specs.Tokens.{Found, Free, There, Other, found_in}
 use Rattle.engine.specs.Welcomes.{Welcome}
-use Rattle.session.specs.declared.fault.Fault.{Fault}
-use Rattle.session.specs.declared.fault.Fault.TheVariants as fault
-use Rattle.session.specs.Faults.{failure, of_query, of_writer}
-use Rattle.session.specs.Said.{fits}
-use Rattle.session.specs.Limits.{max_writes}
+use Rattle.server_session.specs.declared.fault.Fault.{Fault}
+use Rattle.server_session.specs.declared.fault.Fault.TheVariants as fault
+use Rattle.server_session.specs.Faults.{failure, of_query, of_writer}
+use Rattle.server_session.specs.Said.{fits}
+use Rattle.server_session.specs.Limits.{max_writes}
 
 -- what the engine answers, and whom the gate lets in under which name of the server, by their definitions
 pub record Setting : Type 0 where

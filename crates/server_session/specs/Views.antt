@@ -6,17 +6,17 @@ use Rattle.messages.specs.View.{request_view}
 use Rattle.messages.specs.Arrivals.{Arrival, Asked, Unread, TooLong}
 use Rattle.packstream.specs.Tree.{Tree}
 use Rattle.packstream.specs.Writing.{whole}
-use Rattle.cells.specs.Shape.{shapes}
+use Rattle.structures_cells.specs.Shape.{shapes}
 use Rattle.engine.specs.RowCells.{cells_in}
 use Rattle.engine.specs.Views.{EntryView, rows_in, token_view, writes_view}
-use Rattle.session.specs.declared.session.Session.{Session}
-use Rattle.session.specs.declared.waiting.Waiting.{Waiting}
-use Rattle.session.specs.declared.waiting.Waiting.TheVariants as waiting
-use Rattle.session.specs.declared.remaining.Remaining.{Remaining}
-use Rattle.session.specs.declared.result.OpenResult.{OpenResult}
-use Rattle.session.specs.declared.result.Transaction.{Transaction}
-use Rattle.session.specs.Session.{Open, Tx}
-use Rattle.session.specs.Rest.{Kept, Snapshot}
+use Rattle.server_session.specs.declared.session.Session.{Session}
+use Rattle.server_session.specs.declared.waiting.Waiting.{Waiting}
+use Rattle.server_session.specs.declared.waiting.Waiting.TheVariants as waiting
+use Rattle.server_session.specs.declared.remaining.Remaining.{Remaining}
+use Rattle.server_session.specs.declared.result.OpenResult.{OpenResult}
+use Rattle.server_session.specs.declared.result.Transaction.{Transaction}
+use Rattle.server_session.specs.Session.{Open, Tx}
+use Rattle.server_session.specs.Rest.{Kept, Snapshot}
 
 -- what waits
 abbrev pub arrival_of : Waiting → Arrival

@@ -2,8 +2,8 @@
 use Rattle.std.specs.Prelude.{ℕ, ◌+◌, if◌then◌else◌, Bool, true, false, List, [], ◌∷◌}
 use Rattle.messages.specs.View.{request_view}
 use Rattle.machine.specs.Asks.{kind_of, is_reset}
-use Rattle.session.specs.declared.waiting.Waiting.{Waiting}
-use Rattle.session.specs.declared.waiting.Waiting.TheVariants as waiting
+use Rattle.server_session.specs.declared.waiting.Waiting.{Waiting}
+use Rattle.server_session.specs.declared.waiting.Waiting.TheVariants as waiting
 
 -- what waits stands for no request
 abbrev pub is_unread : Waiting → Bool

@@ -2,10 +2,10 @@
 ghost use Rattle.std.specs.Prelude.{◌≡◌, ◌+◌, ◌<◌, ◌≤◌, ◌++◌, length, Some, None, IfOk, OnOk, OnErr};
 ghost use Rattle.engine.specs.Tokens.{Free, found_in};
 ghost use Rattle.engine.specs.Views.{token_view, writes_view};
-ghost use Rattle.session.specs.Session.{no_result, change_alone};
-ghost use Rattle.session.specs.Rest.{commit_entries};
-ghost use Rattle.session.specs.Views.{open_of, tx_of};
-ghost use Rattle.session.specs.Acts.{left_result, left_tx, left_entry, length_after, change_of, IsBelow, IsFree};
+ghost use Rattle.server_session.specs.Session.{no_result, change_alone};
+ghost use Rattle.server_session.specs.Rest.{commit_entries};
+ghost use Rattle.server_session.specs.Views.{open_of, tx_of};
+ghost use Rattle.server_session.specs.Acts.{left_result, left_tx, left_entry, length_after, change_of, IsBelow, IsFree};
 ghost use Rattle.engine.specs.Limits.{ledger_bound};
 
 use crate::acts::After;

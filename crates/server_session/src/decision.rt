@@ -6,10 +6,10 @@ ghost use Rattle.machine.specs.Asks.{kind_of, is_goodbye};
 ghost use Rattle.machine.specs.Rows.{row_at};
 ghost use Rattle.engine.specs.declared.answer.Mode.{Mode as QueryMode};
 ghost use Rattle.engine.specs.Views.{Token, WriteView, ParameterView, EntryView, AnswerView, QueryFault};
-ghost use Rattle.session.specs.Session.{Open, Tx, serve, perform, greets, reply_to_login, passed_over, used_up};
-ghost use Rattle.session.specs.Rest.{version_of};
-ghost use Rattle.session.specs.Views.{kept_of};
-ghost use Rattle.session.specs.Acts.{reply_of, streams, owes_row, runs, token_of, summary_of};
+ghost use Rattle.server_session.specs.Session.{Open, Tx, serve, perform, greets, reply_to_login, passed_over, used_up};
+ghost use Rattle.server_session.specs.Rest.{version_of};
+ghost use Rattle.server_session.specs.Views.{kept_of};
+ghost use Rattle.server_session.specs.Acts.{reply_of, streams, owes_row, runs, token_of, summary_of};
 
 use crate::acts::{Act, After};
 use crate::agent::Agent;

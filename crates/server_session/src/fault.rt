@@ -27,7 +27,7 @@ pub enum Fault {
 
 impl Fault {
     ghost use Rattle.std.specs.Prelude.{◌≡◌};
-    ghost use Rattle.session.specs.Faults.{code_of, message_of};
+    ghost use Rattle.server_session.specs.Faults.{code_of, message_of};
 
     pub(crate) fn code(self) -> &'static str
         ensures { result.now ≡ code_of self }

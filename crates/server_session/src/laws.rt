@@ -4,7 +4,7 @@ ghost use Rattle.wire.specs.declared.Version.{Version};
 ghost use Rattle.messages.specs.View.{ResponseView};
 ghost use Rattle.messages.specs.Sound.{IsResponse};
 ghost use Rattle.messages.specs.Writing.{response_spelling};
-ghost use Rattle.session.specs.Said.{fits};
+ghost use Rattle.server_session.specs.Said.{fits};
 
 /// A response that is made of texts in UTF-8 and of cells of the version can be said exactly if it has a text: `RowTooLarge` or
 /// `NotInVersion` is answered in the place of such a one exactly if it has none.

@@ -10,11 +10,11 @@ ghost use Rattle.machine.specs.Rows.{row_at};
 ghost use Rattle.engine.specs.Laws.{Runs};
 ghost use Rattle.engine.specs.Limits.{max_rows};
 ghost use Rattle.engine.specs.Views.{AnswerView, EntryView, ParameterView, QueryFault, Token, WriteView, names_view, parameters_view, write_view, writes_view};
-ghost use Rattle.session.specs.Session.{Reply, Tx, fields_said, in_transaction, no_tx, opened, reply_to_run, result_of_answer, with_write};
-ghost use Rattle.session.specs.Limits.{max_writes};
-ghost use Rattle.session.specs.Rest.{version_of, cause_of, replies};
-ghost use Rattle.session.specs.Views.{kept_of, kept_before, tx_of};
-ghost use Rattle.session.specs.Acts.{Answers, FailsBy, IsRun, after_summary, answer_by, asked_by, runs, first_token, token_of, turn_in};
+ghost use Rattle.server_session.specs.Session.{Reply, Tx, fields_said, in_transaction, no_tx, opened, reply_to_run, result_of_answer, with_write};
+ghost use Rattle.server_session.specs.Limits.{max_writes};
+ghost use Rattle.server_session.specs.Rest.{version_of, cause_of, replies};
+ghost use Rattle.server_session.specs.Views.{kept_of, kept_before, tx_of};
+ghost use Rattle.server_session.specs.Acts.{Answers, FailsBy, IsRun, after_summary, answer_by, asked_by, runs, first_token, token_of, turn_in};
 
 use crate::MAX_WRITES;
 use crate::acts::Turn;
@@ -28,9 +28,9 @@ use bytes::BytesMut;
 use engine::{Answer, Engine, EngineFault, Mode as QueryMode, Names, Rows, Write};
 use machine::{Kind, State, Verdict, kind};
 use messages::Request;
-use speller::Output;
 use std::alloc::{AllocError, Global};
 use structures::Cell;
+use structures_encoder::Output;
 use wire::Version;
 
 /// What a RUN asks of the engine.

@@ -1,18 +1,18 @@
 //! What a query's answer opens.
 ghost use Rattle.std.specs.Prelude.{◌≡◌, ◌+◌, ◌≤◌, ◌∷◌, [], ◌++◌, true, false, if◌then◌else◌, length, map, option_map, option_to_list, None, Some, IsErr, IfOk, OnOk, OnErr, IfErr, All, IsUtf8};
 ghost use Rattle.messages.specs.View.{response_view};
-ghost use Rattle.cells.specs.Shape.{shapes};
+ghost use Rattle.structures_cells.specs.Shape.{shapes};
 ghost use Rattle.packstream.specs.Writing.{whole};
 ghost use Rattle.packstream.specs.Tree.{text, dict};
 ghost use Rattle.packstream.specs.Canon.{canon, canon_all};
 ghost use Rattle.packstream.specs.View.{entries_of, trees_of};
 ghost use Rattle.wire.specs.declared.Version.{Version as AnyVersion};
 ghost use Rattle.engine.specs.Views.{names_view, write_view, writes_view};
-ghost use Rattle.session.specs.Session.{fields_told, fields_said, result_of_answer, in_transaction, with_write, no_tx};
-ghost use Rattle.session.specs.Views.{first_of, open_of, tx_of};
+ghost use Rattle.server_session.specs.Session.{fields_told, fields_said, result_of_answer, in_transaction, with_write, no_tx};
+ghost use Rattle.server_session.specs.Views.{first_of, open_of, tx_of};
 ghost use Rattle.engine.specs.Limits.{max_rows};
-ghost use Rattle.session.specs.Said.{fits};
-ghost use Rattle.session.specs.Acts.{IsRun, Refuses, answer_by};
+ghost use Rattle.server_session.specs.Said.{fits};
+ghost use Rattle.server_session.specs.Acts.{IsRun, Refuses, answer_by};
 
 use crate::remaining::Remaining;
 use crate::result::{OpenResult, Transaction};
@@ -22,9 +22,9 @@ use bytes::BytesMut;
 use engine::{Mode as QueryMode, Names, Rows, Write};
 use machine::State;
 use messages::{Response, close_run};
-use speller::{Output, Unspelled, put_text};
 use std::alloc::{AllocError, Global};
 use structures::Cell;
+use structures_encoder::{Output, Unspelled, put_text};
 use wire::Version;
 
 /// The most fields whose SUCCESS is spelled without a response: as many as a list of one byte before its members has.

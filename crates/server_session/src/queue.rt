@@ -4,9 +4,9 @@ ghost use Rattle.messages.specs.View.{request_view};
 ghost use Rattle.messages.specs.Arrivals.{Asked};
 ghost use Rattle.machine.specs.Limits.{max_waiting};
 ghost use Rattle.engine.specs.Views.{token_view};
-ghost use Rattle.session.specs.Rest.{unread_among, reset_among};
-ghost use Rattle.session.specs.Views.{waiting_in, first_of};
-ghost use Rattle.session.specs.Acts.{first_token, token_of, turn_in, turn_by};
+ghost use Rattle.server_session.specs.Rest.{unread_among, reset_among};
+ghost use Rattle.server_session.specs.Views.{waiting_in, first_of};
+ghost use Rattle.server_session.specs.Acts.{first_token, token_of, turn_in, turn_by};
 
 use crate::acts::Turn;
 use crate::waiting::{Queue, Waiting};

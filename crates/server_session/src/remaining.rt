@@ -2,7 +2,7 @@
 ghost use Rattle.std.specs.Prelude.{◌≡◌, ◌+◌, ◌*◌, true, length, map, IfOk};
 ghost use Rattle.packstream.specs.Tree.{list};
 ghost use Rattle.packstream.specs.View.{trees_of};
-ghost use Rattle.cells.specs.Shape.{shape, shapes};
+ghost use Rattle.structures_cells.specs.Shape.{shape, shapes};
 ghost use Rattle.structures.specs.Fitting.{fitted};
 ghost use Rattle.engine.specs.RowCells.{cells_in};
 ghost use Rattle.wire.specs.declared.Version.{Version as AnyVersion};
@@ -25,10 +25,10 @@ pub(crate) struct Remaining {
 impl Remaining {
     ghost use Rattle.std.specs.Prelude.{◌≡◌, ◌<◌, ◌≤◌, ◌+◌, ◌∷◌, [], List, IfOk, drop};
     ghost use Rattle.packstream.specs.Tree.{Tree};
-    ghost use Rattle.cells.specs.Shape.{shapes};
+    ghost use Rattle.structures_cells.specs.Shape.{shapes};
     ghost use Rattle.engine.specs.Views.{rows_view};
-    ghost use Rattle.session.specs.Session.{rows_fitted};
-    ghost use Rattle.session.specs.Views.{remaining_rows};
+    ghost use Rattle.server_session.specs.Session.{rows_fitted};
+    ghost use Rattle.server_session.specs.Views.{remaining_rows};
 
     /// No rows.
     pub(crate) fn none(alloc: Global) -> Remaining

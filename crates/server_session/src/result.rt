@@ -31,9 +31,9 @@ pub(crate) struct Transaction {
 
 impl OpenResult {
     ghost use Rattle.std.specs.Prelude.{◌≡◌, ◌<◌};
-    ghost use Rattle.session.specs.Acts.{one_less};
-    ghost use Rattle.session.specs.Session.{no_result};
-    ghost use Rattle.session.specs.Views.{open_of};
+    ghost use Rattle.server_session.specs.Acts.{one_less};
+    ghost use Rattle.server_session.specs.Session.{no_result};
+    ghost use Rattle.server_session.specs.Views.{open_of};
 
     /// None is open.
     pub(crate) fn closed(alloc: Global) -> OpenResult
@@ -68,8 +68,8 @@ impl OpenResult {
 
 impl Transaction {
     ghost use Rattle.std.specs.Prelude.{◌≡◌, [], None, true};
-    ghost use Rattle.session.specs.Session.{no_tx};
-    ghost use Rattle.session.specs.Views.{tx_of};
+    ghost use Rattle.server_session.specs.Session.{no_tx};
+    ghost use Rattle.server_session.specs.Views.{tx_of};
 
     /// None is open.
     pub(crate) fn none(alloc: Global) -> Transaction

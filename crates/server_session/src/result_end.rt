@@ -3,9 +3,9 @@ ghost use Rattle.std.specs.Prelude.{◌≡◌, ◌+◌, ◌<◌, length, drop, S
 ghost use Rattle.messages.specs.Summaries.{response_of_summary, Closing, Committed};
 ghost use Rattle.engine.specs.Tokens.{found_in, commit_by, known_by};
 ghost use Rattle.engine.specs.Views.{Token, token_view, writes_view};
-ghost use Rattle.session.specs.Session.{Open, Tx, change_alone, change_inside, close, close_last};
-ghost use Rattle.session.specs.Views.{kept_of};
-ghost use Rattle.session.specs.Acts.{reply_of, commits_by};
+ghost use Rattle.server_session.specs.Session.{Open, Tx, change_alone, change_inside, close, close_last};
+ghost use Rattle.server_session.specs.Views.{kept_of};
+ghost use Rattle.server_session.specs.Acts.{reply_of, commits_by};
 ghost use Rattle.engine.specs.Limits.{ledger_bound};
 
 use crate::acts::{Act, After};

@@ -5,21 +5,21 @@ ghost use Rattle.packstream.specs.Tree.{Tree, list};
 ghost use Rattle.packstream.specs.Canon.{canon};
 ghost use Rattle.packstream.specs.Good.{IsGood, depth};
 ghost use Rattle.packstream.specs.View.{trees_of};
-ghost use Rattle.cells.specs.Shape.{shapes};
-ghost use Rattle.cells.specs.Writing.{IsWritable};
+ghost use Rattle.structures_cells.specs.Shape.{shapes};
+ghost use Rattle.structures_cells.specs.Writing.{IsWritable};
 ghost use Rattle.structures.specs.Form.{form};
 ghost use Rattle.messages.specs.View.{Record, response_view};
-ghost use Rattle.session.specs.Views.{remaining_rows};
-ghost use Rattle.session.specs.Said.{fits};
-ghost use Rattle.session.specs.Acts.{IsBody, IsPut, Refuses};
+ghost use Rattle.server_session.specs.Views.{remaining_rows};
+ghost use Rattle.server_session.specs.Said.{fits};
+ghost use Rattle.server_session.specs.Acts.{IsBody, IsPut, Refuses};
 
 use crate::remaining::Remaining;
 use crate::spelling::{Unwritten, spell_response};
 use bytes::BytesMut;
 use messages::{Response, close_run};
-use speller::{Output, Unspelled, put_list};
 use std::alloc::{AllocError, Global};
 use structures::Cell;
+use structures_encoder::{Output, Unspelled, put_list};
 use wire::{MAX_MESSAGE, Version};
 
 /// The most bytes of a chunk, whose length is two bytes.

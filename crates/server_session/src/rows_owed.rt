@@ -1,10 +1,10 @@
 //! Rows that are owed one after the other, written without a step for each.
 ghost use Rattle.std.specs.Prelude.{◌≡◌, ◌<◌, ◌⊎◌, length, nat_le, true, false};
 ghost use Rattle.messages.specs.View.{request_view};
-ghost use Rattle.session.specs.Limits.{max_unsent};
-ghost use Rattle.session.specs.Rest.{WritesRows};
-ghost use Rattle.session.specs.Views.{kept_of};
-ghost use Rattle.session.specs.Acts.{AreOwed, OwesRows, SendsRow};
+ghost use Rattle.server_session.specs.Limits.{max_unsent};
+ghost use Rattle.server_session.specs.Rest.{WritesRows};
+ghost use Rattle.server_session.specs.Views.{kept_of};
+ghost use Rattle.server_session.specs.Acts.{AreOwed, OwesRows, SendsRow};
 
 use crate::MAX_UNSENT;
 use crate::acts::Turn;

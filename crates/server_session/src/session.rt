@@ -10,8 +10,8 @@ use crate::words::{answer_of, is_interruptible};
 use bytes::{Bytes, BytesMut};
 use machine::{MAX_ORDINALS, MAX_WAITING, State, is_reset};
 use messages::{MsgFault, Request};
-use speller::Output;
 use std::alloc::{AllocError, Global};
+use structures_encoder::Output;
 use wire::{Version, choose};
 
 /// The most room in bytes that is kept if nothing waits to go: a longest message in its chunks, and as much again.
@@ -38,9 +38,9 @@ pub struct Session {
 impl Session {
     ghost use Rattle.std.specs.Prelude.{◌≡◌, ◌<◌, Some, None, Err, true, false, length, IsErr, IfOk, OnErr};
     ghost use Rattle.messages.specs.Arrivals.{arrival_of_offer, TooLong};
-    ghost use Rattle.session.specs.Session.{no_result, no_tx};
-    ghost use Rattle.session.specs.Rest.{begun, shut, full, ends, version_of, taken_out, take_kept, puts_noop, noop_kept, after_interrupt, Receives};
-    ghost use Rattle.session.specs.Views.{kept_of, arrival_told};
+    ghost use Rattle.server_session.specs.Session.{no_result, no_tx};
+    ghost use Rattle.server_session.specs.Rest.{begun, shut, full, ends, version_of, taken_out, take_kept, puts_noop, noop_kept, after_interrupt, Receives};
+    ghost use Rattle.server_session.specs.Views.{kept_of, arrival_told};
 
     /// Before the first byte. Room is made for the 32 slots; `Err` is want of memory.
     pub fn new(alloc: Global) -> Result<Session, AllocError>

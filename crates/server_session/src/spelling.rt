@@ -4,15 +4,15 @@ ghost use Rattle.packstream.specs.Writing.{whole};
 ghost use Rattle.messages.specs.View.{response_view};
 ghost use Rattle.wire.specs.Texts.{written_run};
 ghost use Rattle.messages.specs.Summaries.{response_of_summary};
-ghost use Rattle.session.specs.Said.{fits};
-ghost use Rattle.session.specs.Acts.{IsBody, IsRun, Refuses, summary_of, is_ready, unwritten_of};
+ghost use Rattle.server_session.specs.Said.{fits};
+ghost use Rattle.server_session.specs.Acts.{IsBody, IsRun, Refuses, summary_of, is_ready, unwritten_of};
 
 use crate::fault::Fault;
 use crate::summary::Summary;
 use bytes::BytesMut;
 use messages::{MsgFault, Response, close_run, put_run, write_response};
-use speller::Output;
 use std::alloc::AllocError;
+use structures_encoder::Output;
 use wire::Version;
 
 /// Why a response wasn't written.

@@ -6,10 +6,10 @@ ghost use Rattle.machine.specs.Asks.{kind_of, is_goodbye};
 ghost use Rattle.machine.specs.Rows.{row_at};
 ghost use Rattle.machine.specs.Following.{interruptible};
 ghost use Rattle.engine.specs.Views.{EntryView, token_view};
-ghost use Rattle.session.specs.Session.{fails, serve};
-ghost use Rattle.session.specs.Rest.{version_of, cause_of, replies, reset_among, turns, stepped, commit_entries, IsCounted, MayStep};
-ghost use Rattle.session.specs.Views.{kept_of, kept_before, snapshot_of};
-ghost use Rattle.session.specs.Acts.{Answers, IsBelow, IsFree, IsSized, SendsRow, Steps, reply_of, owes_row, runs, row_reply, first_token, token_of, work_state, length_after, left_result, left_tx, left_entry, after_bytes, after_summary, turn_in};
+ghost use Rattle.server_session.specs.Session.{fails, serve};
+ghost use Rattle.server_session.specs.Rest.{version_of, cause_of, replies, reset_among, turns, stepped, commit_entries, IsCounted, MayStep};
+ghost use Rattle.server_session.specs.Views.{kept_of, kept_before, snapshot_of};
+ghost use Rattle.server_session.specs.Acts.{Answers, IsBelow, IsFree, IsSized, SendsRow, Steps, reply_of, owes_row, runs, row_reply, first_token, token_of, work_state, length_after, left_result, left_tx, left_entry, after_bytes, after_summary, turn_in};
 
 use crate::MAX_UNSENT;
 use crate::acts::{Act, After, Turn};

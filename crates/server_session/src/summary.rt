@@ -8,15 +8,15 @@ ghost use Rattle.packstream.specs.View.{entries_of};
 ghost use Rattle.messages.specs.Summaries.{Greeting, Closing, Committed, ending, form_of, IsShort};
 ghost use Rattle.engine.specs.Limits.{max_agent};
 ghost use Rattle.wire.specs.Texts.{written_run};
-ghost use Rattle.session.specs.Acts.{summary_of, is_ready};
-ghost use Rattle.session.specs.Faults.{failure};
+ghost use Rattle.server_session.specs.Acts.{summary_of, is_ready};
+ghost use Rattle.server_session.specs.Faults.{failure};
 
 use crate::agent::Agent;
 use crate::fault::Fault;
 use itoa::Buffer;
 use messages::Mode;
-use speller::{Output, put_short_text};
 use std::alloc::AllocError;
+use structures_encoder::{Output, put_short_text};
 
 #[derive(Clone, Copy)]
 pub(crate) enum Summary<'a> {

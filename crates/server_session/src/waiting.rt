@@ -2,7 +2,7 @@
 ghost use Rattle.std.specs.Prelude.{◌≡◌, ◌≤◌};
 ghost use Rattle.std.specs.VecDeque.{deque_len, deque_capacity};
 ghost use Rattle.machine.specs.Limits.{max_waiting};
-ghost use Rattle.session.specs.Waits.{is_reset_in, is_unread, count_of};
+ghost use Rattle.server_session.specs.Waits.{is_reset_in, is_unread, count_of};
 
 use crate::acts::Turn;
 use crate::kinds::Cause;
@@ -35,8 +35,8 @@ pub(crate) struct Queue {
 
 impl Waiting {
     ghost use Rattle.std.specs.Prelude.{◌≡◌};
-    ghost use Rattle.session.specs.Waits.{is_reset_in, is_unread, one_of};
-    ghost use Rattle.session.specs.Acts.{turn_of_one};
+    ghost use Rattle.server_session.specs.Waits.{is_reset_in, is_unread, one_of};
+    ghost use Rattle.server_session.specs.Acts.{turn_of_one};
 
     /// What it is for a step, if it is the first.
     pub(crate) fn turn(&self) -> Turn

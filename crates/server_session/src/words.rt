@@ -2,8 +2,8 @@
 ghost use Rattle.std.specs.Prelude.{◌≡◌, ◌<◌, ◌+◌, ℕ, false};
 ghost use Rattle.wire.specs.Offers.{version_answer};
 ghost use Rattle.machine.specs.Following.{interruptible};
-ghost use Rattle.session.specs.Session.{is_halted, in_transaction, used_up, count_at, query_mode, result_mode};
-ghost use Rattle.session.specs.Acts.{streams};
+ghost use Rattle.server_session.specs.Session.{is_halted, in_transaction, used_up, count_at, query_mode, result_mode};
+ghost use Rattle.server_session.specs.Acts.{streams};
 
 use engine::Mode as QueryMode;
 use machine::State;

@@ -1,8 +1,8 @@
 -- What the failure of an accept means for those who wait.
 use Rattle.std.specs.declared.io.ErrorKind.{ErrorKind}
 use Rattle.std.specs.declared.io.ErrorKind.TheVariants.{WouldBlock, Interrupted, ConnectionAborted, ConnectionReset, NetworkDown, NetworkUnreachable, HostUnreachable, TimedOut, PermissionDenied}
-use Rattle.sockets.specs.declared.failures.Refusal.{Refusal}
-use Rattle.sockets.specs.declared.failures.Refusal.TheVariants.{Nobody, Next, Later}
+use Rattle.server_tcp.specs.declared.failures.Refusal.{Refusal}
+use Rattle.server_tcp.specs.declared.failures.Refusal.TheVariants.{Nobody, Next, Later}
 
 -- Nobody waits where the accept would wait. The next may be tried where the network failed for the one who waited (accept(2), "Error
 -- handling"), or if a signal came. For every other failure somebody waits still.

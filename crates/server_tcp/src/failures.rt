@@ -1,6 +1,6 @@
 //! What the failure of an accept means for those who wait.
 ghost use Rattle.std.specs.Prelude.{◌≡◌};
-ghost use Rattle.sockets.specs.Failures.{refusal_of};
+ghost use Rattle.server_tcp.specs.Failures.{refusal_of};
 
 use std::io::ErrorKind;
 

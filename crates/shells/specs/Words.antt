@@ -24,17 +24,17 @@ pub use Rattle.streams.specs.Prelude.{UnlessTold}
 pub use Rattle.streams.specs.Reading.{LetsRead}
 pub use Rattle.streams.specs.declared.fault.StreamFault.{StreamFault}
 pub use Rattle.streams.specs.declared.fault.StreamFault.TheVariants.{WriteFailed, Memory, ReadFailed}
-pub use Rattle.asks.specs.Asking.{hears_all, after_all, IsNeeded, IsTurn, given_up, losses_then, PutsOut}
-pub use Rattle.asks.specs.Prelude.{SourceView, SinkView, GivesBytes, FeedsPiece, HearsPiece, ReadsPiece, Tale, Writes, after_notes, all_answered, notes_of, tale_of}
-pub use Rattle.scripts.specs.Meant.{meant}
-pub use Rattle.scripts.specs.Prelude.{said_requests, script_request_view}
-pub use Rattle.scripts.specs.Rows.{request_line_of}
-pub use Rattle.scripts.specs.Script.{lines, filled_from, filled_lines}
-pub use Rattle.scripts.specs.Views.{Text, ScriptRequestView}
-pub use Rattle.scripts.specs.Words.{is_empty}
-pub use Rattle.prints.specs.Names.{outcome_name, phase_name, refusal_code, version_name}
-pub use Rattle.prints.specs.Prelude.{PutsLine, row_text, stop_status, stop_text, entries_text}
-pub use Rattle.prints.specs.Stopping.{Gets, IsStopOf, ends_with, said_of}
-pub use Rattle.prints.specs.Telling.{failure_line, heard_line, note_text, lost_line, refused_line}
-pub use Rattle.prints.specs.declared.stop.StopReason.{StopReason}
-pub use Rattle.prints.specs.declared.stop.StopReason.TheVariants.{Unreadable, Broken}
+pub use Rattle.client_blocking.specs.Asking.{hears_all, after_all, IsNeeded, IsTurn, given_up, losses_then, PutsOut}
+pub use Rattle.client_blocking.specs.Prelude.{SourceView, SinkView, GivesBytes, FeedsPiece, HearsPiece, ReadsPiece, Tale, Writes, after_notes, all_answered, notes_of, tale_of}
+pub use Rattle.cli_scripts.specs.Meant.{meant}
+pub use Rattle.cli_scripts.specs.Prelude.{said_requests, script_request_view}
+pub use Rattle.cli_scripts.specs.Rows.{request_line_of}
+pub use Rattle.cli_scripts.specs.Script.{lines, filled_from, filled_lines}
+pub use Rattle.cli_scripts.specs.Views.{Text, ScriptRequestView}
+pub use Rattle.cli_scripts.specs.Words.{is_empty}
+pub use Rattle.cli_output.specs.Names.{outcome_name, phase_name, refusal_code, version_name}
+pub use Rattle.cli_output.specs.Prelude.{PutsLine, row_text, stop_status, stop_text, entries_text}
+pub use Rattle.cli_output.specs.Stopping.{Gets, IsStopOf, ends_with, said_of}
+pub use Rattle.cli_output.specs.Telling.{failure_line, heard_line, note_text, lost_line, refused_line}
+pub use Rattle.cli_output.specs.declared.stop.StopReason.{StopReason}
+pub use Rattle.cli_output.specs.declared.stop.StopReason.TheVariants.{Unreadable, Broken}

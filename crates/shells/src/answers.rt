@@ -6,9 +6,9 @@ ghost use Rattle.client.specs.Fits.{Fits, rest_of};
 ghost use Rattle.client.specs.Notes.{note};
 ghost use Rattle.client.specs.Rest.{Note, Rest, awaits};
 ghost use Rattle.wire.specs.declared.Version.{Version};
-ghost use Rattle.asks.specs.Asking.{given_up};
+ghost use Rattle.client_blocking.specs.Asking.{given_up};
 ghost use Rattle.streams.specs.Reading.{LetsRead};
-ghost use Rattle.prints.specs.Stopping.{Gets};
+ghost use Rattle.cli_output.specs.Stopping.{Gets};
 ghost use Rattle.shells.specs.Streams.{Streams};
 ghost use Rattle.shells.specs.Talking.{FailsToPut, IsAt, Place, ending, parting};
 ghost use Rattle.shells.specs.Printing.{version_after, versions_after};
@@ -17,10 +17,10 @@ ghost use Rattle.shells.specs.Shelling.{Asks, Converses, Hears, HearsMore, LetsA
 use crate::caller::Caller;
 use crate::errors::{put_losses, put_unprinted};
 use crate::ways::ShellStreams;
-use asks::{give_up, hear_piece, write_out};
+use cli_output::tell;
 use client::Heard;
+use client_blocking::{give_up, hear_piece, write_out};
 use machine::Phase;
-use prints::tell;
 use streams::{PeerSource, Sink, StreamFault};
 
 impl Caller {

@@ -6,18 +6,20 @@ ghost use Rattle.messages.specs.View.{response_view};
 ghost use Rattle.client.specs.Notes.{note};
 ghost use Rattle.client.specs.Rest.{Summary};
 ghost use Rattle.streams.specs.Failing.{StaysSound, UnlessTold};
-ghost use Rattle.scripts.specs.Meant.{meant};
-ghost use Rattle.scripts.specs.Views.{script_request_view};
-ghost use Rattle.prints.specs.Telling.{PutsLine, note_text};
+ghost use Rattle.cli_scripts.specs.Meant.{meant};
+ghost use Rattle.cli_scripts.specs.Views.{script_request_view};
+ghost use Rattle.cli_output.specs.Telling.{PutsLine, note_text};
 ghost use Rattle.shells.specs.Printing.{version_after};
 ghost use Rattle.shells.specs.Talking.{IsAt, Place, first_place};
 ghost use Rattle.shells.specs.Shelling.{PutsNotes, Submits, sinks_by};
 
+use cli_output::{
+    heard_line, put, put_failure, put_heard, put_refused, put_row, refusal_code, tell,
+};
+use cli_scripts::ScriptRequest;
 use client::{Client, Heard, Outcome};
 use machine::Phase;
 use messages::Response;
-use prints::{heard_line, put, put_failure, put_heard, put_refused, put_row, refusal_code, tell};
-use scripts::ScriptRequest;
 use std::alloc::Global;
 use streams::{Sink, StreamFault};
 use wire::{Version, Wish};

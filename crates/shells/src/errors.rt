@@ -1,13 +1,13 @@
 //! What a shell tells on standard error. None of it takes memory.
 ghost use Rattle.client.specs.Notes.{note};
-ghost use Rattle.prints.specs.Stopping.{Gets};
-ghost use Rattle.prints.specs.Telling.{lost_line};
+ghost use Rattle.cli_output.specs.Stopping.{Gets};
+ghost use Rattle.cli_output.specs.Telling.{lost_line};
 ghost use Rattle.shells.specs.Printing.{summary_line};
 ghost use Rattle.shells.specs.Talking.{greeting_of, losses_text};
 
+use cli_output::{heard_line, outcome_name, tell, version_name};
 use client::{Heard, Outcome};
 use itoa::Buffer;
-use prints::{heard_line, outcome_name, tell, version_name};
 use streams::Sink;
 use wire::Version;
 

@@ -1,7 +1,7 @@
 //! A client at a shell: request lines go in, and what a server answers comes out.
 ghost use Rattle.std.specs.Prelude.{◌≡◌, ◌++◌, ◌⊎◌, [], List, ℕ, true, IfOk, IfErr, IsErrOf};
 ghost use Rattle.std.specs.Result.{result_err};
-ghost use Rattle.scripts.specs.Views.{Text};
+ghost use Rattle.cli_scripts.specs.Views.{Text};
 ghost use Rattle.streams.specs.Failing.{StaysSound};
 ghost use Rattle.streams.specs.Reading.{LetsRead};
 ghost use Rattle.shells.specs.Talking.{FailsToPut, IsAt, IsServersTurn, first_place};
@@ -12,8 +12,8 @@ ghost use Rattle.shells.specs.Streams.{Streams};
 use crate::caller::Caller;
 use crate::errors::greet;
 use crate::ways::ShellStreams;
-use prints::{StopReason, put_stop};
-use scripts::{LineFault, read_request};
+use cli_output::{StopReason, put_stop};
+use cli_scripts::{LineFault, read_request};
 use std::alloc::Global;
 use streams::{MAX_PIECE, PeerSource, Sink, Source, StreamFault};
 

@@ -12,7 +12,7 @@ pub struct ShellStreams<S: PeerSource, T: Sink, O: Sink, E: Sink> {
 }
 
 impl<S: PeerSource, T: Sink, O: Sink, E: Sink> Model for ShellStreams<S, T, O, E> {
-    ghost use Rattle.prints.specs.Seen.{Seen};
+    ghost use Rattle.cli_output.specs.Seen.{Seen};
     ghost use Rattle.shells.specs.Streams.{Streams};
 
     ghost Value = { Seen (S × T × O × E) Streams };

@@ -1,7 +1,7 @@
 -- What was read can be written. A value is read and a cell is written in one way, or refused for one fault; so what is answered, clause by clause, is one.
 use Rattle.std.proofs.Common.{◌≡◌, ℕ, List, Ok, Err, refl, sym, ap, arith, ◌∙◌, subst, inl, inr, ◌↔◌, Result, map, Vec, Global, String}
 use Rattle.structures.proofs.Prelude.{Tree, list, dict, tree, trees, trees_of, entries_of, seen_entries, Value, ListValue, DictValue, tree-List, tree-Dict, Version, Reason, fault, structures, scan, IsBad, IsFine, fault_of_structure, IsWritable, IsUnwritable, shape, shapes, entries, scan_fine, fine_scan, Form, typed, form, HasOneReading, HasOneWriting, Reads, Writes, HasGoodForm, HasBadForm, Gave, UnlessMemory, IsUnpacked, Packs, form_entry, typed_shape, shapes_typed, pairs_typed, Cell, PackReason, CellFault}
-use Rattle.cells.proofs.Scanning.{Found}
+use Rattle.structures_cells.proofs.Scanning.{Found}
 use Rattle.structures.proofs.Formed.{read_again, again, form_is, packed_is, writable_when}
 use Rattle.structures.proofs.Fitted.{form_list, form_pairs}
 use Rattle.packstream.proofs.Checking.{bad_when}

@@ -2,12 +2,12 @@
 use Rattle.std.proofs.Common.{◌≡◌, ℕ, ℤ, List, [], ◌∷◌, map, Option, Some, None, String, Global, false, ◌==◌, refl, ap, Vec, Box, string_bytes, sym, ◌∙◌}
 use Rattle.std.proofs.lemmas.Simd.{map-map}
 use Rattle.structures.proofs.Prelude.{Tree, int, list, dict, structure, no_trees, tree_then, entry_then, trees_of, entries_of, Version, text_of, texts_of, element_of, elements_of, numbers_of, entries, shape, shapes, node_shape, unbound_shape, relationship_shape, path_shape, path_of, row, row_in, table, Pair, relationship_parts, node-out, node-roll, unbound-out, unbound-roll, relationship-out, relationship-roll, path-out, path-roll, shape-List, shape-Dict, form, form_all, form_under, form_entry, fitted, fitted_all, fitted_under, fitted_by, fitted_entry, element_at, elements_at, V50, V51, Cell, ListCase, DictCase, Path, out-Path, roll-Path, every_version, Field, Integer, Text, Labels, Properties}
-use Rattle.cells.specs.declared.cell.ElementIds.{ElementIds}
-use Rattle.cells.specs.declared.cell.Cell.TheViews.{out-roll-Path}
-use Rattle.cells.specs.declared.cell.Cell.TheOpen.{Node-F, UnboundRelationship-F, Relationship-F, Path-F}
-use Rattle.cells.specs.declared.cell.Node.{Node, roll-Node}
-use Rattle.cells.specs.declared.cell.Relationship.{Relationship, roll-Relationship}
-use Rattle.cells.specs.declared.cell.UnboundRelationship.{UnboundRelationship, roll-UnboundRelationship}
+use Rattle.structures_cells.specs.declared.cell.ElementIds.{ElementIds}
+use Rattle.structures_cells.specs.declared.cell.Cell.TheViews.{out-roll-Path}
+use Rattle.structures_cells.specs.declared.cell.Cell.TheOpen.{Node-F, UnboundRelationship-F, Relationship-F, Path-F}
+use Rattle.structures_cells.specs.declared.cell.Node.{Node, roll-Node}
+use Rattle.structures_cells.specs.declared.cell.Relationship.{Relationship, roll-Relationship}
+use Rattle.structures_cells.specs.declared.cell.UnboundRelationship.{UnboundRelationship, roll-UnboundRelationship}
 
 pub form_list : (v : Version) (ts : List Tree) → form_all v (trees_of ts) ≡ trees_of (map (form v) ts)
 form_list v [] = refl

@@ -4,13 +4,13 @@ use Rattle.packstream.specs.declared.fault.Reason.{Reason as PackReason}
 use Rattle.packstream.specs.declared.fault.Reason.TheVariants as pack
 use Rattle.packstream.specs.Good.{IsGood}
 use Rattle.packstream.specs.Making.{first_fault, faults_in}
-use Rattle.cells.specs.Writing.{IsWritable, IsUnwritable}
+use Rattle.structures_cells.specs.Writing.{IsWritable, IsUnwritable}
 use Rattle.packstream.specs.Tree.{Tree}
 use Rattle.wire.specs.declared.Version.{Version}
-use Rattle.cells.specs.declared.cell.Cell.{Cell}
-use Rattle.cells.specs.declared.fault.Reason.{Reason}
-use Rattle.cells.specs.Shape.{shape}
-use Rattle.cells.specs.Faults.{IsBad, IsFine}
+use Rattle.structures_cells.specs.declared.cell.Cell.{Cell}
+use Rattle.structures_cells.specs.declared.fault.Reason.{Reason}
+use Rattle.structures_cells.specs.Shape.{shape}
+use Rattle.structures_cells.specs.Faults.{IsBad, IsFine}
 use Rattle.structures.specs.declared.fault.CellFault.{CellFault}
 use Rattle.structures.specs.declared.fault.CellFault.TheVariants as fault
 use Rattle.structures.specs.Form.{Form}

@@ -6,10 +6,10 @@ use Rattle.packstream.specs.Tree.{Tree, null, boolean, int, float, byte_string, 
 use Rattle.packstream.specs.Good.{count}
 use Rattle.wire.specs.declared.Version.{Version}
 use Rattle.wire.specs.Versions.{has_element_ids}
-use Rattle.cells.specs.declared.table.Field.{Field}
-use Rattle.cells.specs.declared.cell.Cell.{Cell}
-use Rattle.cells.specs.Shape.{shape}
-use Rattle.cells.specs.Table.{Row, row_in, table}
+use Rattle.structures_cells.specs.declared.table.Field.{Field}
+use Rattle.structures_cells.specs.declared.cell.Cell.{Cell}
+use Rattle.structures_cells.specs.Shape.{shape}
+use Rattle.structures_cells.specs.Table.{Row, row_in, table}
 use Rattle.structures.specs.declared.fault.CellFault.{CellFault}
 use Rattle.structures.specs.declared.fault.CellFault.TheVariants as told
 

@@ -3,8 +3,8 @@ use Rattle.std.specs.Prelude.{◌≡◌, ℕ, ◌+ℤ◌, if◌then◌else◌, �
 use Rattle.packstream.specs.Tree.{Tree, null, boolean, int, float, byte_string, text, list, dict, structure, Trees, no_trees, tree_then, Entries, no_entries, entry_then}
 use Rattle.wire.specs.declared.Version.{Version}
 use Rattle.wire.specs.Versions.{has_utc_times}
-use Rattle.cells.specs.Table.{date_time_tag, legacy_date_time_tag}
-use Rattle.cells.specs.Faults.{utc_fields, IsFine}
+use Rattle.structures_cells.specs.Table.{date_time_tag, legacy_date_time_tag}
+use Rattle.structures_cells.specs.Faults.{utc_fields, IsFine}
 
 -- the tag that a structure is read with: of a legacy DateTime that of one with seconds in UTC
 abbrev pub typed_tag : ℕ → ℕ

@@ -4,9 +4,9 @@ use Rattle.packstream.specs.Tree.{Tree, null, boolean, int, float, byte_string, 
 use Rattle.packstream.specs.Good.{count}
 use Rattle.wire.specs.declared.Version.{Version}
 use Rattle.wire.specs.Versions.{has_element_ids}
-use Rattle.cells.specs.declared.table.Field.{Field}
-use Rattle.cells.specs.declared.table.Field.TheVariants.{Integer, Nanosecond, DayNanosecond, Offset, UtcSecond, Float, Text, Labels, Properties, Nodes, Relationships, Indices}
-use Rattle.cells.specs.Table.{Row, table, node_tag, unbound_tag, path_tag, date_time_tag, legacy_date_time_tag}
+use Rattle.structures_cells.specs.declared.table.Field.{Field}
+use Rattle.structures_cells.specs.declared.table.Field.TheVariants.{Integer, Nanosecond, DayNanosecond, Offset, UtcSecond, Float, Text, Labels, Properties, Nodes, Relationships, Indices}
+use Rattle.structures_cells.specs.Table.{Row, table, node_tag, unbound_tag, path_tag, date_time_tag, legacy_date_time_tag}
 
 -- these values are all made in one way: all texts, all integers, or all structures of one tag
 pub data AreMade (A : Type 0) (make : A → Tree) : Trees → Type 0 where

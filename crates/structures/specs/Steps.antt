@@ -5,11 +5,11 @@ use Rattle.packstream.specs.Good.{count}
 use Rattle.packstream.specs.View.{trees, trees_of}
 use Rattle.packstream.specs.declared.value.Value.{Value}
 use Rattle.wire.specs.declared.Version.{Version}
-use Rattle.cells.specs.declared.table.Field.{Field}
-use Rattle.cells.specs.Table.{node_tag, relationship_tag, unbound_tag, path_tag}
-use Rattle.cells.specs.Faults.{is_kind, fault, structures}
-use Rattle.cells.specs.Writing.{fault_of_structure}
-use Rattle.cells.specs.Steps.{all_fine}
+use Rattle.structures_cells.specs.declared.table.Field.{Field}
+use Rattle.structures_cells.specs.Table.{node_tag, relationship_tag, unbound_tag, path_tag}
+use Rattle.structures_cells.specs.Faults.{is_kind, fault, structures}
+use Rattle.structures_cells.specs.Writing.{fault_of_structure}
+use Rattle.structures_cells.specs.Steps.{all_fine}
 use Rattle.structures.specs.Form.{typed, form}
 
 -- an entry, with what its value is read as

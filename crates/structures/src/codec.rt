@@ -1,9 +1,9 @@
 //! Cells of values, and values of cells.
-#![tactic(auto, using(cells::proofs::Fine::fine_scan, crate::proofs::Clauses::written))]
+#![tactic(auto, using(structures_cells::proofs::Fine::fine_scan, crate::proofs::Clauses::written))]
 
 ghost use Rattle.std.specs.Prelude.{◌≡◌, Err};
 ghost use Rattle.packstream.specs.Prelude.{dict, list, tree, trees_of, entries_of};
-ghost use Rattle.cells.specs.Prelude.{IsFine, shape, shapes, entries, IsWritable};
+ghost use Rattle.structures_cells.specs.Prelude.{IsFine, shape, shapes, entries, IsWritable};
 ghost use Rattle.structures.specs.declared.fault.CellFault.TheVariants as fault;
 ghost use Rattle.structures.specs.Prelude.{ReadsForm, ReadsFault, WritesForm, WritesFault, WritesPackFault, Packs};
 
@@ -11,9 +11,9 @@ use crate::fault::CellFault;
 use crate::reader::cell_of;
 use crate::scope::Scope;
 use crate::writer::{pair_values, value_of, values_of};
-use cells::{Cell, check_cell, check_cells, check_entries, check_value};
 use packstream::{PackFault, Packed, Value};
 use std::alloc::Global;
+use structures_cells::{Cell, check_cell, check_cells, check_entries, check_value};
 use wire::Version;
 
 /// The cell of a value that stands inside another, as `read` reads it.

@@ -2,8 +2,8 @@
 ghost use Rattle.std.specs.Prelude.{◌≡◌};
 ghost use Rattle.structures.specs.declared.fault.CellFault.TheVariants.{Memory};
 
-use cells::Reason;
 use std::alloc::{AllocError, AllocFailed};
+use structures_cells::Reason;
 use thiserror::Error;
 
 /// Why a value is no cell of a version, or a cell can't be written at it.

@@ -1,13 +1,13 @@
 //! Cells in the form of a version.
 ghost use Rattle.std.specs.Prelude.{◌≡◌, IfOk, map};
-ghost use Rattle.cells.specs.Shape.{shape, node_shape, unbound_shape, relationship_shape, path_shape, element_of, elements_of, entries, shapes};
+ghost use Rattle.structures_cells.specs.Shape.{shape, node_shape, unbound_shape, relationship_shape, path_shape, element_of, elements_of, entries, shapes};
 ghost use Rattle.structures.specs.Fitting.{fitted, fitted_entry, element_at, elements_at, Fits};
 ghost use Rattle.structures.specs.Steps.{AreEach};
 
 use crate::fault::CellFault;
 use crate::scope::{Made, Scope};
-use cells::{Cell, ElementIds, Node, Path, Relationship, UnboundRelationship};
 use std::alloc::Global;
+use structures_cells::{Cell, ElementIds, Node, Path, Relationship, UnboundRelationship};
 use wire::Version;
 
 /// The cell in the form of a version: without element ids if it has none, and else with the decimal texts of the

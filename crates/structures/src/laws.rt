@@ -2,8 +2,8 @@
 ghost use Rattle.std.specs.Prelude.{◌≡◌, ℕ, IsTrue};
 ghost use Rattle.packstream.specs.Tree.{Tree};
 ghost use Rattle.packstream.specs.declared.fault.Reason.{Reason as PackReason};
-ghost use Rattle.cells.specs.Prelude.{is_typed, shape, IsWritable};
-ghost use Rattle.cells.specs.declared.cell.Cell.{Cell as AnyCell};
+ghost use Rattle.structures_cells.specs.Prelude.{is_typed, shape, IsWritable};
+ghost use Rattle.structures_cells.specs.declared.cell.Cell.{Cell as AnyCell};
 ghost use Rattle.structures.specs.Prelude.{HasOneReading, HasOneWriting, IsOfPacking, IsUnpacked, Form, form, typed};
 ghost use Rattle.wire.specs.declared.Version.{Version as AnyVersion};
 
@@ -17,7 +17,7 @@ pub fn one_reading()
 
 /// What a cell is seen as is typed: each of its structures is one of the table, with its fields, of their kinds, and none
 /// is a legacy DateTime.
-#[tactic(auto, using(cells::proofs::Typed::typed_shape))]
+#[tactic(auto, using(structures_cells::proofs::Typed::typed_shape))]
 pub fn cells_are_typed()
     ensures { (c : AnyCell) → IsTrue (is_typed (shape c)) }
 {}

@@ -13,7 +13,9 @@ mod reader;
 mod scope;
 mod writer;
 
-pub use cells::{Cell, ElementIds, Node, Path, Reason, Relationship, UnboundRelationship, same};
 pub use codec::{read, read_value, write, write_entries, write_members};
 pub use fault::CellFault;
 pub use form::fit;
+pub use structures_cells::{
+    Cell, ElementIds, Node, Path, Reason, Relationship, UnboundRelationship, same,
+};

@@ -1,15 +1,15 @@
 //! Cells of values whose structures have no fault.
 ghost use Rattle.std.specs.Prelude.{◌≡◌, IfOk, map, true};
 ghost use Rattle.packstream.specs.Prelude.{dict, list, tree, trees, trees_of, entries_of, entries as seen_entries};
-ghost use Rattle.cells.specs.Prelude.{is_kind, shape, shapes, node_shape, unbound_shape, relationship_shape, path_shape, entries, node_tag, relationship_tag, unbound_tag, path_tag};
+ghost use Rattle.structures_cells.specs.Prelude.{is_kind, shape, shapes, node_shape, unbound_shape, relationship_shape, path_shape, entries, node_tag, relationship_tag, unbound_tag, path_tag};
 ghost use Rattle.structures.specs.Prelude.{typed, typed_entry, IsSound, ReadsAs, ReadsAt, IsRead, with_fields, AreSound};
 
 use crate::fields::{element_at, elements_at, int_at, ints_of, text_at, texts_at};
 use crate::plain::plain_of;
 use crate::scope::Made;
-use cells::{Cell, Field, Node, Path, Relationship, UnboundRelationship, tags};
 use packstream::Value;
 use std::alloc::Global;
+use structures_cells::{Cell, Field, Node, Path, Relationship, UnboundRelationship, tags};
 
 #[cycle(read)]
 pub(crate) fn cell_of(alloc: Global, value: &Value) -> Made<Cell>

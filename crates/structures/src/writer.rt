@@ -1,13 +1,13 @@
 //! Values of cells.
 ghost use Rattle.std.specs.Prelude.{◌≡◌, IfOk, map, None};
 ghost use Rattle.packstream.specs.Prelude.{int, float, list, dict, structure, no_trees, tree_then, tree, trees, trees_of, entries_of, entries as seen_entries};
-ghost use Rattle.cells.specs.Prelude.{fault_of_structure, shape, shapes, entries, node_shape, unbound_shape, relationship_shape, path_shape, text_of, texts_of, element_of, elements_of, relationship_tag, date_time_tag};
+ghost use Rattle.structures_cells.specs.Prelude.{fault_of_structure, shape, shapes, entries, node_shape, unbound_shape, relationship_shape, path_shape, text_of, texts_of, element_of, elements_of, relationship_tag, date_time_tag};
 ghost use Rattle.structures.specs.Prelude.{form, form_entry, AreEach, Passes, date_time_fields};
 
 use crate::scope::{Made, Scope};
-use cells::{Cell, ElementIds, Node, Path, Relationship, UnboundRelationship, tags};
 use packstream::Value;
 use std::alloc::Global;
+use structures_cells::{Cell, ElementIds, Node, Path, Relationship, UnboundRelationship, tags};
 
 /// Numbers as values.
 fn int_values(alloc: Global, ints: &[i64]) -> Made<Vec<Value>>

@@ -7,16 +7,16 @@ use Rattle.std.proofs.lemmas.Bool.{and_left, and_right}
 use Rattle.std.proofs.lemmas.Bool.Decides.{Decides-int_eq}
 use Rattle.packstream.specs.Prelude.{Tree, int, structure, Trees}
 use denote.Enum.Declared.{tag_of}
-use Rattle.cells.specs.contracts.cell.Cell.{the_type}
-use Rattle.cells.specs.declared.cell.Cell.{Cell, the_lemmas}
-use Rattle.cells.specs.Prelude.{relationship_tag, same_tree, same_trees, shape, node_shape, unbound_shape, relationship_shape, path_shape, entry, text_of, element_of, elements_of}
-use Rattle.cells.specs.declared.cell.ElementIds.{ElementIds}
-use Rattle.cells.specs.declared.cell.Node.{Node}
-use Rattle.cells.specs.declared.cell.Path.{Path, out-Path}
-use Rattle.cells.specs.declared.cell.Relationship.{Relationship}
-use Rattle.cells.specs.declared.cell.UnboundRelationship.{UnboundRelationship}
-use Rattle.cells.proofs.Views.{node-out, unbound-out, relationship-out, path-out}
-use Rattle.cells.proofs.Walking.{SameMembers, SamePairs}
+use Rattle.structures_cells.specs.contracts.cell.Cell.{the_type}
+use Rattle.structures_cells.specs.declared.cell.Cell.{Cell, the_lemmas}
+use Rattle.structures_cells.specs.Prelude.{relationship_tag, same_tree, same_trees, shape, node_shape, unbound_shape, relationship_shape, path_shape, entry, text_of, element_of, elements_of}
+use Rattle.structures_cells.specs.declared.cell.ElementIds.{ElementIds}
+use Rattle.structures_cells.specs.declared.cell.Node.{Node}
+use Rattle.structures_cells.specs.declared.cell.Path.{Path, out-Path}
+use Rattle.structures_cells.specs.declared.cell.Relationship.{Relationship}
+use Rattle.structures_cells.specs.declared.cell.UnboundRelationship.{UnboundRelationship}
+use Rattle.structures_cells.proofs.Views.{node-out, unbound-out, relationship-out, path-out}
+use Rattle.structures_cells.proofs.Walking.{SameMembers, SamePairs}
 
 pub texts_same : (xs ys : List (String Global)) → SameMembers text_of xs ys ≡ pointwise string_eq xs ys
 texts_same (x ∷ xs) (y ∷ ys) = ap (λ b. string_eq x y && b) (texts_same xs ys)

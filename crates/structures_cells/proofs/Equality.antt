@@ -4,7 +4,7 @@ use Rattle.std.proofs.lemmas.Bool.{and_parts, and_from, eqb-true, eq-eqb}
 use Rattle.std.proofs.lemmas.Bool.Decides.{Decides-int_eq}
 use Rattle.std.proofs.lemmas.Slice.Eq.{bytes_eq-Decides}
 use Rattle.packstream.specs.Prelude.{Tree, null, boolean, int, float, byte_string, text, list, dict, structure, Trees, no_trees, tree_then, Entries, no_entries, entry_then}
-use Rattle.cells.specs.Prelude.{same_bool, same_tree, same_trees, same_entries}
+use Rattle.structures_cells.specs.Prelude.{same_bool, same_tree, same_trees, same_entries}
 
 bools_are : (a b : Bool) → same_bool a b ≡ true → a ≡ b
 bools_are true true h = refl

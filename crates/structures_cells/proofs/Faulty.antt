@@ -5,9 +5,9 @@ use Rattle.packstream.specs.declared.value.Value.{Value, List as ListCase}
 use Rattle.packstream.proofs.Putting.{len_trees}
 use Rattle.packstream.proofs.Views.{tree-List}
 use Rattle.wire.specs.declared.Version.{Version}
-use Rattle.cells.specs.declared.table.Field.{Field}
-use Rattle.cells.specs.declared.fault.Reason.TheVariants.{FieldCount, FieldKind, Range, PathShape}
-use Rattle.cells.specs.Prelude.{kinds, is_path, is_walk, first_failed, are_kinds, are_in_range, utc_fields, wrong, fault, fault_by}
+use Rattle.structures_cells.specs.declared.table.Field.{Field}
+use Rattle.structures_cells.specs.declared.fault.Reason.TheVariants.{FieldCount, FieldKind, Range, PathShape}
+use Rattle.structures_cells.specs.Prelude.{kinds, is_path, is_walk, first_failed, are_kinds, are_in_range, utc_fields, wrong, fault, fault_by}
 
 pub other_path : (ts : Trees) → (count ts ≡ 3 → ⊥) → true ≡ is_path ts
 other_path (tree_then (list a) (tree_then (list b) (tree_then (list c) no_trees))) h = absurd (h refl)

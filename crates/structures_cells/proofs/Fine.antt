@@ -3,10 +3,10 @@ use Rattle.std.proofs.Common.{◌≡◌, ℕ, zero, suc, ◌<◌, List, [], ◌�
 use Rattle.std.proofs.Math.Bool.{and_assoc}
 use Rattle.packstream.specs.Prelude.{Tree, structure, Trees, tree, trees, trees_of, entries_of}
 use Rattle.packstream.specs.declared.value.Value.{Value, Struct as StructCase, the_lemmas}
-use Rattle.cells.specs.declared.fault.Reason.{Reason}
-use Rattle.cells.specs.Prelude.{FaultOf, scan, fault_or_rest, next, structures, structures_in, structures_under, all_fine}
-use Rattle.cells.proofs.Both.{and_left, and_right, both_true}
-use Rattle.cells.proofs.Scanning.{Found}
+use Rattle.structures_cells.specs.declared.fault.Reason.{Reason}
+use Rattle.structures_cells.specs.Prelude.{FaultOf, scan, fault_or_rest, next, structures, structures_in, structures_under, all_fine}
+use Rattle.structures_cells.proofs.Both.{and_left, and_right, both_true}
+use Rattle.structures_cells.proofs.Scanning.{Found}
 
 pub tree-Struct : (tag : ℕ) (v : Vec Value Global) → tree (StructCase tag v) ≡ structure tag (trees_of (trees v.items))
 tree-Struct tag v = search (rules, the_lemmas)

@@ -5,14 +5,14 @@ use Rattle.packstream.specs.Prelude.{Tree, int, list, dict, structure, Trees, no
 use Rattle.packstream.proofs.Sound.{count-trees_of}
 use Rattle.wire.specs.declared.Version.{Version}
 use Rattle.wire.specs.declared.Version.TheVariants.{V44}
-use Rattle.cells.specs.declared.cell.ElementIds.{ElementIds}
-use Rattle.cells.specs.declared.table.Field.{Field}
-use Rattle.cells.specs.declared.table.Field.TheVariants.{Nanosecond, DayNanosecond, Offset, UtcSecond}
-use Rattle.cells.specs.declared.fault.Reason.{Reason}
-use Rattle.cells.specs.Prelude.{kinds, FaultOf, scan, fault_or_rest, next, structures, structures_in, structures_under, is_int, each, is_between, in_range, are_in_range, text_of, texts_of, numbers_of, element_of, elements_of, entries, path_of, fault_of_structure, fault_of_structure_by, tag_at, range_fault, range_fault_by, numbers_in_range, walk_fault, all_fine}
-use Rattle.cells.proofs.Both.{and_left, and_right, both_true}
-use Rattle.cells.proofs.Views.{Pair, node_parts, unbound_parts, relationship_parts}
-use Rattle.cells.proofs.Fine.{fine_within, fine_left, fine_right}
+use Rattle.structures_cells.specs.declared.cell.ElementIds.{ElementIds}
+use Rattle.structures_cells.specs.declared.table.Field.{Field}
+use Rattle.structures_cells.specs.declared.table.Field.TheVariants.{Nanosecond, DayNanosecond, Offset, UtcSecond}
+use Rattle.structures_cells.specs.declared.fault.Reason.{Reason}
+use Rattle.structures_cells.specs.Prelude.{kinds, FaultOf, scan, fault_or_rest, next, structures, structures_in, structures_under, is_int, each, is_between, in_range, are_in_range, text_of, texts_of, numbers_of, element_of, elements_of, entries, path_of, fault_of_structure, fault_of_structure_by, tag_at, range_fault, range_fault_by, numbers_in_range, walk_fault, all_fine}
+use Rattle.structures_cells.proofs.Both.{and_left, and_right, both_true}
+use Rattle.structures_cells.proofs.Views.{Pair, node_parts, unbound_parts, relationship_parts}
+use Rattle.structures_cells.proofs.Fine.{fine_within, fine_left, fine_right}
 
 abbrev is_no_int : Tree → Bool
 is_no_int t = not (is_int t)

@@ -2,8 +2,8 @@
 use Rattle.std.proofs.Common.{◌≡◌, ℕ, suc, ◌+◌, ◌<◌, List, [], ◌∷◌, ◌++◌, map, length, drop, get_or, Option, Some, None, Result, Ok, Err, refl, sym, ap, ◌∙◌, add-one, drop-cons}
 use Rattle.packstream.specs.Prelude.{Tree, Trees, trees_of, entries_of}
 pub use Rattle.packstream.proofs.Views.{tree-Dict}
-use Rattle.cells.specs.declared.fault.Reason.{Reason}
-use Rattle.cells.specs.Prelude.{FaultOf, scan, fault_or_rest, next, structures, structures_in, structures_under}
+use Rattle.structures_cells.specs.declared.fault.Reason.{Reason}
+use Rattle.structures_cells.specs.Prelude.{FaultOf, scan, fault_or_rest, next, structures, structures_in, structures_under}
 
 abbrev pub Found : Type 0
 Found = Result ℕ (Reason × ℕ)

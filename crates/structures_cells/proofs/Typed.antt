@@ -1,18 +1,18 @@
 -- The trees of cells are typed.
 use Rattle.std.proofs.Common.{◌≡◌, ℕ, List, [], ◌∷◌, map, true, ◌||◌, ◌==◌, Option, Some, None, String, Global, string_bytes, refl, ap, ◌∙◌, subst, Bool}
 use Rattle.packstream.specs.Prelude.{count, Tree, tree_then, int, dict, trees_of, entries_of}
-use Rattle.cells.specs.declared.cell.Cell.{Cell}
-use Rattle.cells.specs.declared.cell.Node.{Node}
-use Rattle.cells.specs.declared.cell.Path.{Path}
-use Rattle.cells.specs.declared.cell.Relationship.{Relationship}
-use Rattle.cells.specs.declared.cell.UnboundRelationship.{UnboundRelationship}
-use Rattle.cells.specs.declared.cell.ElementIds.{ElementIds}
-use Rattle.cells.specs.declared.cell.Cell.TheOpen.{Cell-F, Node-F, Path-F, Relationship-F, UnboundRelationship-F}
-use Rattle.cells.specs.declared.cell.Cell.TheFolds.{ind-Cell, map-Cell, map-Node, map-Path, map-Relationship, map-UnboundRelationship, fold-roll-Cell, fold-roll-Node, fold-roll-Path, fold-roll-Relationship, fold-roll-UnboundRelationship}
-use Rattle.cells.specs.declared.table.Field.TheVariants.{Text as TextField}
-use Rattle.cells.specs.Prelude.{is_text, is_int, has_tag, each, are_kinds, shape, shapes, entries, node_shape, unbound_shape, relationship_shape, path_shape, cell_step, node_step, path_step, relationship_step, unbound_step, text_of, texts_of, element_of, elements_of, is_typed, are_typed, have_typed}
-use Rattle.cells.proofs.Both.{both_true}
-use Rattle.cells.proofs.Views.{node-out, unbound-out}
+use Rattle.structures_cells.specs.declared.cell.Cell.{Cell}
+use Rattle.structures_cells.specs.declared.cell.Node.{Node}
+use Rattle.structures_cells.specs.declared.cell.Path.{Path}
+use Rattle.structures_cells.specs.declared.cell.Relationship.{Relationship}
+use Rattle.structures_cells.specs.declared.cell.UnboundRelationship.{UnboundRelationship}
+use Rattle.structures_cells.specs.declared.cell.ElementIds.{ElementIds}
+use Rattle.structures_cells.specs.declared.cell.Cell.TheOpen.{Cell-F, Node-F, Path-F, Relationship-F, UnboundRelationship-F}
+use Rattle.structures_cells.specs.declared.cell.Cell.TheFolds.{ind-Cell, map-Cell, map-Node, map-Path, map-Relationship, map-UnboundRelationship, fold-roll-Cell, fold-roll-Node, fold-roll-Path, fold-roll-Relationship, fold-roll-UnboundRelationship}
+use Rattle.structures_cells.specs.declared.table.Field.TheVariants.{Text as TextField}
+use Rattle.structures_cells.specs.Prelude.{is_text, is_int, has_tag, each, are_kinds, shape, shapes, entries, node_shape, unbound_shape, relationship_shape, path_shape, cell_step, node_step, path_step, relationship_step, unbound_step, text_of, texts_of, element_of, elements_of, is_typed, are_typed, have_typed}
+use Rattle.structures_cells.proofs.Both.{both_true}
+use Rattle.structures_cells.proofs.Views.{node-out, unbound-out}
 
 -- one that is typed, as f sees it
 abbrev Typed : {A : Type 0} → (A → Tree) → Type 0

@@ -2,15 +2,15 @@
 use Rattle.std.proofs.Common.{◌≡◌, ℕ, ℤ, List, map, String, Vec, Global, string_bytes, sym, ap, ◌∙◌, rules, Option}
 use Rattle.std.proofs.lemmas.Simd.{map-map}
 use Rattle.packstream.specs.Prelude.{Tree, int, float, list, dict, structure, no_trees, tree_then, trees_of, entries_of}
-use Rattle.cells.specs.Prelude.{shape, node_shape, unbound_shape, relationship_shape, path_shape, shapes, entries, text_of, texts_of, element_of, elements_of, path_of}
-use Rattle.cells.specs.declared.cell.ElementIds.{ElementIds}
-use Rattle.cells.specs.declared.cell.Cell.{Cell, List as ListCase, Dict as DictCase, Date, Time, LocalTime, LocalDateTime, DateTime, ZonedLocal, ZonedUtc, Duration, Point2D, Point3D, the_lemmas}
-use Rattle.cells.specs.declared.cell.Cell.TheViews.{roll-Node, roll-UnboundRelationship, roll-Relationship, roll-Path, roll-out-Path}
-use Rattle.cells.specs.declared.cell.Cell.TheOpen.{Node-F, UnboundRelationship-F, Relationship-F, Path-F}
-use Rattle.cells.specs.declared.cell.UnboundRelationship.{UnboundRelationship}
-use Rattle.cells.specs.declared.cell.Relationship.{Relationship}
-use Rattle.cells.specs.declared.cell.Path.{Path, out-Path}
-use Rattle.cells.specs.declared.cell.Node.{Node}
+use Rattle.structures_cells.specs.Prelude.{shape, node_shape, unbound_shape, relationship_shape, path_shape, shapes, entries, text_of, texts_of, element_of, elements_of, path_of}
+use Rattle.structures_cells.specs.declared.cell.ElementIds.{ElementIds}
+use Rattle.structures_cells.specs.declared.cell.Cell.{Cell, List as ListCase, Dict as DictCase, Date, Time, LocalTime, LocalDateTime, DateTime, ZonedLocal, ZonedUtc, Duration, Point2D, Point3D, the_lemmas}
+use Rattle.structures_cells.specs.declared.cell.Cell.TheViews.{roll-Node, roll-UnboundRelationship, roll-Relationship, roll-Path, roll-out-Path}
+use Rattle.structures_cells.specs.declared.cell.Cell.TheOpen.{Node-F, UnboundRelationship-F, Relationship-F, Path-F}
+use Rattle.structures_cells.specs.declared.cell.UnboundRelationship.{UnboundRelationship}
+use Rattle.structures_cells.specs.declared.cell.Relationship.{Relationship}
+use Rattle.structures_cells.specs.declared.cell.Path.{Path, out-Path}
+use Rattle.structures_cells.specs.declared.cell.Node.{Node}
 
 abbrev pub Pair : Type 0
 Pair = String Global × Cell

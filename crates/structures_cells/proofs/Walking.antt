@@ -2,7 +2,7 @@
 use Rattle.std.proofs.Common.{◌≡◌, refl, ap, ℕ, suc, Bool, false, ◌&&◌, List, [], ◌∷◌, map, length, bytes_eq}
 use Rattle.std.proofs.lemmas.Bool.{and_right}
 use Rattle.packstream.specs.Prelude.{Tree, trees_of, entries_of}
-use Rattle.cells.specs.Prelude.{same_tree, same_trees, same_entries}
+use Rattle.structures_cells.specs.Prelude.{same_tree, same_trees, same_entries}
 
 -- Members, of which each is seen as a tree.
 module _ {A : Type 0} (f : A → Tree) where

@@ -3,8 +3,8 @@ use Rattle.std.specs.Prelude.{length, ◌++◌, Bool, true, false, IsTrue, not, 
 use Rattle.packstream.specs.Good.{count}
 use Rattle.packstream.specs.Plain.{IsPlain}
 use Rattle.packstream.specs.Tree.{Tree, null, boolean, int, float, byte_string, text, list, dict, structure, Trees, no_trees, tree_then, Entries, no_entries, entry_then}
-use Rattle.cells.specs.Table.{Row, row_in, table, legacy_date_time_tag}
-use Rattle.cells.specs.Faults.{are_kinds}
+use Rattle.structures_cells.specs.Table.{Row, row_in, table, legacy_date_time_tag}
+use Rattle.structures_cells.specs.Faults.{are_kinds}
 
 -- as many fields as the row has, or as it has with those that come with element ids
 abbrev pub has_count : Row → Trees → Bool

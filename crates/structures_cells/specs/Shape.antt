@@ -3,15 +3,15 @@ use Rattle.std.specs.Prelude.{ℕ, ℤ, List, map, String, string_bytes, Option,
 use Rattle.std.specs.declared.alloc.Global.{Global}
 use Rattle.packstream.specs.Tree.{Tree, null, boolean, int, float, byte_string, text, list, dict, structure, Trees, no_trees, tree_then}
 use Rattle.packstream.specs.View.{trees_of, entries_of}
-use Rattle.cells.specs.declared.cell.Cell.{Cell}
-use Rattle.cells.specs.declared.cell.Cell.TheOpen.{Cell-F, Node-F, UnboundRelationship-F, Relationship-F, Path-F}
-use Rattle.cells.specs.declared.cell.Cell.TheFolds.{fold-Cell, fold-Node, fold-UnboundRelationship, fold-Relationship, fold-Path}
-use Rattle.cells.specs.declared.cell.Node.{Node}
-use Rattle.cells.specs.declared.cell.UnboundRelationship.{UnboundRelationship}
-use Rattle.cells.specs.declared.cell.Relationship.{Relationship}
-use Rattle.cells.specs.declared.cell.Path.{Path}
-use Rattle.cells.specs.declared.cell.ElementIds.{ElementIds}
-use Rattle.cells.specs.Table.{node_tag, relationship_tag, unbound_tag, path_tag, date_tag, time_tag, local_time_tag, local_date_time_tag, date_time_tag, legacy_zoned_tag, zoned_tag, duration_tag, point_2d_tag, point_3d_tag}
+use Rattle.structures_cells.specs.declared.cell.Cell.{Cell}
+use Rattle.structures_cells.specs.declared.cell.Cell.TheOpen.{Cell-F, Node-F, UnboundRelationship-F, Relationship-F, Path-F}
+use Rattle.structures_cells.specs.declared.cell.Cell.TheFolds.{fold-Cell, fold-Node, fold-UnboundRelationship, fold-Relationship, fold-Path}
+use Rattle.structures_cells.specs.declared.cell.Node.{Node}
+use Rattle.structures_cells.specs.declared.cell.UnboundRelationship.{UnboundRelationship}
+use Rattle.structures_cells.specs.declared.cell.Relationship.{Relationship}
+use Rattle.structures_cells.specs.declared.cell.Path.{Path}
+use Rattle.structures_cells.specs.declared.cell.ElementIds.{ElementIds}
+use Rattle.structures_cells.specs.Table.{node_tag, relationship_tag, unbound_tag, path_tag, date_tag, time_tag, local_time_tag, local_date_time_tag, date_time_tag, legacy_zoned_tag, zoned_tag, duration_tag, point_2d_tag, point_3d_tag}
 
 -- a text, by its bytes
 abbrev pub text_of : String Global → Tree

@@ -3,12 +3,12 @@ use Rattle.std.specs.Prelude.{ℕ, ℤ, nat_lt, map, length, List, [], ◌∷◌
 use Rattle.packstream.specs.Tree.{int, Trees}
 use Rattle.packstream.specs.View.{trees_of}
 use Rattle.wire.specs.declared.Version.{Version}
-use Rattle.cells.specs.declared.table.Field.{Field}
-use Rattle.cells.specs.declared.fault.Reason.{Reason}
-use Rattle.cells.specs.declared.fault.Reason.TheVariants.{NotInVersion, Range, PathShape}
-use Rattle.cells.specs.Table.{kinds}
-use Rattle.cells.specs.Faults.{FaultOf, first_failed, in_range, is_walk}
-use Rattle.cells.specs.Writing.{tag_at}
+use Rattle.structures_cells.specs.declared.table.Field.{Field}
+use Rattle.structures_cells.specs.declared.fault.Reason.{Reason}
+use Rattle.structures_cells.specs.declared.fault.Reason.TheVariants.{NotInVersion, Range, PathShape}
+use Rattle.structures_cells.specs.Table.{kinds}
+use Rattle.structures_cells.specs.Faults.{FaultOf, first_failed, in_range, is_walk}
+use Rattle.structures_cells.specs.Writing.{tag_at}
 
 -- each of these structures passes by itself
 abbrev pub all_fine : FaultOf → List (ℕ × Trees) → Bool

@@ -3,10 +3,10 @@
 use Rattle.std.specs.Prelude.{ℕ, List, [], ◌∷◌, ◌++◌, Bool, if◌then◌else◌, ◌==◌, Option, None, Some, Result, Ok, Err}
 use Rattle.wire.specs.declared.Version.{Version}
 use Rattle.wire.specs.Versions.{has_element_ids, has_utc_times, every_version, lacks}
-use Rattle.cells.specs.declared.table.Field.{Field}
-use Rattle.cells.specs.declared.table.Field.TheVariants.{Integer, Nanosecond, DayNanosecond, Offset, UtcSecond, Float, Text, Labels, Properties, Nodes, Relationships, Indices}
-use Rattle.cells.specs.declared.fault.Reason.{Reason}
-use Rattle.cells.specs.declared.fault.Reason.TheVariants.{UnknownTag, NotInVersion}
+use Rattle.structures_cells.specs.declared.table.Field.{Field}
+use Rattle.structures_cells.specs.declared.table.Field.TheVariants.{Integer, Nanosecond, DayNanosecond, Offset, UtcSecond, Float, Text, Labels, Properties, Nodes, Relationships, Indices}
+use Rattle.structures_cells.specs.declared.fault.Reason.{Reason}
+use Rattle.structures_cells.specs.declared.fault.Reason.TheVariants.{UnknownTag, NotInVersion}
 
 -- The tags. A date with a time and an offset, or a zone, has one for seconds in UTC, and a legacy one for local seconds.
 

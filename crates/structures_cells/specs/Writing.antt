@@ -4,11 +4,11 @@ use Rattle.packstream.specs.Tree.{Tree, Trees}
 use Rattle.packstream.specs.Good.{count}
 use Rattle.wire.specs.declared.Version.{Version}
 use Rattle.wire.specs.Versions.{has_utc_times}
-use Rattle.cells.specs.declared.table.Field.{Field}
-use Rattle.cells.specs.declared.fault.Reason.{Reason}
-use Rattle.cells.specs.declared.fault.Reason.TheVariants.{NotInVersion, Range, PathShape}
-use Rattle.cells.specs.Table.{kinds, path_tag, date_time_tag, legacy_date_time_tag}
-use Rattle.cells.specs.Faults.{FaultOf, scan, structures, first_failed, are_in_range, is_path}
+use Rattle.structures_cells.specs.declared.table.Field.{Field}
+use Rattle.structures_cells.specs.declared.fault.Reason.{Reason}
+use Rattle.structures_cells.specs.declared.fault.Reason.TheVariants.{NotInVersion, Range, PathShape}
+use Rattle.structures_cells.specs.Table.{kinds, path_tag, date_time_tag, legacy_date_time_tag}
+use Rattle.structures_cells.specs.Faults.{FaultOf, scan, structures, first_failed, are_in_range, is_path}
 
 -- the tag under which a version writes a DateTime
 abbrev pub moment_tag : Version → ℕ

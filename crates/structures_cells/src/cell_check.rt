@@ -1,11 +1,11 @@
 //! The first typed cell that can't be written.
 ghost use Rattle.std.specs.Prelude.{◌≡◌, ◌≤◌, Ok, length, map, true};
 ghost use Rattle.packstream.specs.View.{trees_of, entries_of};
-ghost use Rattle.cells.specs.Faults.{scan, fault_or_rest, next, structures, structures_in, structures_under};
+ghost use Rattle.structures_cells.specs.Faults.{scan, fault_or_rest, next, structures, structures_in, structures_under};
 ghost use Rattle.packstream.specs.Good.{count};
-ghost use Rattle.cells.specs.Shape.{element_of, elements_of, shape, shapes, entries, node_shape, unbound_shape, relationship_shape, path_shape};
-ghost use Rattle.cells.specs.Writing.{fault_of_structure, tag_at};
-ghost use Rattle.cells.specs.Steps.{range_fault, numbers_in_range, walk_fault};
+ghost use Rattle.structures_cells.specs.Shape.{element_of, elements_of, shape, shapes, entries, node_shape, unbound_shape, relationship_shape, path_shape};
+ghost use Rattle.structures_cells.specs.Writing.{fault_of_structure, tag_at};
+ghost use Rattle.structures_cells.specs.Steps.{range_fault, numbers_in_range, walk_fault};
 
 use crate::cell::{Cell, ElementIds, Node, Path, Relationship, UnboundRelationship};
 use crate::fault::Reason;

@@ -1,6 +1,6 @@
 //! `clone`, written out since a derived one says nothing of types that hold each other.
 ghost use Rattle.std.specs.Prelude.{◌≡◌, IfOk, map};
-ghost use Rattle.cells.specs.Shape.{shape, node_shape, unbound_shape, relationship_shape, path_shape, entries, shapes};
+ghost use Rattle.structures_cells.specs.Shape.{shape, node_shape, unbound_shape, relationship_shape, path_shape, entries, shapes};
 
 use crate::cell::{Cell, Node, Path, Relationship, UnboundRelationship};
 use crate::parts::{copy_element, copy_elements, copy_texts};

@@ -1,8 +1,8 @@
 //! Whether two cells are equal.
 ghost use Rattle.std.specs.Prelude.{◌≡◌, ◌↔◌, ◌&&◌, IsTrue, map};
 ghost use Rattle.packstream.specs.View.{trees_of, entries_of};
-ghost use Rattle.cells.specs.Same.{same_tree, same_trees, same_entries};
-ghost use Rattle.cells.specs.Shape.{shape, shapes, entries, node_shape, unbound_shape, relationship_shape, path_shape};
+ghost use Rattle.structures_cells.specs.Same.{same_tree, same_trees, same_entries};
+ghost use Rattle.structures_cells.specs.Shape.{shape, shapes, entries, node_shape, unbound_shape, relationship_shape, path_shape};
 
 use crate::cell::{Cell, Node, Path, Relationship, UnboundRelationship};
 

@@ -1,7 +1,7 @@
 //! What the fields of a structure hold.
 ghost use Rattle.std.specs.Prelude.{◌≡◌, length};
 ghost use Rattle.packstream.specs.View.{tree, trees, trees_of};
-ghost use Rattle.cells.specs.Faults.{is_kind, is_int, is_text, has_tag, each, are_kinds, in_range, are_in_range};
+ghost use Rattle.structures_cells.specs.Faults.{is_kind, is_int, is_text, has_tag, each, are_kinds, in_range, are_in_range};
 
 use crate::table::Field;
 use crate::tags;

@@ -1,6 +1,6 @@
 //! Clones of the parts of cells.
 ghost use Rattle.std.specs.Prelude.{◌≡◌, IfOk, map};
-ghost use Rattle.cells.specs.Shape.{text_of, element_of, elements_of};
+ghost use Rattle.structures_cells.specs.Shape.{text_of, element_of, elements_of};
 
 use crate::cell::ElementIds;
 use std::alloc::AllocError;

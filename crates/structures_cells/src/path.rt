@@ -2,7 +2,7 @@
 ghost use Rattle.std.specs.Prelude.{◌≡◌, true, [], ◌∷◌, map};
 ghost use Rattle.packstream.specs.Tree.{int};
 ghost use Rattle.packstream.specs.View.{tree, trees, trees_of};
-ghost use Rattle.cells.specs.Faults.{is_relationship, is_place, is_walk, is_path};
+ghost use Rattle.structures_cells.specs.Faults.{is_relationship, is_place, is_walk, is_path};
 
 use packstream::Value;
 

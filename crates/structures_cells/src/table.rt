@@ -1,6 +1,6 @@
 //! The form table: what the fields of each structure hold.
 ghost use Rattle.std.specs.Prelude.{◌≡◌, MatchResult};
-ghost use Rattle.cells.specs.Table.{kinds};
+ghost use Rattle.structures_cells.specs.Table.{kinds};
 
 use crate::fault::Reason;
 use crate::tags;

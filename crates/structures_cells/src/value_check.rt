@@ -1,7 +1,7 @@
 //! The first structure with a fault.
 ghost use Rattle.std.specs.Prelude.{◌≡◌};
 ghost use Rattle.packstream.specs.View.{tree, trees, trees_of, entries, entries_of};
-ghost use Rattle.cells.specs.Faults.{scan, structures, structures_in, structures_under, fault};
+ghost use Rattle.structures_cells.specs.Faults.{scan, structures, structures_in, structures_under, fault};
 
 use crate::fault::Reason;
 use crate::wrong::fault_of;

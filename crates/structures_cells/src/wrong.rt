@@ -2,8 +2,8 @@
 ghost use Rattle.std.specs.Prelude.{◌≡◌, ◌∷◌, [], length, IsTrue, cond, ◌==◌, true};
 ghost use Rattle.packstream.specs.Tree.{int};
 ghost use Rattle.packstream.specs.View.{tree, trees, trees_of};
-ghost use Rattle.cells.specs.Faults.{fault, moment_fields, are_kinds, are_in_range, to_utc, utc_fields, is_path};
-ghost use Rattle.cells.specs.Table.{path_tag, legacy_date_time_tag};
+ghost use Rattle.structures_cells.specs.Faults.{fault, moment_fields, are_kinds, are_in_range, to_utc, utc_fields, is_path};
+ghost use Rattle.structures_cells.specs.Table.{path_tag, legacy_date_time_tag};
 
 use crate::fault::Reason;
 use crate::kinds::{all_hold, all_within, is_within};

@@ -1,5 +1,5 @@
 -- What was read from the front of bytes: a good tree, which that front spells.
-use Rattle.scanner.proofs.Words.{ℕ, ◌≤◌, List, Result, Ok, Err, subst, arith, IfOk, Tree, IsGood, depth, AreBytes, good_spelled, front_bytes, sound, fault_of_structure, structures, IsWritable, scan_fine, form, Scope, SpellsFront, IsRead, IsTaken}
+use Rattle.structures_decoder.proofs.Words.{ℕ, ◌≤◌, List, Result, Ok, Err, subst, arith, IfOk, Tree, IsGood, depth, AreBytes, good_spelled, front_bytes, sound, fault_of_structure, structures, IsWritable, scan_fine, form, Scope, SpellsFront, IsRead, IsTaken}
 
 -- the front of b spells the good tree t, which nests at most so deep, and rest follows it
 record Taken (room : ℕ) (b rest : List ℕ) (t : Tree) : Type 0 where

@@ -1,5 +1,5 @@
 -- Fields that are read one after the other, and what is read behind a head.
-use Rattle.scanner.proofs.Words.{◌≡◌, ℕ, ℤ, ◌+◌, ◌-◌, ◌<◌, ◌+ℤ◌, ◌-ℤ◌, false, cond, List, [], ◌∷◌, ◌++◌, map, Ok, refl, sym, ap, ◌∙◌, append-nil, append_assoc, map_push, Tree, structure, Trees, no_trees, tree_then, trees_of, count, items_at, struct_at, layer, inner, items_more, items_on, items_done, Version, has_utc_times, DateTime, shape, shape-DateTime, form, form_all, three, form_list, back_and_there, Scope, IsRead, Laid, HasFields}
+use Rattle.structures_decoder.proofs.Words.{◌≡◌, ℕ, ℤ, ◌+◌, ◌-◌, ◌<◌, ◌+ℤ◌, ◌-ℤ◌, false, cond, List, [], ◌∷◌, ◌++◌, map, Ok, refl, sym, ap, ◌∙◌, append-nil, append_assoc, map_push, Tree, structure, Trees, no_trees, tree_then, trees_of, count, items_at, struct_at, layer, inner, items_more, items_on, items_done, Version, has_utc_times, DateTime, shape, shape-DateTime, form, form_all, three, form_list, back_and_there, Scope, IsRead, Laid, HasFields}
 
 -- these trees in a list
 abbrev listed : Trees → List Tree

@@ -1,5 +1,5 @@
 -- Members and entries, and one more behind them.
-use Rattle.scanner.proofs.Words.{◌≡◌, ℕ, suc, ℤ, Ok, rules, List, [], ◌∷◌, ◌++◌, ◌+◌, ◌-◌, ◌<◌, map, true, refl, sym, ap, ◌∙◌, append-nil, append_assoc, arith, map_push, map-map, Tree, names, int, trees_of, entries_of, keys, key_at, layer, inner, items_at, entries_at, Pairs, items_on, IntCase, the_lemmas, all_fine, fault_of_structure, structures, structures_in, structures_under, shape, entry, entries, both_true, fine_append, Pair, form, form_entry, Scope, CellJoins, PairJoins}
+use Rattle.structures_decoder.proofs.Words.{◌≡◌, ℕ, suc, ℤ, Ok, rules, List, [], ◌∷◌, ◌++◌, ◌+◌, ◌-◌, ◌<◌, map, true, refl, sym, ap, ◌∙◌, append-nil, append_assoc, arith, map_push, map-map, Tree, names, int, trees_of, entries_of, keys, key_at, layer, inner, items_at, entries_at, Pairs, items_on, IntCase, the_lemmas, all_fine, fault_of_structure, structures, structures_in, structures_under, shape, entry, entries, both_true, fine_append, Pair, form, form_entry, Scope, CellJoins, PairJoins}
 
 pub shape_of_int : (z : ℤ) → shape (IntCase z) ≡ int z
 shape_of_int z = search (rules, the_lemmas)

@@ -11,14 +11,14 @@ pub use Rattle.packstream.specs.Prelude.{AreBytes, IsGood, Knows, Tree, Trees, c
 unfoldable pub use Rattle.packstream.specs.Prelude.{dict_at, entries_at, items_at, list_at, struct_at}
 pub use Rattle.wire.specs.Prelude.{has_utc_times}
 pub use Rattle.wire.specs.declared.Version.{Version}
-pub use Rattle.cells.proofs.Both.{both_true}
-pub use Rattle.cells.proofs.Fine.{fine_append, scan_fine}
-pub use Rattle.cells.proofs.Views.{Pair, node-roll, path-roll, relationship-roll, shape-DateTime, unbound-roll}
-pub use Rattle.cells.specs.Prelude.{IsWritable, all_fine, entries, entry, fault_of_structure, node_shape, shape, shapes, structures, structures_in, structures_under, text_of, unbound_shape}
-pub use Rattle.cells.specs.declared.cell.Cell.{DateTime, Int as IntCase, the_lemmas}
+pub use Rattle.structures_cells.proofs.Both.{both_true}
+pub use Rattle.structures_cells.proofs.Fine.{fine_append, scan_fine}
+pub use Rattle.structures_cells.proofs.Views.{Pair, node-roll, path-roll, relationship-roll, shape-DateTime, unbound-roll}
+pub use Rattle.structures_cells.specs.Prelude.{IsWritable, all_fine, entries, entry, fault_of_structure, node_shape, shape, shapes, structures, structures_in, structures_under, text_of, unbound_shape}
+pub use Rattle.structures_cells.specs.declared.cell.Cell.{DateTime, Int as IntCase, the_lemmas}
 pub use Rattle.structures.proofs.Fitted.{form_list}
 pub use Rattle.structures.proofs.Formed.{back_and_there}
 pub use Rattle.structures.specs.Prelude.{date_time_fields as three, form, form_all, form_entry}
-pub use Rattle.scanner.specs.Fields.{HasFields, Laid}
-pub use Rattle.scanner.specs.Fronts.{CellJoins, IsRead, IsTaken, PairJoins, SpellsFront}
-pub use Rattle.scanner.specs.declared.scope.Scope.{Scope}
+pub use Rattle.structures_decoder.specs.Fields.{HasFields, Laid}
+pub use Rattle.structures_decoder.specs.Fronts.{CellJoins, IsRead, IsTaken, PairJoins, SpellsFront}
+pub use Rattle.structures_decoder.specs.declared.scope.Scope.{Scope}

@@ -5,8 +5,8 @@ use Rattle.packstream.specs.View.{trees_of}
 use Rattle.packstream.specs.Good.{count}
 use Rattle.packstream.specs.Reading.{◌>>=◌, items_at, struct_at, layer, inner}
 use Rattle.structures.specs.Form.{form, form_all}
-use Rattle.scanner.specs.Fronts.{IsRead}
-use Rattle.scanner.specs.declared.scope.Scope.{Scope}
+use Rattle.structures_decoder.specs.Fronts.{IsRead}
+use Rattle.structures_decoder.specs.declared.scope.Scope.{Scope}
 
 -- these trees are read one after the other from the front of b, and after follows them
 abbrev pub Laid : ℕ → Trees → List ℕ → List ℕ → Type 0

@@ -5,14 +5,14 @@ use Rattle.packstream.specs.Tree.{Tree, list, dict}
 use Rattle.packstream.specs.View.{entries_of, trees_of}
 use Rattle.packstream.specs.Spelling.{Spells}
 use Rattle.packstream.specs.Reading.{Read, entries_at, layer, inner}
-use Rattle.cells.specs.declared.cell.Cell.{Cell}
-use Rattle.cells.specs.Shape.{shapes, entries}
-use Rattle.cells.specs.Faults.{structures, structures_under}
-use Rattle.cells.specs.Writing.{fault_of_structure}
-use Rattle.cells.specs.Steps.{all_fine}
+use Rattle.structures_cells.specs.declared.cell.Cell.{Cell}
+use Rattle.structures_cells.specs.Shape.{shapes, entries}
+use Rattle.structures_cells.specs.Faults.{structures, structures_under}
+use Rattle.structures_cells.specs.Writing.{fault_of_structure}
+use Rattle.structures_cells.specs.Steps.{all_fine}
 use Rattle.structures.specs.Form.{form}
 use Rattle.structures.specs.Steps.{form_entry}
-use Rattle.scanner.specs.declared.scope.Scope.{Scope}
+use Rattle.structures_decoder.specs.declared.scope.Scope.{Scope}
 
 -- a list of these cells, as a tree
 abbrev pub list_shape : List Cell → Tree

@@ -1,17 +1,17 @@
 //! Dictionaries at the front of bytes.
 ghost use Rattle.std.specs.Prelude.{◌≡◌, IfOk, OnOk, [], ◌∷◌, ◌++◌, string_bytes};
-ghost use Rattle.scanner.specs.Prelude.{dict_at, inner, int, text, entries, Takes, IsTaken, PairsTaken, PairJoins, dict_shape};
+ghost use Rattle.structures_decoder.specs.Prelude.{dict_at, inner, int, text, entries, Takes, IsTaken, PairsTaken, PairJoins, dict_shape};
 
 use crate::fault::{Left, Scanned, Unscanned};
 use crate::plain::{int_in, marker_in, text_in};
 use crate::scan::cell_in;
 use crate::scope::Scope;
-use cells::Cell;
 use packstream::marker::{Marker, Size};
 use packstream::reading::{first_room, key_of, most_members, new_key_of, size_of};
 use packstream::seen::Seen;
 use packstream::twins::FEW;
 use std::alloc::Global;
+use structures_cells::Cell;
 
 /// The entries of a dictionary in their order.
 pub(crate) type Pairs = Vec<(String, Cell)>;

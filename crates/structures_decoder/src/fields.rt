@@ -1,14 +1,14 @@
 //! Fields of structures that hold no cells: heads, labels, indices and element ids.
 ghost use Rattle.std.specs.Prelude.{ℕ, IfOk};
-ghost use Rattle.scanner.specs.Prelude.{text_of, texts_of, numbers_of, element_of, elements_of, form, IsRead, AreLeft, OpensList, OpensStructure};
+ghost use Rattle.structures_decoder.specs.Prelude.{text_of, texts_of, numbers_of, element_of, elements_of, form, IsRead, AreLeft, OpensList, OpensStructure};
 
 use crate::fault::{Scanned, Unscanned};
 use crate::plain::{int_in, marker_in, text_in};
 use crate::scope::Scope;
-use cells::ElementIds;
 use packstream::marker::Marker;
 use packstream::reading::{first_room, size_of};
 use std::alloc::Global;
+use structures_cells::ElementIds;
 
 /// How many members a list has, and what stands behind its head.
 #[tactic(auto, using(packstream::proofs::Steps::inner_more), unfolding(packstream::specs::Reading::form_at, packstream::specs::Reading::list_at))]

@@ -1,6 +1,6 @@
 //! Structures, and of them nodes, relationships and paths, behind their tag.
 ghost use Rattle.std.specs.Prelude.{IfOk, map};
-ghost use Rattle.scanner.specs.Prelude.{list, trees_of, shape, node_shape, unbound_shape, relationship_shape, path_shape, node_tag, relationship_tag, unbound_tag, path_tag, form, IsRead, HasFields};
+ghost use Rattle.structures_decoder.specs.Prelude.{list, trees_of, shape, node_shape, unbound_shape, relationship_shape, path_shape, node_tag, relationship_tag, unbound_tag, path_tag, form, IsRead, HasFields};
 
 use crate::dictionaries::dict_in;
 use crate::fault::{Scanned, Unscanned};
@@ -10,8 +10,8 @@ use crate::fields::{
 use crate::moments::moment_of;
 use crate::plain::int_in;
 use crate::scope::Scope;
-use cells::{Cell, Node, Path, Relationship, UnboundRelationship, tags};
 use packstream::reading::first_room;
+use structures_cells::{Cell, Node, Path, Relationship, UnboundRelationship, tags};
 
 /// The cell of a structure, behind its tag: its fields are of their kinds, and a DateTime is of the version.
 #[cycle(scanner)]

@@ -1,12 +1,12 @@
 //! Dates, times, durations and points, behind their tag.
 ghost use Rattle.std.specs.Prelude.{ℕ, IfOk};
-ghost use Rattle.scanner.specs.Prelude.{shape, HasFields};
+ghost use Rattle.structures_decoder.specs.Prelude.{shape, HasFields};
 
 use crate::fault::{Scanned, Unscanned};
 use crate::fields::string_in;
 use crate::plain::{float_in, int_in};
 use crate::scope::Scope;
-use cells::{Cell, tags};
+use structures_cells::{Cell, tags};
 
 /// A structure without cells inside, behind its tag: its fields are of their kinds, and a DateTime is of the version.
 #[tactic(auto, unfolding(packstream::specs::Reading::struct_at, packstream::specs::Reading::items_at))]

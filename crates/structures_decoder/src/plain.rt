@@ -1,6 +1,6 @@
 //! Markers, integers, floats and texts.
 ghost use Rattle.std.specs.Prelude.{◌≡◌, ℕ, length, Some, IfOk};
-ghost use Rattle.scanner.specs.Prelude.{layer, inner, form_at, int, float, text, IsRead};
+ghost use Rattle.structures_decoder.specs.Prelude.{layer, inner, form_at, int, float, text, IsRead};
 
 use crate::fault::{Scanned, Unscanned};
 use packstream::marker::{Marker, Width, marker_of};

@@ -1,19 +1,19 @@
 //! Cells at the front of bytes.
 ghost use Rattle.std.specs.Prelude.{ℕ, IfOk};
-ghost use Rattle.scanner.specs.Prelude.{list_at, struct_at, inner, shape, shapes, Takes, IsTaken, CellJoins, list_shape};
+ghost use Rattle.structures_decoder.specs.Prelude.{list_at, struct_at, inner, shape, shapes, Takes, IsTaken, CellJoins, list_shape};
 
 use crate::dictionaries::dict_of;
 use crate::fault::{Left, Scanned, Unscanned};
 use crate::graphs::made_of;
 use crate::plain::{int_in, marker_in};
 use crate::scope::Scope;
-use cells::{Cell, check_cell};
 use packstream::marker::{Marker, Size, Width};
 use packstream::reading::{bytes_of, first_room, number_of, signed_of, size_of, text_of};
+use structures_cells::{Cell, check_cell};
 
 /// A cell that nests within the room, and of whose structures none has a fault at the version.
 #[cycle(scanner)]
-#[tactic(auto, using(cells::proofs::Views::dicts), unfolding(packstream::specs::Reading::form_at))]
+#[tactic(auto, using(structures_cells::proofs::Views::dicts), unfolding(packstream::specs::Reading::form_at))]
 pub(crate) fn cell_in(scope: Scope, room: u8, bytes: &[u8]) -> Scanned<'_, Cell>
     ensures { IfOk result (λ x. IsTaken scope room (shape x.0) bytes.now x.1.now) }
 {
@@ -113,7 +113,7 @@ pub(crate) fn list_in(scope: Scope, room: u8, bytes: &[u8]) -> Scanned<'_, Vec<C
 /// the properties of another is looked at with that one too: once more for each other that it stands in, and no more than 16 times,
 /// since each is two levels of the 32.
 #[cycle(scanner)]
-#[tactic(auto, using(packstream::proofs::Steps::inner_more, cells::proofs::Fine::fine_scan))]
+#[tactic(auto, using(packstream::proofs::Steps::inner_more, structures_cells::proofs::Fine::fine_scan))]
 #[inline(never)]
 fn structure_of(scope: Scope, room: u8, count: u64, bytes: &[u8]) -> Scanned<'_, Cell>
     ensures { (left : ℕ) → IfOk result

@@ -1,14 +1,14 @@
 //! Cells, lists, dictionaries, integers and texts at the front of a message's bytes, or of what is left of them.
 ghost use Rattle.std.specs.Prelude.{◌≤◌, IfOk};
-ghost use Rattle.scanner.specs.Prelude.{IsGood, depth, int, text, shape, IsWritable, form, SpellsFront, list_shape, dict_shape};
+ghost use Rattle.structures_decoder.specs.Prelude.{IsGood, depth, int, text, shape, IsWritable, form, SpellsFront, list_shape, dict_shape};
 
 use crate::dictionaries::{Pairs, dict_in};
 use crate::fault::Scanned;
 use crate::plain::{int_in, text_in};
 use crate::scan::{cell_in, list_in};
 use crate::scope::Scope;
-use cells::Cell;
 use std::alloc::Global;
+use structures_cells::Cell;
 use wire::Version;
 
 /// The cell whose form at the version the front of the bytes spells, in any of its spellings, and what follows it. That form is good and

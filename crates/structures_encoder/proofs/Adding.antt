@@ -1,6 +1,6 @@
 -- How what is added comes together: one after the other, in a loop, and behind the head of a list, a dictionary or a structure.
-use Rattle.speller.proofs.Words.{◌≡◌, ℕ, ℤ, FitsSigned, w64, suc, ◌+◌, ◌≤◌, ◌<◌, List, [], ◌∷◌, ◌++◌, length, map, drop, get_or, sym, ap, subst, ◌∙◌, refl, append_assoc, true, Result, arith, append-nil, drop_more, drop_all, on_ok_weaker, Tree, Trees, no_trees, tree_then, Entries, no_entries, entry_then, structure, count, entry_count, AreNewKeys, head, int_bytes, canon_all, trees_of, entries_of, Grown, Version, Cell, entries, text_of, shape, shapes, structures, structures_in, structures_under, all_fine, fault_of_structure, both_true, fine_append, form, form_all, form_under, Scope, Unchecked, AreReady, Adds, AddsTree, Spells, SpellsAll, SpellsEach, SpellsPairs, Puts, IsPassed, Opens, list_of, dict_of}
-use Rattle.speller.proofs.Flat.{Pair}
+use Rattle.structures_encoder.proofs.Words.{◌≡◌, ℕ, ℤ, FitsSigned, w64, suc, ◌+◌, ◌≤◌, ◌<◌, List, [], ◌∷◌, ◌++◌, length, map, drop, get_or, sym, ap, subst, ◌∙◌, refl, append_assoc, true, Result, arith, append-nil, drop_more, drop_all, on_ok_weaker, Tree, Trees, no_trees, tree_then, Entries, no_entries, entry_then, structure, count, entry_count, AreNewKeys, head, int_bytes, canon_all, trees_of, entries_of, Grown, Version, Cell, entries, text_of, shape, shapes, structures, structures_in, structures_under, all_fine, fault_of_structure, both_true, fine_append, form, form_all, form_under, Scope, Unchecked, AreReady, Adds, AddsTree, Spells, SpellsAll, SpellsEach, SpellsPairs, Puts, IsPassed, Opens, list_of, dict_of}
+use Rattle.structures_encoder.proofs.Flat.{Pair}
 
 pub none : {o : Grown} → Adds [] (Unit {0}) o o
 none {o} = record { added = sym (append-nil o.more); ready = tt }

@@ -1,5 +1,5 @@
 -- What is ready is good and nests within its room.
-use Rattle.speller.proofs.Words.{ℕ, ◌-◌, ◌≤◌, arith, Tree, null, boolean, list, dict, structure, Trees, no_trees, tree_then, Entries, no_entries, entry_then, IsPlain, ArePlain, HavePlain, depth, trees_depth, entries_depth, IsSound, AreSound, HaveSoundValues, IsReady, AreReady, HaveReady}
+use Rattle.structures_encoder.proofs.Words.{ℕ, ◌-◌, ◌≤◌, arith, Tree, null, boolean, list, dict, structure, Trees, no_trees, tree_then, Entries, no_entries, entry_then, IsPlain, ArePlain, HavePlain, depth, trees_depth, entries_depth, IsSound, AreSound, HaveSoundValues, IsReady, AreReady, HaveReady}
 
 -- what nests no deeper than the room, is sound and plain
 abbrev pub IsSure : ℕ → ℕ → Type 0 → Type 0 → Type 0

@@ -3,12 +3,12 @@ use Rattle.std.specs.Prelude.{◌≡◌, ◌+◌, ◌-◌, ◌++◌, ℕ, List, 
 use Rattle.std.specs.declared.alloc.Global.{Global}
 use Rattle.packstream.specs.Prelude.{Tree, list, dict, Trees, canon, canon_all, canon_entries, trees_of, entries_of}
 use Rattle.packstream.specs.Writing.{Grown}
-use Rattle.cells.specs.declared.cell.Cell.{Cell}
-use Rattle.cells.specs.Prelude.{entries, structures, all_fine, fault_of_structure}
+use Rattle.structures_cells.specs.declared.cell.Cell.{Cell}
+use Rattle.structures_cells.specs.Prelude.{entries, structures, all_fine, fault_of_structure}
 use Rattle.structures.specs.Prelude.{form, form_all, form_under}
-use Rattle.speller.specs.declared.scope.Scope.{Scope}
-use Rattle.speller.specs.declared.scope.Inside.TheVariants.{Unchecked}
-use Rattle.speller.specs.Ready.{IsReady, AreReady, HaveReady}
+use Rattle.structures_encoder.specs.declared.scope.Scope.{Scope}
+use Rattle.structures_encoder.specs.declared.scope.Inside.TheVariants.{Unchecked}
+use Rattle.structures_encoder.specs.Ready.{IsReady, AreReady, HaveReady}
 
 -- these bytes are added, and what they spell is ready
 pub record Adds (bytes : List ℕ) (Ready : Type 0) (old new : Grown) : Type 0 where

@@ -1,14 +1,16 @@
 //! Structures: nodes, relationships and paths, and what of them is looked for first.
 ghost use Rattle.std.specs.Prelude.{◌≡◌, ◌≤◌, OnOk};
-ghost use Rattle.speller.specs.Prelude.{count, int, shape, text_of, element_of, elements_of, node_shape, unbound_shape, relationship_shape, path_shape, Spells, SpellsAnywhere, Puts, IsPassed, list_of};
+ghost use Rattle.structures_encoder.specs.Prelude.{count, int, shape, text_of, element_of, elements_of, node_shape, unbound_shape, relationship_shape, path_shape, Spells, SpellsAnywhere, Puts, IsPassed, list_of};
 
 use crate::fault::{Spelled, Unspelled};
 use crate::moments::{put_ints, put_moment};
 use crate::scope::{Inside, Scope};
 use crate::spelling::put_entries;
 use crate::texts::{put_list_head, put_number, put_opening, put_string};
-use cells::{Cell, ElementIds, Node, Path, Relationship, UnboundRelationship, check_cell, tags};
 use packstream::writing::Output;
+use structures_cells::{
+    Cell, ElementIds, Node, Path, Relationship, UnboundRelationship, check_cell, tags,
+};
 
 /// Spells a list of texts.
 fn put_texts(out: &mut Output, scope: Scope, texts: &[String]) -> Spelled<()>

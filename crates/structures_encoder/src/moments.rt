@@ -1,12 +1,12 @@
 //! Times, durations and points.
 ghost use Rattle.std.specs.Prelude.{◌≤◌, length, map};
-ghost use Rattle.speller.specs.Prelude.{int, structure, no_trees, tree_then, trees_of, shape, text_of, date_time_tag, AddsTree, Spells, SpellsAnywhere, Puts};
+ghost use Rattle.structures_encoder.specs.Prelude.{int, structure, no_trees, tree_then, trees_of, shape, text_of, date_time_tag, AddsTree, Spells, SpellsAnywhere, Puts};
 
 use crate::fault::{Spelled, Unspelled};
 use crate::scope::Scope;
 use crate::texts::{put_bits, put_number, put_opening, put_string};
-use cells::{Cell, tags};
 use packstream::writing::Output;
+use structures_cells::{Cell, tags};
 
 /// Spells integers, one after the other.
 pub(crate) fn put_ints(out: &mut Output, numbers: &[i64]) -> Spelled<()>

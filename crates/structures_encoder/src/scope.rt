@@ -1,6 +1,6 @@
 //! How a cell is spelled.
 ghost use Rattle.std.specs.Prelude.{IfOk};
-ghost use Rattle.speller.specs.Prelude.{IsInner};
+ghost use Rattle.structures_encoder.specs.Prelude.{IsInner};
 
 use crate::fault::{Spelled, Unspelled};
 use wire::Version;

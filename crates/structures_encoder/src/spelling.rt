@@ -1,15 +1,15 @@
 //! Cells, lists and dictionaries.
 ghost use Rattle.std.specs.Prelude.{OnOk};
-ghost use Rattle.speller.specs.Prelude.{shape, Spells, Puts, IsPassed, list_of, dict_of};
+ghost use Rattle.structures_encoder.specs.Prelude.{shape, Spells, Puts, IsPassed, list_of, dict_of};
 
 use crate::fault::{Spelled, Unspelled};
 use crate::graphs::put_structure;
 use crate::scope::Scope;
 use crate::texts::{put_bits, put_bytes, put_list_head, put_number, put_string};
-use cells::Cell;
 use packstream::MAX_SIZE;
 use packstream::twins::{Lookup, first_twin};
 use packstream::writing::{Output, put_head};
+use structures_cells::Cell;
 
 /// Spells a cell that nests within the room.
 #[cycle(speller)]

@@ -1,6 +1,6 @@
 //! Heads, integers, texts and bytes.
 ghost use Rattle.std.specs.Prelude.{◌≡◌, ◌≤◌, ◌<◌, ◌+◌, ◌^◌, ◌∷◌, [], ◌++◌, length, string_bytes, FitsSigned, OnOk};
-ghost use Rattle.speller.specs.Prelude.{w64, IsUtf8, big_bytes, head, long_head, int_bytes, text_bytes, AreBytes, Adds, Puts, PutsHead};
+ghost use Rattle.structures_encoder.specs.Prelude.{w64, IsUtf8, big_bytes, head, long_head, int_bytes, text_bytes, AreBytes, Adds, Puts, PutsHead};
 
 use crate::fault::{Spelled, Unspelled};
 use crate::scope::Scope;

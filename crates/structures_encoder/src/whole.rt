@@ -1,17 +1,17 @@
 //! Lists and dictionaries of cells.
 ghost use Rattle.std.specs.Prelude.{◌≡◌, ◌≤◌, ◌++◌, OnOk};
-ghost use Rattle.speller.specs.Prelude.{canon, IsGood, depth, shape, IsWritable, form, list_of, dict_of};
+ghost use Rattle.structures_encoder.specs.Prelude.{canon, IsGood, depth, shape, IsWritable, form, list_of, dict_of};
 
 use crate::fault::Spelled;
 use crate::scope::{Inside, Scope};
 use crate::spelling::{put_cells, put_entries};
-use cells::Cell;
 use packstream::writing::Output;
+use structures_cells::Cell;
 use wire::Version;
 
 /// Adds the shortest spelling of a list of these cells in the form of the version, which can be written there, is good and nests at most
 /// `room` deep.
-#[tactic(auto, using(crate::proofs::Sure::all_sure, cells::proofs::Fine::scan_fine))]
+#[tactic(auto, using(crate::proofs::Sure::all_sure, structures_cells::proofs::Fine::scan_fine))]
 #[inline(always)]
 pub fn put_list(out: &mut Output, version: Version, members: &[Cell], room: u8) -> Spelled<()>
     requires { room ≤ 32 }
@@ -32,7 +32,7 @@ pub fn put_list(out: &mut Output, version: Version, members: &[Cell], room: u8) 
 }
 
 /// Adds the shortest spelling of a dictionary of these entries, as `put_list` that of a list.
-#[tactic(auto, using(crate::proofs::Sure::under_sure, cells::proofs::Fine::scan_fine))]
+#[tactic(auto, using(crate::proofs::Sure::under_sure, structures_cells::proofs::Fine::scan_fine))]
 pub fn put_dict(
     out: &mut Output,
     version: Version,

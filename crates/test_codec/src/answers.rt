@@ -1,9 +1,9 @@
 //! What the tests of more than one crate ask of an answer.
 
 use bytes::BytesMut;
+use cli_scripts::read_request;
 use messages::Request;
 use packstream::{PackFault, Packed, Reason, encode, size};
-use scripts::read_request;
 use std::alloc::Global;
 use wire::Version;
 

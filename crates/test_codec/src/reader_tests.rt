@@ -1,7 +1,7 @@
 // What is read of bytes: by both decoders of packstream, and by the reader.
 use crate::answers::{gives, is_refused};
 use packstream::{PackFault, Packed, Reason, Value, decode, decode_front};
-use reader::{Reader, read_piece};
+use packstream_incremental::{Reader, read_piece};
 use std::alloc::{AllocError, Global};
 use std::test::*;
 

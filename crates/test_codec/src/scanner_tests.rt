@@ -3,11 +3,11 @@
 use crate::reader_tests::{DEEPEST, MANY_KEYS, TOO_DEEP};
 use bytes::BytesMut;
 use packstream::decode;
-use scanner::{scan_cell, scan_dict, scan_int, scan_list, scan_text};
-use speller::{Output, put_list};
 use std::alloc::Global;
 use std::test::*;
 use structures::{read, same};
+use structures_decoder::{scan_cell, scan_dict, scan_int, scan_list, scan_text};
+use structures_encoder::{Output, put_list};
 use wire::Version;
 
 /// Cells in the fewest bytes and in more.

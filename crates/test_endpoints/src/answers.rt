@@ -1,7 +1,7 @@
 //! What the tests of more than one crate ask of an answer.
 
+use cli_scripts::read_request;
 use messages::Request;
-use scripts::read_request;
 use std::alloc::Global;
 use std::fmt;
 use wire::Version;

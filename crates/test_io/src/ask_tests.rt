@@ -2,8 +2,8 @@
 use crate::heard::{Said, are_heard};
 use crate::requests::request;
 use crate::streams_of::{Drip, MANY, Trickle};
-use asks::ask_all;
 use client::{Client, Outcome};
+use client_blocking::ask_all;
 use machine::Phase;
 use std::alloc::Global;
 use std::test::*;

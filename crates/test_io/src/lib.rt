@@ -1,5 +1,5 @@
 //! Tests of whole conversations: the crate streams, by its public calls, and through failing streams; many connections at once over peers in
-//! memory; and of the crate scripts. A crate of their own, so that neither is proved twice.
+//! memory; and of the crate cli_scripts. A crate of their own, so that neither is proved twice.
 #![tactic(auto)]
 
 #[cfg(test)]

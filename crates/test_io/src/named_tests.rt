@@ -1,7 +1,7 @@
 //! The name that a server tells in its answer to HELLO, by the bytes.
 use engine::{FixedTable, Named, OneUser};
 use machine::State;
-use serves::{End, respond};
+use server_blocking::{End, respond};
 use std::test::Fail;
 
 /// A handshake for 5.1, and a HELLO; the version, and the SUCCESS with the name.

@@ -1,8 +1,8 @@
 //! What clients ask, by the lines of scripts.
 
+use cli_scripts::read_request;
 use client::Client;
 use messages::{Mode, Request};
-use scripts::read_request;
 use std::alloc::Global;
 use std::test::Fail;
 use wire::{Version, Wish};

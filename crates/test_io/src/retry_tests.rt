@@ -1,8 +1,8 @@
 //! What is known of a transaction under a token, by what its attempts tell.
 use crate::requests::{BEGIN_UNDER_NONE, PUT, request};
 use crate::streams_of::{MANY, Table, Trickle, server};
-use asks::{Told, ask_all};
 use client::{Client, Heard, Outcome, SubmitFault};
+use client_blocking::{Told, ask_all};
 use engine::Engine;
 use messages::{Request, Response};
 use std::alloc::Global;

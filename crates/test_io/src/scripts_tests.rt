@@ -1,6 +1,6 @@
 //! What lines say, and the texts of their faults and of a stream's.
 
-use scripts::*;
+use cli_scripts::*;
 use std::alloc::{AllocError, Global};
 use std::fmt;
 use std::test::*;

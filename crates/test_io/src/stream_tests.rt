@@ -3,8 +3,8 @@
 use crate::heard::{Said, are_heard, shown};
 use crate::requests::asking;
 use crate::streams_of::{Drip, MANY, Table, Trickle, served, server};
-use asks::ask_all;
 use client::Losses;
+use client_blocking::ask_all;
 use server::{Cause, Worked};
 use std::alloc::Global;
 use std::test::Fail;

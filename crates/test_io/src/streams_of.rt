@@ -6,7 +6,7 @@ ghost use Rattle.server.specs.Views.{rest_of};
 
 use engine::{Engine, FixedTable, OneUser};
 use server::{Cause, Server};
-use serves::serve_one;
+use server_blocking::serve_one;
 use std::alloc::Global;
 use std::test::Fail;
 use streams::{Failed, History, Sink, Source, StreamFault};

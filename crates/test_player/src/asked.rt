@@ -1,9 +1,9 @@
 //! A client with a pipeline, and a server for it.
 
+use cli_scripts::{Numbered, ScriptFault, read_requests};
 use client::{Client, ClientFault, SubmitFault};
 use engine::{FixedTable, OneUser};
 use messages::Request;
-use scripts::{Numbered, ScriptFault, read_requests};
 use server::{Refused, Server};
 use std::alloc::{AllocError, AllocFailed, Global};
 use wire::{Version, Wish};

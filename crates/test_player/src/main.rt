@@ -1,4 +1,4 @@
-//! The program `test_refusals`: plays scripts, a conversation of both ends, and the decoding and encoding of a value, each call given
+//! The program `test_player`: plays scripts, a conversation of both ends, and the decoding and encoding of a value, each call given
 //! again if it is refused for memory, for who refuses allocations from outside and compares what is told, and for who holds what is told
 //! against what clients may rely on. What is to be played comes on standard input, each parted from the next by a line `.`: `play N`,
 //! `mixed N` (each HELLO on a line of an odd number is one of another version) or `brought N`, and a script behind it, of which it tells all

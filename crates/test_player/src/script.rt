@@ -1,7 +1,7 @@
 //! The events of a script.
 
 use crate::asked::Unplayed;
-use scripts::{Amount, Line, Numbered, Peer as Said, Times, read_script};
+use cli_scripts::{Amount, Line, Numbered, Peer as Said, Times, read_script};
 use std::alloc::{AllocError, Global};
 use wire::{Version, Wish};
 use world::{Event, Peer};

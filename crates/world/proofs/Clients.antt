@@ -9,7 +9,7 @@ use Rattle.messages.specs.Prelude.{RequestView, request_spelling, IsWritten, Are
 use Rattle.messages.proofs.Rounds.{request_reads_back}
 use Rattle.messages.proofs.Sayings.{requests_are_made}
 use Rattle.engine.specs.Prelude.{EntryView}
-use Rattle.session.specs.Prelude.{Setting}
+use Rattle.server_session.specs.Prelude.{Setting}
 use Rattle.client.specs.Prelude.{writing_fault, writing_fault_by, Knows, refuses, Note, feed_of, Reading, knows_of, refusal_of, reading_of, Call, Submits, Feeds as FeedsCall, Loses, Run, starts, submits, used_of, call, calls, opened_bytes, tellings_in, Told}
 use Rattle.client.proofs.Refusing.{accepted_facts, accepted_written, knows_version}
 use Rattle.world.specs.Prelude.{Ours, input, Connection, wish_of, said_version, heard_by_bytes, Foreign, output, bytes_delivered, Peer, fresh, World, Event, Submit, Seen, Effect, place, IsMade, give, taken_for, Reached, Opens, effect_at_peer, taken_out, client_rest, IsFew, Ran, told_in, told_at, by_peer}

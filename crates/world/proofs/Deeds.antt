@@ -8,10 +8,10 @@ use Rattle.messages.specs.Prelude.{RequestView, Arrival, Asked, Unread, TooLong,
 use Rattle.machine.specs.declared.State.{State}
 use Rattle.machine.specs.Prelude.{interruptible}
 use Rattle.engine.specs.Prelude.{EntryView}
-use Rattle.session.specs.declared.Cause.{Cause}
-use Rattle.session.specs.declared.What.{What}
-use Rattle.session.specs.Rest as serving
-use Rattle.session.specs.Prelude.{Kept, Done, Ended, Step, worked_of, rests, replies, serves, turns, work_kept, after_interrupt, interrupts, reset_among, shut, full, commit_entries, Setting, Change, Open, no_result, Tx, no_tx, Reply, serve}
+use Rattle.server_session.specs.declared.Cause.{Cause}
+use Rattle.server_session.specs.declared.What.{What}
+use Rattle.server_session.specs.Rest as serving
+use Rattle.server_session.specs.Prelude.{Kept, Done, Ended, Step, worked_of, rests, replies, serves, turns, work_kept, after_interrupt, interrupts, reset_among, shut, full, commit_entries, Setting, Change, Open, no_result, Tx, no_tx, Reply, serve}
 use Rattle.client.specs.declared.SubmitFault.{SubmitFault}
 use Rattle.client.specs.Prelude.{refusal_of, Nothing}
 use Rattle.world.specs.Prelude.{Peer, Ours, Foreign, Connection, SaysNoop, fresh, answer_count, waiting, said_version, heard_by_bytes, kept_of, keeping, World, Event, Opens, Submit, ToServer, ToClient, Work, PutsNoop, Cut, ClientLost, ServerLost, Feeds, Seen, Opened, Submitted, Fed, Gave, SawWork, SawNoop, SawNothing, Refusal, V3, Effect, quiet, effect_of_submit, feed, to_server, takes, give, taken_for, effect_at_peer, said_by, effect_of_step, work, noop, server_gone, at_peer, after_effect, with_effect, at_conn, live, ledger, place, step, IsMade, IsCountedIn, taken_out, Reached, begins, goes_on, takes_out, told_in}

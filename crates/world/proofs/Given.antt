@@ -1,7 +1,7 @@
 -- What a client is asked, its loss, and bytes that reach a peer, at the link of its connection.
 use Rattle.std.proofs.Common.{◌≡◌, sym, ◌∙◌, ap, ℕ, Option, Some, None, Result, Ok, Err, List, ◌++◌, inr, refl, ap₂, subst, ◌+◌, ◌-◌, ◌≤◌, Bool, true, false, ◌||◌, inl, min, max, [], length, take, drop, slice_get, slice_set, arith, append-nil, length-drop, true≢false, if◌then◌else◌, option_map, ◌∷◌, ⊎_elim, ◌⊎◌}
 use Rattle.std.specs.declared.alloc.AllocError.{AllocError}
-use Rattle.session.specs.declared.Cause.{Cause}
+use Rattle.server_session.specs.declared.Cause.{Cause}
 use Rattle.server.specs.Serving as serving
 use Rattle.world.proofs.Answered as answered
 use Rattle.world.specs.Prelude.{Takes, Draws, Peer, Ours, Foreign, Connection, heard_by_bytes, output, bytes_delivered, wish_of, World, Effect, ToClient, Seen, Gave, SawNothing, Refusal, quiet, at_peer, ledger, after_effect, effect_at_peer, taken_for, give, to_client, drain, taken_out, Submit, ClientLost, Submitted, effect_of_submit, read_after, by_peer, client_rest, live_of, server_rest, Link, Rest, FitsClient, FitsLink, Answers, FitsEnd, link_of, end_peer, event_of, Definition, Before, Holds, Submits, LosesClient, after_loss, Turns, IsWrong}
@@ -14,7 +14,7 @@ use Rattle.wire.specs.Prelude.{reach, wish_version}
 use Rattle.messages.specs.Prelude.{hears, IsWritten, RequestView}
 use Rattle.engine.specs.Prelude.{EntryView, Welcome}
 use Rattle.server.specs.declared.Server.{Server}
-use Rattle.session.specs.Prelude.{Setting}
+use Rattle.server_session.specs.Prelude.{Setting}
 use Rattle.server.specs.Views as server
 use Rattle.client.specs.declared.ClientFault.{ClientFault}
 use Rattle.client.specs.declared.ClientFault.TheVariants as client_fault

@@ -3,8 +3,8 @@ use Rattle.std.proofs.Common.{◌==◌, ◌≡◌, ℕ, Some, List, refl, sym, �
 use Rattle.messages.specs.Prelude.{RequestView, Arrival, Asked}
 use Rattle.machine.specs.declared.State.{State}
 use Rattle.engine.specs.Prelude.{EntryView, TokensOnce, added_by, Welcome}
-use Rattle.session.proofs.Free.{entry_in, serve_free}
-use Rattle.session.specs.Prelude.{IsFree, Open, Reply, Setting, Summary, Tx, Change, commit_entries, Step, work_kept, worked_of}
+use Rattle.server_session.proofs.Free.{entry_in, serve_free}
+use Rattle.server_session.specs.Prelude.{IsFree, Open, Reply, Setting, Summary, Tx, Change, commit_entries, Step, work_kept, worked_of}
 use Rattle.world.specs.Prelude.{Connection, said_version, fresh, answer_count, input, output, kept_of, arrivals_at, Effect, IsCountedIn, effect_of_step, work, World, Event, Work, Seen, IsLedger, after_effect, effect_at_peer, ledger, place, step, taken_out, Reached, begins, goes_on, takes_out, Fed, SawWork, SawNoop, SawNothing, quiet, Gave, feed, give, taken_for, noop, server_gone, live, CommitsOnce, Each, IsAt, Enters, LeavesOthers, GrowsByWork, Commits, GrowsByCommits, server_rest, live_of, Definition, setting_of}
 use Rattle.world.proofs.Deeds.{replied, step_case, Deed, Did, opens, acts, step_did, set_other, feed_hushed, taken_case, feed_case, silent_step, noop_case}
 use Rattle.world.proofs.Serve.{Counted}

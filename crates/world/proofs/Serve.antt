@@ -11,11 +11,11 @@ use Rattle.messages.specs.Prelude.{responses, ResponseView, AuthView, RequestVie
 use Rattle.messages.specs.Summaries as summaries
 use Rattle.messages.proofs.Sayings.{means_told, told_says, responses_are_made}
 use Rattle.messages.proofs.Fitting.{reads_back}
-use Rattle.cells.specs.Prelude.{same_tree}
-use Rattle.cells.proofs.Equality.{bytes_are, trees_are}
-use Rattle.session.specs.Prelude.{same_cells, same_metadata, same_say, is_reading, are_bytes, is_text, fits, code_of, message_of, failure, of_query, Bye, Change, OneRow, Open, Reply, Setting, Summary, Tx, change_alone, change_inside, close, commits_as, commits_over, no_result, fails, fields_said, is_halted, if_fits, left_after, no_tx, perform, pull, query_mode, reply_to_hello, reply_to_login, reply_to_run, serve, succeeds, unwritable, used_up}
-use Rattle.session.proofs.Fitting.{fits_with_text}
-use Rattle.session.specs.declared.fault.Fault.{Fault}
+use Rattle.structures_cells.specs.Prelude.{same_tree}
+use Rattle.structures_cells.proofs.Equality.{bytes_are, trees_are}
+use Rattle.server_session.specs.Prelude.{same_cells, same_metadata, same_say, is_reading, are_bytes, is_text, fits, code_of, message_of, failure, of_query, Bye, Change, OneRow, Open, Reply, Setting, Summary, Tx, change_alone, change_inside, close, commits_as, commits_over, no_result, fails, fields_said, is_halted, if_fits, left_after, no_tx, perform, pull, query_mode, reply_to_hello, reply_to_login, reply_to_run, serve, succeeds, unwritable, used_up}
+use Rattle.server_session.proofs.Fitting.{fits_with_text}
+use Rattle.server_session.specs.declared.fault.Fault.{Fault}
 use Rattle.std.specs.List.{list_all}
 use Rattle.wire.specs.Prelude.{bytes_in_order, versions, hello_has_login}
 use Rattle.messages.specs.declared.MsgFault.TheVariants as msg_fault

@@ -6,8 +6,8 @@ use Rattle.messages.specs.Prelude.{RequestView, ResponseView, Arrival, Shook, No
 use Rattle.machine.specs.declared.State.{State}
 use Rattle.machine.specs.Prelude.{kind_of, is_reset}
 use Rattle.engine.specs.Prelude.{EntryView, WriteView, ParameterView, AnswerView, QueryFault, Welcome}
-use Rattle.session.specs.declared.Cause.{Cause}
-use Rattle.session.specs.Prelude.{Setting, Open, Tx, Reply, OneRow, Summary, Bye, Step, after_item, after_interrupt, ends, puts, puts_noop, noop_kept, unread_among, work_kept, Kept, worked_of, what_of, shut, full, commit_entries}
+use Rattle.server_session.specs.declared.Cause.{Cause}
+use Rattle.server_session.specs.Prelude.{Setting, Open, Tx, Reply, OneRow, Summary, Bye, Step, after_item, after_interrupt, ends, puts, puts_noop, noop_kept, unread_among, work_kept, Kept, worked_of, what_of, shut, full, commit_entries}
 use Rattle.server.specs.Prelude.{arrival, Feeding, feeding, takes_item, Live, find, replace, without, places_of}
 use Rattle.world.specs.Prelude.{Connection, SaysNoop, heard_as, said_version, output, arrivals_at, waiting, answer_count, kept_of, keeping, Peer, fresh, said_by, take_item, noop, live, World, Effect, Seen, quiet, Fed, SawNothing, takes, feed, server_gone, ledger, work, after_effect, live_of, sessions_from, server_rest}
 use Rattle.client.proofs.Steps.{drop_next}

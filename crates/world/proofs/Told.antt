@@ -2,7 +2,7 @@
 use Rattle.std.proofs.Common.{◌≡◌, refl, sym, ◌∙◌, ap, ap₂, subst, ℕ, ◌+◌, ◌<◌, Option, Some, None, List, [], ◌∷◌, length, slice_get, slice_index_or, arith, option_and_then, option_map, inl, inr, Result, Ok, Err, IsErr, OnOk, ◌++◌}
 use Rattle.world.proofs.Turning.{along_at, held_at, cause_is, still_there}
 use Rattle.engine.specs.Prelude.{EntryView, Welcome}
-use Rattle.session.specs.declared.Cause.{Cause}
+use Rattle.server_session.specs.declared.Cause.{Cause}
 use Rattle.client.specs.Prelude.{knows_of}
 use Rattle.world.specs.declared.link.Link.{Link as LinkHeld}
 use Rattle.world.specs.declared.report.Standing.{Standing as StandingTold}
@@ -14,7 +14,7 @@ use Rattle.world.proofs.Headline.{all_good}
 use Rattle.server.specs.Prelude.{Live, find}
 use Rattle.world.proofs.Served.{find_at}
 use Rattle.std.specs.declared.alloc.AllocError.{AllocError}
-use Rattle.session.specs.Prelude.{Setting}
+use Rattle.server_session.specs.Prelude.{Setting}
 use Rattle.world.specs.declared.kinds.Refused.{Refused}
 use Rattle.world.specs.declared.kinds.Refused.TheVariants.{NoSuchConnection, WrongPeer, SessionsFull, Memory}
 use Rattle.world.specs.declared.kinds.Seen.{Seen as SeenTold}

@@ -4,10 +4,10 @@ use Rattle.std.proofs.lemmas.Option.{some_pair_parts}
 use Rattle.std.proofs.lemmas.Bool.{cond-true, cond-false}
 use Rattle.wire.specs.declared.Wish.{Wish}
 use Rattle.engine.specs.Prelude.{EntryView, Welcome}
-use Rattle.session.specs.declared.Cause.{Cause}
-use Rattle.session.specs.declared.What.{What}
-use Rattle.session.specs.declared.Worked.{Worked}
-use Rattle.session.specs.Prelude.{work_kept, IsCounted}
+use Rattle.server_session.specs.declared.Cause.{Cause}
+use Rattle.server_session.specs.declared.What.{What}
+use Rattle.server_session.specs.declared.Worked.{Worked}
+use Rattle.server_session.specs.Prelude.{work_kept, IsCounted}
 use Rattle.server.specs.declared.Server.{Server}
 use Rattle.server.specs.declared.Took.{Took}
 use Rattle.server.specs.Serving as serving

@@ -3,8 +3,8 @@ use Rattle.std.proofs.Common.{◌≡◌, refl, ap, subst, ℕ, zero, suc, Some, 
 use Rattle.world.specs.Prelude.{Alongside, Link, Rest, FitsLink, Fits, cause_seen, Peer, Connection, fresh, Ours, Foreign, World, Event, Opens, Seen, Opened, V3, step, live, place, IsCountedIn, WStep, Reached, goes_on, Effect, quiet, at_peer, with_effect, at_conn, after_effect, ledger, empty, Answers, MayLack, Leaves, opened_link, FitsEnd, link_of, end_peer, seen_of, peer_of, client_of, IsOpened, live_of, server_rest, IsOpens, IsWrong, ComesWrong, Definition, Now, Before, setting_of, seen_in, Holds, IsWorld, Turns}
 use Rattle.std.proofs.lemmas.Bool.{cond-true, cond-false, cases_Bool}
 use Rattle.engine.specs.Prelude.{EntryView, Welcome}
-use Rattle.session.specs.Prelude.{Setting}
-use Rattle.session.specs.declared.Cause.{Cause}
+use Rattle.server_session.specs.Prelude.{Setting}
+use Rattle.server_session.specs.declared.Cause.{Cause}
 use Rattle.server.specs.Serving as serving
 use Rattle.world.proofs.Headline.{all_good, refuses_exactly}
 use Rattle.world.proofs.Sound.{Sound, reached_sound}

@@ -8,9 +8,9 @@ use Rattle.wire.specs.Framing.{bytes_in_order, bytes_newest_first}
 use Rattle.messages.specs.View.{RequestView, ResponseView}
 use Rattle.messages.specs.Arrivals.{Arrival, arrivals, request_bytes, Heard, Chosen, Quiet, heard_bytes}
 use Rattle.machine.specs.declared.State.{State}
-use Rattle.session.specs.declared.Cause.{Cause}
-use Rattle.session.specs.Session.{Open, no_result, Tx, no_tx}
-use Rattle.session.specs.Rest.{Written, Kept}
+use Rattle.server_session.specs.declared.Cause.{Cause}
+use Rattle.server_session.specs.Session.{Open, no_result, Tx, no_tx}
+use Rattle.server_session.specs.Rest.{Written, Kept}
 use Rattle.client.specs.Client.{Reading, reading_of}
 use Rattle.server.specs.Past.{places_of}
 

@@ -1,7 +1,7 @@
 -- What a step of a world answers, and what it leaves.
 use Rattle.std.specs.Prelude.{◌≡◌, ◌⊎◌, List, Result, Ok, Err, IsOk, IsErr, [], ◌∷◌, slice_get}
 use Rattle.engine.specs.Views.{EntryView}
-use Rattle.session.specs.Session.{Setting}
+use Rattle.server_session.specs.Session.{Setting}
 use Rattle.world.specs.declared.kinds.Refused.{Refused}
 use Rattle.world.specs.declared.kinds.Refused.TheVariants.{NoSuchConnection, WrongPeer, SessionsFull, Memory}
 use Rattle.world.specs.World.{World, Event, ToClient, Cut, ClientLost, Seen, V1, V2, V3, step, WStep, taken_out, Reached}

@@ -1,7 +1,7 @@
 -- What is taken out of a session, to be given to its peer.
 use Rattle.std.specs.Prelude.{◌≡◌, ◌⊎◌, ℕ, Option, Some, None, Result, Ok, Err, List, ◌++◌}
 use Rattle.std.specs.declared.alloc.AllocError.{AllocError}
-use Rattle.session.specs.declared.Cause.{Cause}
+use Rattle.server_session.specs.declared.Cause.{Cause}
 use Rattle.server.specs.Serving.{Rest, take_out_at}
 
 module _ {G : Type 0} where

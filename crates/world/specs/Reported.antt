@@ -2,7 +2,7 @@
 use Rattle.std.specs.Prelude.{◌≡◌, ℕ, Option, Some, None, List, length, map, slice_get}
 use Rattle.machine.specs.declared.State.{State}
 use Rattle.engine.specs.Views.{EntryView}
-use Rattle.session.specs.declared.Cause.{Cause}
+use Rattle.server_session.specs.declared.Cause.{Cause}
 use Rattle.server.specs.Serving as serving
 use Rattle.world.specs.declared.report.Connection.{Connection as ConnectionTold}
 use Rattle.world.specs.declared.report.Report.{Report as ReportLent}

@@ -3,8 +3,8 @@ use Rattle.std.specs.Prelude.{ℕ, zero, suc, false, if◌then◌else◌, Option
 use Rattle.machine.specs.declared.State.{State}
 use Rattle.machine.specs.declared.Phase.{Phase}
 use Rattle.machine.specs.States.{phase_of}
-use Rattle.session.specs.declared.Cause.{Cause}
-use Rattle.session.specs.declared.Worked.{Worked}
+use Rattle.server_session.specs.declared.Cause.{Cause}
+use Rattle.server_session.specs.declared.Worked.{Worked}
 use Rattle.client.specs.declared.Outcome.{Outcome}
 use Rattle.client.specs.Verdicts.{Told, GotRow, Got}
 use Rattle.client.specs.Rest.{losses}

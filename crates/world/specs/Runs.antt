@@ -1,7 +1,7 @@
 -- Lists of steps, and what was seen of each client on the way.
 use Rattle.std.specs.Prelude.{ℕ, ◌==◌, if◌then◌else◌, Ok, List, [], ◌∷◌, ◌++◌, slice_get}
 use Rattle.engine.specs.Views.{EntryView}
-use Rattle.session.specs.Session.{Setting}
+use Rattle.server_session.specs.Session.{Setting}
 use Rattle.client.specs.Verdicts.{Told}
 use Rattle.client.specs.Moments.{tellings}
 use Rattle.world.specs.World.{World, Event, Seen, Gave, WStep, IsLedger, place, empty, taken_out}

@@ -5,7 +5,7 @@ use Rattle.engine.specs.Views.{EntryView, WriteView, ParameterView, AnswerView, 
 use Rattle.engine.specs.Welcomes.{Welcome}
 use Rattle.server.specs.declared.Server.{Server}
 use Rattle.server.specs.Serving as serving
-use Rattle.session.specs.Session.{Setting}
+use Rattle.server_session.specs.Session.{Setting}
 use Rattle.server.specs.Views as server
 use Rattle.messages.specs.View.{RequestView}
 use Rattle.client.specs.Fits.{IsAccepted}

@@ -1,7 +1,7 @@
-use Rattle.scanner.proofs.Words.{◌≡◌, ◌-◌, ◌++◌, ◌∷◌, [], ap, ◌∙◌, List, ℕ, refl, rules, to_z, of_z, w64, map, arith, map_push, Tree, Knows, names, int, text, dict_at, list_at, layer, inner, entries_at, inner_more, items_done, entries_done, shape, shapes, entry, entries, node_shape, unbound_shape, node-roll, unbound-roll, relationship-roll, path-roll, form, form_entry, form_list}
-use Rattle.scanner.proofs.Laid.{has_fields, list_on}
-use Rattle.scanner.proofs.Members.{shape_of_int, members_on, entries_on, names_on}
-use Rattle.scanner.proofs.+scanner.Goals as goal
+use Rattle.structures_decoder.proofs.Words.{◌≡◌, ◌-◌, ◌++◌, ◌∷◌, [], ap, ◌∙◌, List, ℕ, refl, rules, to_z, of_z, w64, map, arith, map_push, Tree, Knows, names, int, text, dict_at, list_at, layer, inner, entries_at, inner_more, items_done, entries_done, shape, shapes, entry, entries, node_shape, unbound_shape, node-roll, unbound-roll, relationship-roll, path-roll, form, form_entry, form_list}
+use Rattle.structures_decoder.proofs.Laid.{has_fields, list_on}
+use Rattle.structures_decoder.proofs.Members.{shape_of_int, members_on, entries_on, names_on}
+use Rattle.structures_decoder.proofs.+scanner.Goals as goal
 
 pub dictionaries::dict_of-returns-in-0 : goal.dictionaries::dict_of-returns-in-0
 unfolding dict_at entries_at

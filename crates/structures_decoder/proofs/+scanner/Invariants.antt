@@ -1,7 +1,7 @@
-use Rattle.scanner.proofs.Words.{◌*◌, ◌+◌, ◌-◌, map, Knows, names, shapes, entries, node_shape, unbound_shape}
-use Rattle.scanner.proofs.Laid.{ReadSoFar}
-use Rattle.scanner.proofs.Members.{MembersSoFar, EntriesSoFar}
-use Rattle.scanner.proofs.+scanner.Given as goal
+use Rattle.structures_decoder.proofs.Words.{◌*◌, ◌+◌, ◌-◌, map, Knows, names, shapes, entries, node_shape, unbound_shape}
+use Rattle.structures_decoder.proofs.Laid.{ReadSoFar}
+use Rattle.structures_decoder.proofs.Members.{MembersSoFar, EntriesSoFar}
+use Rattle.structures_decoder.proofs.+scanner.Given as goal
 
 abbrev pub decreases-scan::list_of : goal.decreases-scan::list_of
 decreases-scan::list_of l = 6 * l.room + 1

@@ -1,7 +1,7 @@
-use Rattle.speller.proofs.Words.{◌∙◌, refl, length, rules, arith, lit<, head, out-Path, shape, node_shape, unbound_shape, node-out, unbound-out, relationship-out, path-out, Opens}
-use Rattle.speller.proofs.Adding.{last, none, then, as_is, one_more, one_member, one_pair, all_of, list_put, dict_put, structure_put}
-use Rattle.speller.proofs.Flat.{all_new}
-use Rattle.speller.proofs.+speller.Goals as goal
+use Rattle.structures_encoder.proofs.Words.{◌∙◌, refl, length, rules, arith, lit<, head, out-Path, shape, node_shape, unbound_shape, node-out, unbound-out, relationship-out, path-out, Opens}
+use Rattle.structures_encoder.proofs.Adding.{last, none, then, as_is, one_more, one_member, one_pair, all_of, list_put, dict_put, structure_put}
+use Rattle.structures_encoder.proofs.Flat.{all_new}
+use Rattle.structures_encoder.proofs.+speller.Goals as goal
 
 pub spelling::put_cells-loop-member-preserved : goal.spelling::put_cells-loop-member-preserved
 spelling::put_cells-loop-member-preserved t c =

@@ -1,6 +1,6 @@
-use Rattle.speller.proofs.Words.{◌≡◌, ◌+◌, ◌*◌, node_shape, unbound_shape, SpellsEach}
-use Rattle.speller.proofs.Adding.{Left, Members, Pairs}
-use Rattle.speller.proofs.+speller.Given as goal
+use Rattle.structures_encoder.proofs.Words.{◌≡◌, ◌+◌, ◌*◌, node_shape, unbound_shape, SpellsEach}
+use Rattle.structures_encoder.proofs.Adding.{Left, Members, Pairs}
+use Rattle.structures_encoder.proofs.+speller.Given as goal
 
 abbrev pub decreases-spelling::put_cells : goal.decreases-spelling::put_cells
 decreases-spelling::put_cells l = 4 * l.scope.room

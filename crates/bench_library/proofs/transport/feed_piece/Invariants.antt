@@ -1,5 +1,5 @@
 use Rattle.std.proofs.Common.{length}
-use Rattle.bench_calls.proofs.transport.feed_piece.Given as goal
+use Rattle.bench_library.proofs.transport.feed_piece.Given as goal
 
 -- each turn of the loop takes bytes of the piece
 abbrev pub decreases-loop-rest : goal.decreases-loop-rest

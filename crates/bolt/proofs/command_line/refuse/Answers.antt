@@ -1,6 +1,6 @@
 use Rattle.std.proofs.Common.{List, ℕ, ◌++◌, codes, sym, ap, ◌∙◌, subst}
-use Rattle.prints.specs.Prelude.{Gets}
-use Rattle.prints.proofs.Gets.{gets_then}
+use Rattle.cli_output.specs.Prelude.{Gets}
+use Rattle.cli_output.proofs.Gets.{gets_then}
 use Rattle.bolt.specs.Starting.{unread_text}
 use Rattle.bolt.proofs.command_line.refuse.Goals as goal
 

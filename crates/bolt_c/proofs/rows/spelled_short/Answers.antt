@@ -1,6 +1,6 @@
 use Rattle.std.proofs.Common.{◌≤◌, ◌∙◌, ap, [], ◌∷◌, ◌++◌, length, arith}
 use Rattle.packstream.specs.Prelude.{canon, list, trees_of}
-use Rattle.cells.specs.Prelude.{shapes}
+use Rattle.structures_cells.specs.Prelude.{shapes}
 use Rattle.structures.specs.Prelude.{form}
 use Rattle.bolt_c.proofs.RowTexts.{formed_row}
 use Rattle.bolt_c.proofs.rows.spelled_short.Goals as goal

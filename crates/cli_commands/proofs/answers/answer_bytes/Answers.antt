@@ -1,8 +1,8 @@
 use Rattle.std.proofs.Common.{◌≡◌, ap, ◌∙◌, ℕ, List, ◌&&◌, codes, bytes_eq}
 use Rattle.engine.specs.Prelude.{principal_of, credentials_of, ledger_of, fixed_answer, under_own_name, EntryView}
-use Rattle.serves.specs.Prelude.{Talk, conversation, end_of, setting_of}
-use Rattle.commands.specs.Answers.{talk_of}
-use Rattle.commands.proofs.answers.answer_bytes.Goals as goal
+use Rattle.server_blocking.specs.Prelude.{Talk, conversation, end_of, setting_of}
+use Rattle.cli_commands.specs.Answers.{talk_of}
+use Rattle.cli_commands.proofs.answers.answer_bytes.Goals as goal
 
 -- a conversation with a server that lets in one user
 abbrev talk_by : List ℕ → List ℕ → List EntryView → List ℕ → Talk

@@ -1,10 +1,10 @@
 use Rattle.std.proofs.Common.{Err, refl}
 use Rattle.packstream.specs.Prelude.{IsGood, Spells}
-use Rattle.cells.specs.Prelude.{shape}
+use Rattle.structures_cells.specs.Prelude.{shape}
 use Rattle.structures.proofs.Clauses.{reads_by}
 use Rattle.std.proofs.lemmas.Result.{IfOk-weaker}
-use Rattle.commands.proofs.Checkings.{refused_checks, unfit_is, written_checks}
-use Rattle.commands.proofs.checks.check.Goals as goal
+use Rattle.cli_commands.proofs.Checkings.{refused_checks, unfit_is, written_checks}
+use Rattle.cli_commands.proofs.checks.check.Goals as goal
 
 pub returns-in-Err : goal.returns-in-Err
 returns-in-Err c = c.refused.ensures c.args.version c.args.bytes.now (refused_checks c.args.bytes.now c.in-Err.fault c.decode.result c.in-Err.is c.decode.ensures.fault)

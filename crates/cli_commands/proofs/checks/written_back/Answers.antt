@@ -1,8 +1,8 @@
 use Rattle.std.proofs.Common.{Err, inr}
-use Rattle.cells.specs.Prelude.{shape}
+use Rattle.structures_cells.specs.Prelude.{shape}
 use Rattle.structures.proofs.Clauses.{writes_by}
 use Rattle.std.proofs.lemmas.Result.{IfOk-weaker}
-use Rattle.commands.proofs.checks.written_back.Goals as goal
+use Rattle.cli_commands.proofs.checks.written_back.Goals as goal
 
 pub returns-in-Err : goal.returns-in-Err
 returns-in-Err c =

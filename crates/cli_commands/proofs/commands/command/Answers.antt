@@ -1,5 +1,5 @@
 use Rattle.std.proofs.Common.{◌≡◌, ◌⊎◌, inl, inr, ℕ, Bool, true, false, ◌∙◌, sym}
-use Rattle.commands.proofs.commands.command.Goals as goal
+use Rattle.cli_commands.proofs.commands.command.Goals as goal
 
 -- with no failed stream the status is what was said
 status_said : (out err : Bool) (status said : ℕ) → (status ≡ said) ⊎ ((status ≡ 1) × ((out ≡ true) ⊎ (err ≡ true))) → out ≡ false → err ≡ false → status ≡ said

@@ -1,7 +1,7 @@
 use Rattle.std.proofs.Common.{ap, sym, ◌∙◌}
-use Rattle.commands.specs.Saying.{is_replay}
-use Rattle.commands.proofs.Inputs.{reads_none}
-use Rattle.commands.proofs.commands.say.Goals as goal
+use Rattle.cli_commands.specs.Saying.{is_replay}
+use Rattle.cli_commands.proofs.Inputs.{reads_none}
+use Rattle.cli_commands.proofs.commands.say.Goals as goal
 
 pub returns-in-Ok-clause-says : goal.returns-in-Ok-clause-says
 returns-in-Ok-clause-says g c = rw c.in-Ok.ensures c.say_command.ensures.says

@@ -1,5 +1,5 @@
-use Rattle.commands.proofs.Inputs.{reads_none}
-use Rattle.commands.proofs.commands.say_command.Goals as goal
+use Rattle.cli_commands.proofs.Inputs.{reads_none}
+use Rattle.cli_commands.proofs.commands.say_command.Goals as goal
 
 pub returns-in-Answer-clause-read : goal.returns-in-Answer-clause-read
 returns-in-Answer-clause-read g c = reads_none (g.S.Source.left c.args.input.now)

@@ -1,8 +1,8 @@
 -- One more vector has its line.
 use Rattle.std.proofs.Common.{◌≡◌, refl, ap, ◌∙◌, ℕ, ◌+◌, [], ◌∷◌, ◌++◌, length, length-append, arith}
-use Rattle.commands.specs.Saying.{vector_line}
-use Rattle.commands.proofs.Vectored.{lines_last, all_last}
-use Rattle.commands.proofs.commands.say_vectors.Goals as goal
+use Rattle.cli_commands.specs.Saying.{vector_line}
+use Rattle.cli_commands.proofs.Vectored.{lines_last, all_last}
+use Rattle.cli_commands.proofs.commands.say_vectors.Goals as goal
 
 pub loop-at-preserved : goal.loop-at-preserved
 loop-at-preserved c =

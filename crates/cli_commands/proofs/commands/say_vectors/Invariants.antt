@@ -1,7 +1,7 @@
 use Rattle.std.proofs.Common.{◌≡◌, Bool, List, length, string_bytes}
 use Rattle.std.specs.List.{list_all}
-use Rattle.commands.specs.Saying.{vector_lines}
-use Rattle.commands.proofs.commands.say_vectors.Given as goal
+use Rattle.cli_commands.specs.Saying.{vector_lines}
+use Rattle.cli_commands.proofs.commands.say_vectors.Given as goal
 
 -- so many have their lines
 abbrev pub invariant-loop-at : goal.invariant-loop-at

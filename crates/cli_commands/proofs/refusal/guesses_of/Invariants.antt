@@ -1,6 +1,6 @@
 use Rattle.std.proofs.Common.{◌≡◌, take, map, flat_map}
-use Rattle.commands.specs.Refusals.{guess}
-use Rattle.commands.proofs.refusal.guesses_of.Given as goal
+use Rattle.cli_commands.specs.Refusals.{guess}
+use Rattle.cli_commands.proofs.refusal.guesses_of.Given as goal
 
 -- the guesses of the names before it
 abbrev pub invariant-loop-name : goal.invariant-loop-name

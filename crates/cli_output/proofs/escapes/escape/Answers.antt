@@ -1,8 +1,8 @@
 use Rattle.std.proofs.lemmas.List.{map-id}
 use Rattle.std.proofs.lemmas.Iterator.{YieldsList-from_chars}
 use Rattle.std.proofs.lemmas.Iterator.Consumers.{YieldsList-end}
-use Rattle.prints.proofs.Escapings.{ap, ◌∙◌, sym, flat_map, encode_utf8_all, append-nil, flat_map-append, encodes-append, is_clean, shown, escaped_same, escaped_clean}
-use Rattle.prints.proofs.escapes.escape.Goals as goal
+use Rattle.cli_output.proofs.Escapings.{ap, ◌∙◌, sym, flat_map, encode_utf8_all, append-nil, flat_map-append, encodes-append, is_clean, shown, escaped_same, escaped_clean}
+use Rattle.cli_output.proofs.escapes.escape.Goals as goal
 
 pub loop-c-preserved : goal.loop-c-preserved
 loop-c-preserved c = rw (flat_map-append, append-nil, encodes-append, ← c.loop-c.invariant) c.in_ok-push_shown.ensures

@@ -1,6 +1,6 @@
-use Rattle.prints.proofs.Gets.{◌≡◌, subst, ◌+◌, [], ◌∷◌, ◌++◌, take, drop, arith, append-nil, Appends-trans}
-use Rattle.prints.proofs.Gets.{map-append, take_more, common_steps, flat_map-append, entries_view, AppendsFront, front_after, front_in, entries_text}
-use Rattle.prints.proofs.printed_lines.put_entries.Goals as goal
+use Rattle.cli_output.proofs.Gets.{◌≡◌, subst, ◌+◌, [], ◌∷◌, ◌++◌, take, drop, arith, append-nil, Appends-trans}
+use Rattle.cli_output.proofs.Gets.{map-append, take_more, common_steps, flat_map-append, entries_view, AppendsFront, front_after, front_in, entries_text}
+use Rattle.cli_output.proofs.printed_lines.put_entries.Goals as goal
 
 pub returns-in-Err-clause-front : goal.returns-in-Err-clause-front
 returns-in-Err-clause-front g c =

@@ -1,6 +1,6 @@
 use Rattle.std.specs.Io.KnownBytes.{Appends}
-use Rattle.prints.proofs.Gets.{take, entries_view, entries_text}
-use Rattle.prints.proofs.printed_lines.put_entries.Given as goal
+use Rattle.cli_output.proofs.Gets.{take, entries_view, entries_text}
+use Rattle.cli_output.proofs.printed_lines.put_entries.Given as goal
 
 -- those before it are printed
 abbrev pub invariant-loop-entry : goal.invariant-loop-entry

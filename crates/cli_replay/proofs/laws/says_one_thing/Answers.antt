@@ -1,5 +1,5 @@
-use Rattle.replays.proofs.Alike.{one_said}
-use Rattle.replays.proofs.laws.says_one_thing.Goals as goal
+use Rattle.cli_replay.proofs.Alike.{one_said}
+use Rattle.cli_replay.proofs.laws.says_one_thing.Goals as goal
 
 pub returns : goal.returns
 returns c = one_said

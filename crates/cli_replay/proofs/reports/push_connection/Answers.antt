@@ -1,7 +1,7 @@
 use Rattle.std.proofs.Common.{string_bytes}
 use Rattle.std.proofs.lemmas.Result.{on_ok_weaker}
-use Rattle.replays.proofs.Printing.{connection_is}
-use Rattle.replays.proofs.reports.push_connection.Goals as goal
+use Rattle.cli_replay.proofs.Printing.{connection_is}
+use Rattle.cli_replay.proofs.reports.push_connection.Goals as goal
 
 pub returns : goal.returns
 returns c = λ k is.

@@ -1,6 +1,6 @@
 use Rattle.std.proofs.Common.{ap, ◌∙◌, ◌++◌, string_bytes}
-use Rattle.replays.proofs.Printing.{connections_on, connections_all, connections_none}
-use Rattle.replays.proofs.reports.push_connections.Goals as goal
+use Rattle.cli_replay.proofs.Printing.{connections_on, connections_all, connections_none}
+use Rattle.cli_replay.proofs.reports.push_connections.Goals as goal
 
 pub loop-conn-init : goal.loop-conn-init
 loop-conn-init g c = λ gate brought w reached fits. connections_none (string_bytes c.args.text.now) w.conns

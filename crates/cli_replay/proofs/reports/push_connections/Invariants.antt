@@ -1,8 +1,8 @@
 use Rattle.std.proofs.Common.{◌≡◌, ◌++◌, List, take, string_bytes}
 use Rattle.engine.specs.Prelude.{EntryView}
 use Rattle.world.specs.Prelude.{World, Reached, FitsWorld, setting_of}
-use Rattle.replays.specs.Prelude.{connections_text}
-use Rattle.replays.proofs.reports.push_connections.Given as goal
+use Rattle.cli_replay.specs.Prelude.{connections_text}
+use Rattle.cli_replay.proofs.reports.push_connections.Given as goal
 
 abbrev pub invariant-loop-conn : goal.invariant-loop-conn
 invariant-loop-conn g l =

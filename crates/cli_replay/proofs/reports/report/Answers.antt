@@ -1,8 +1,8 @@
 use Rattle.std.proofs.Common.{ap, ◌∙◌, ◌++◌, flat_map}
 use Rattle.engine.specs.Prelude.{entries_view}
-use Rattle.prints.specs.Prelude.{entry_line}
-use Rattle.replays.specs.Prelude.{connections_text}
-use Rattle.replays.proofs.reports.report.Goals as goal
+use Rattle.cli_output.specs.Prelude.{entry_line}
+use Rattle.cli_replay.specs.Prelude.{connections_text}
+use Rattle.cli_replay.proofs.reports.report.Goals as goal
 
 pub returns : goal.returns
 returns g c = λ gate brought w reached fits.

@@ -1,9 +1,9 @@
 use Rattle.std.proofs.Common.{refl, rules, subst, List, []}
 use Rattle.engine.specs.Prelude.{user_welcome, ledger_of, fixed_answer, EntryView}
-use Rattle.scripts.specs.Prelude.{said_lines}
+use Rattle.cli_scripts.specs.Prelude.{said_lines}
 use Rattle.world.specs.Prelude.{Reached, empty, FitsWorld, setting_of}
-use Rattle.replays.proofs.Stepping.{lines_said}
-use Rattle.replays.proofs.script.say_lines.Goals as goal
+use Rattle.cli_replay.proofs.Stepping.{lines_said}
+use Rattle.cli_replay.proofs.script.say_lines.Goals as goal
 
 pub returns : goal.returns
 returns c =

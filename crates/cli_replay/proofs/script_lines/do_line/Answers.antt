@@ -1,9 +1,9 @@
 use Rattle.std.proofs.Common.{sym, ap, ◌∙◌, true, false, option_map}
-use Rattle.scripts.specs.Prelude.{line_view}
+use Rattle.cli_scripts.specs.Prelude.{line_view}
 use Rattle.world.specs.Prelude.{setting_of, event_of}
-use Rattle.replays.specs.Prelude.{event_by, version_at}
-use Rattle.replays.proofs.Stepping.{line_done}
-use Rattle.replays.proofs.script_lines.do_line.Goals as goal
+use Rattle.cli_replay.specs.Prelude.{event_by, version_at}
+use Rattle.cli_replay.proofs.Stepping.{line_done}
+use Rattle.cli_replay.proofs.script_lines.do_line.Goals as goal
 
 pub returns-then-again : goal.returns-then-again
 returns-then-again g c = λ gate brought w reached fits.

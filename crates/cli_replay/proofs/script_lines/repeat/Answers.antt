@@ -1,7 +1,7 @@
 use Rattle.std.proofs.Common.{sym, ◌∙◌}
-use Rattle.replays.specs.Prelude.{stays, moves_on}
-use Rattle.replays.proofs.Stepping.{leads_as}
-use Rattle.replays.proofs.script_lines.repeat.Goals as goal
+use Rattle.cli_replay.specs.Prelude.{stays, moves_on}
+use Rattle.cli_replay.proofs.Stepping.{leads_as}
+use Rattle.cli_replay.proofs.script_lines.repeat.Goals as goal
 
 pub loop-time-init : goal.loop-time-init
 loop-time-init g c = λ gate brought w reached fits. record { after = w; way = stays; reached = reached; fits = fits }

@@ -1,8 +1,8 @@
 use Rattle.std.proofs.Common.{List}
 use Rattle.engine.specs.Prelude.{EntryView}
 use Rattle.world.specs.Prelude.{World, Reached, event_of, FitsWorld, setting_of}
-use Rattle.replays.specs.Prelude.{Leads, Moves}
-use Rattle.replays.proofs.script_lines.repeat.Given as goal
+use Rattle.cli_replay.specs.Prelude.{Leads, Moves}
+use Rattle.cli_replay.proofs.script_lines.repeat.Given as goal
 
 abbrev pub invariant-loop-time : goal.invariant-loop-time
 invariant-loop-time g l =

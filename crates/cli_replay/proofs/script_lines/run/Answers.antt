@@ -1,10 +1,10 @@
 use Rattle.std.proofs.Common.{◌≡◌, ℕ, string_bytes, sym, subst, [], ◌∷◌, ◌++◌, option_map}
 use Rattle.std.proofs.lemmas.List.{map-append}
 use Rattle.world.specs.Prelude.{setting_of}
-use Rattle.scripts.specs.Prelude.{LineView, said_lines, line_view}
-use Rattle.replays.specs.Prelude.{Runs, runs_on, starts}
-use Rattle.replays.proofs.Stepping.{leads_as}
-use Rattle.replays.proofs.script_lines.run.Goals as goal
+use Rattle.cli_scripts.specs.Prelude.{LineView, said_lines, line_view}
+use Rattle.cli_replay.specs.Prelude.{Runs, runs_on, starts}
+use Rattle.cli_replay.proofs.Stepping.{leads_as}
+use Rattle.cli_replay.proofs.script_lines.run.Goals as goal
 
 pub loop-line-init : goal.loop-line-init
 loop-line-init g c = λ gate brought w reached fits.

@@ -1,9 +1,9 @@
 use Rattle.std.proofs.Common.{List, string_bytes}
 use Rattle.engine.specs.Prelude.{EntryView}
-use Rattle.scripts.specs.Prelude.{said_lines}
+use Rattle.cli_scripts.specs.Prelude.{said_lines}
 use Rattle.world.specs.Prelude.{World, Reached, FitsWorld, setting_of}
-use Rattle.replays.specs.Prelude.{Leads, Runs}
-use Rattle.replays.proofs.script_lines.run.Given as goal
+use Rattle.cli_replay.specs.Prelude.{Leads, Runs}
+use Rattle.cli_replay.proofs.script_lines.run.Given as goal
 
 abbrev pub invariant-loop-line : goal.invariant-loop-line
 invariant-loop-line g l =

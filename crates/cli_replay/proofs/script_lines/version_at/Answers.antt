@@ -1,8 +1,8 @@
 use Rattle.std.proofs.Common.{sym, ap, ◌∙◌}
 use Rattle.wire.specs.Prelude.{wish_version}
 use Rattle.world.specs.Prelude.{wish_of}
-use Rattle.replays.specs.Prelude.{version_of}
-use Rattle.replays.proofs.script_lines.version_at.Goals as goal
+use Rattle.cli_replay.specs.Prelude.{version_of}
+use Rattle.cli_replay.proofs.script_lines.version_at.Goals as goal
 
 pub returns-in-None : goal.returns-in-None
 returns-in-None g c = λ gate brought w reached fits. sym (ap version_of (c.in-None.ensures gate brought w reached fits))

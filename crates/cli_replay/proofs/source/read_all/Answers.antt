@@ -1,6 +1,6 @@
 use Rattle.std.proofs.Common.{◌++◌, take}
 use Rattle.std.proofs.KnownBytes.{Consumes-trans}
-use Rattle.replays.proofs.source.read_all.Goals as goal
+use Rattle.cli_replay.proofs.source.read_all.Goals as goal
 
 pub returns-then-is_err-clause-bytes : goal.returns-then-is_err-clause-bytes
 returns-then-is_err-clause-bytes g c =

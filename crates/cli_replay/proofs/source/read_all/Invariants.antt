@@ -1,5 +1,5 @@
 use Rattle.std.specs.Io.KnownBytes.{Consumes}
-use Rattle.replays.proofs.source.read_all.Given as goal
+use Rattle.cli_replay.proofs.source.read_all.Given as goal
 
 -- what was read so far
 abbrev pub invariant-loop-len : goal.invariant-loop-len

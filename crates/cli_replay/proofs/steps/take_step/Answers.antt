@@ -1,6 +1,6 @@
 use Rattle.world.specs.Prelude.{setting_of, event_of}
-use Rattle.replays.proofs.Stepping.{step_leads}
-use Rattle.replays.proofs.steps.take_step.Goals as goal
+use Rattle.cli_replay.proofs.Stepping.{step_leads}
+use Rattle.cli_replay.proofs.steps.take_step.Goals as goal
 
 pub returns : goal.returns
 returns g c = λ gate brought w reached fits.

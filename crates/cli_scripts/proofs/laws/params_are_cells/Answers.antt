@@ -1,5 +1,5 @@
-use Rattle.scripts.proofs.Dictionaries.{are_params}
-use Rattle.scripts.proofs.laws.params_are_cells.Goals as goal
+use Rattle.cli_scripts.proofs.Dictionaries.{are_params}
+use Rattle.cli_scripts.proofs.laws.params_are_cells.Goals as goal
 
 pub returns : goal.returns
 returns c = are_params

@@ -1,8 +1,8 @@
 use Rattle.std.proofs.Common.{Ok, Err, subst}
 use Rattle.structures.specs.Prelude.{Reads}
 use Rattle.structures.proofs.Clauses.{reads_by}
-use Rattle.scripts.proofs.Dictionaries.{cell_is, no_cell}
-use Rattle.scripts.proofs.params.cell_at.Goals as goal
+use Rattle.cli_scripts.proofs.Dictionaries.{cell_is, no_cell}
+use Rattle.cli_scripts.proofs.params.cell_at.Goals as goal
 
 pub returns-in-Ok : goal.returns-in-Ok
 returns-in-Ok c = cell_is c.args.version c.args.packed.now c.in-Ok.cell (reads_by c.args.version c.args.packed.now (Ok c.in-Ok.cell) c.in-Ok.ensures.cell c.in-Ok.ensures.fault c.in-Ok.ensures.memory)

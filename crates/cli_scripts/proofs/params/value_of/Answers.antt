@@ -2,7 +2,7 @@ use Rattle.std.proofs.Common.{refl, ap}
 use Rattle.std.specs.Result.{result_ok}
 use Rattle.packstream.proofs.Ranges.{bytes_from_each}
 use Rattle.packstream.proofs.Deciding.{whole_value, whole_fault}
-use Rattle.scripts.proofs.params.value_of.Goals as goal
+use Rattle.cli_scripts.proofs.params.value_of.Goals as goal
 
 pub returns-in-Ok : goal.returns-in-Ok
 returns-in-Ok c = ap result_ok ((whole_value c.args.bytes.now (bytes_from_each c.args.bytes.now c.type_inv.bytes) c.in-Ok.packed).1 ((c.in-Ok.ensures.value c.in-Ok.packed).0 refl))

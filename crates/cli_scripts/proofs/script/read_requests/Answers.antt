@@ -1,7 +1,7 @@
 use Rattle.std.proofs.Common.{[], sym, ◌∙◌, ◌+◌, subst, drop}
-use Rattle.scripts.specs.Prelude.{request_line_of, script_request_view, said_requests}
-use Rattle.scripts.proofs.Lines.{HasRead, texts, skips_line, reads_line, stops_line, pushed}
-use Rattle.scripts.proofs.script.read_requests.Goals as goal
+use Rattle.cli_scripts.specs.Prelude.{request_line_of, script_request_view, said_requests}
+use Rattle.cli_scripts.proofs.Lines.{HasRead, texts, skips_line, reads_line, stops_line, pushed}
+use Rattle.cli_scripts.proofs.script.read_requests.Goals as goal
 
 pub loop-before-preserved-then-is_empty : goal.loop-before-preserved-then-is_empty
 loop-before-preserved-then-is_empty c =

@@ -1,7 +1,7 @@
 use Rattle.std.proofs.Common.{◌+◌, drop, map}
-use Rattle.scripts.specs.Prelude.{request_line_of, said_requests}
-use Rattle.scripts.proofs.Lines.{HasRead}
-use Rattle.scripts.proofs.script.read_requests.Given as goal
+use Rattle.cli_scripts.specs.Prelude.{request_line_of, said_requests}
+use Rattle.cli_scripts.proofs.Lines.{HasRead}
+use Rattle.cli_scripts.proofs.script.read_requests.Given as goal
 
 -- the lines before it are read
 abbrev pub invariant-loop-before : goal.invariant-loop-before

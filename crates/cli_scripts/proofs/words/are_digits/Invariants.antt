@@ -1,6 +1,6 @@
 use Rattle.std.proofs.Common.{◌≡◌, drop}
 use Rattle.std.specs.Str.{all_ascii_digits}
-use Rattle.scripts.proofs.words.are_digits.Given as goal
+use Rattle.cli_scripts.proofs.words.are_digits.Given as goal
 
 -- the bytes before it are digits
 abbrev pub invariant-loop-byte : goal.invariant-loop-byte

@@ -1,7 +1,7 @@
 use Rattle.std.proofs.Common.{◌≡◌, drop, map}
 use Rattle.std.specs.List.{list_any}
-use Rattle.scripts.specs.Prelude.{is_empty}
-use Rattle.scripts.proofs.words.has_empty.Given as goal
+use Rattle.cli_scripts.specs.Prelude.{is_empty}
+use Rattle.cli_scripts.proofs.words.has_empty.Given as goal
 
 -- no word before it is empty
 abbrev pub invariant-loop-word : goal.invariant-loop-word

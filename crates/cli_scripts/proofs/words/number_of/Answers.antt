@@ -1,7 +1,7 @@
 use Rattle.std.proofs.Common.{◌≡◌, true, sym, ap, ◌∙◌}
-use Rattle.scripts.specs.Prelude.{is_decimal}
-use Rattle.scripts.proofs.Numbers.{parsed_number}
-use Rattle.scripts.proofs.words.number_of.Goals as goal
+use Rattle.cli_scripts.specs.Prelude.{is_decimal}
+use Rattle.cli_scripts.proofs.Numbers.{parsed_number}
+use Rattle.cli_scripts.proofs.words.number_of.Goals as goal
 
 pub returns : goal.returns
 returns c =

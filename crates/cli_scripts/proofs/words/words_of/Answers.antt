@@ -1,8 +1,8 @@
 use Rattle.std.proofs.Common.{◌≡◌, map, false, sym, ap, ◌∙◌, Some}
 use Rattle.std.specs.List.{list_any}
-use Rattle.scripts.specs.Prelude.{parts_of, is_empty}
-use Rattle.scripts.proofs.Parted.{no_words, whole_words}
-use Rattle.scripts.proofs.words.words_of.Goals as goal
+use Rattle.cli_scripts.specs.Prelude.{parts_of, is_empty}
+use Rattle.cli_scripts.proofs.Parted.{no_words, whole_words}
+use Rattle.cli_scripts.proofs.words.words_of.Goals as goal
 
 pub returns-in_default : goal.returns-in_default
 returns-in_default c = no_words c.args.line.now c.in_default.ensures.cases.0

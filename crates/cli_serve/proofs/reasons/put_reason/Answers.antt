@@ -1,6 +1,6 @@
 use Rattle.std.proofs.Common.{refl}
-use Rattle.prints.proofs.Gets.{gets_then}
-use Rattle.listening.proofs.reasons.put_reason.Goals as goal
+use Rattle.cli_output.proofs.Gets.{gets_then}
+use Rattle.cli_serve.proofs.reasons.put_reason.Goals as goal
 
 pub returns-clause-text : goal.returns-clause-text
 returns-clause-text g c =

@@ -3,9 +3,9 @@ use Rattle.client.specs.Prelude.{Note, note, Fits}
 use Rattle.streams.specs.declared.fault.StreamFault.{StreamFault}
 use Rattle.streams.specs.declared.fault.StreamFault.TheVariants.{ReadFailed, WriteFailed}
 use Rattle.std.specs.Result.{result_err}
-use Rattle.asks.specs.Prelude.{source_view, sink_view, Asks, GivesUp, hears_all}
-use Rattle.asks.proofs.Asked.{all_put, told_by_given, unless_err}
-use Rattle.asks.proofs.client_end.ask_all.Goals as goal
+use Rattle.client_blocking.specs.Prelude.{source_view, sink_view, Asks, GivesUp, hears_all}
+use Rattle.client_blocking.proofs.Asked.{all_put, told_by_given, unless_err}
+use Rattle.client_blocking.proofs.client_end.ask_all.Goals as goal
 
 pub returns-clause-asks : goal.returns-clause-asks
 returns-clause-asks g c = λ r f.

@@ -3,10 +3,10 @@ use Rattle.std.specs.Result.{result_err}
 use Rattle.std.specs.Io.KnownBytes.{Appends}
 use Rattle.client.specs.Prelude.{taken_out, note, Fits}
 use Rattle.streams.specs.declared.fault.StreamFault.{StreamFault}
-use Rattle.asks.specs.Prelude.{source_view, sink_view, Asks}
-use Rattle.asks.proofs.Views.{gives_nil}
-use Rattle.asks.proofs.Asked.{needed_taken, written_all}
-use Rattle.asks.proofs.client_end.converse.Goals as goal
+use Rattle.client_blocking.specs.Prelude.{source_view, sink_view, Asks}
+use Rattle.client_blocking.proofs.Views.{gives_nil}
+use Rattle.client_blocking.proofs.Asked.{needed_taken, written_all}
+use Rattle.client_blocking.proofs.client_end.converse.Goals as goal
 
 -- the output wasn't written
 pub returns-in_err-write_out-clause-asks : goal.returns-in_err-write_out-clause-asks

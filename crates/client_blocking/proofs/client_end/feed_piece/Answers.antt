@@ -1,10 +1,10 @@
 use Rattle.std.proofs.Common.{inl, sym, ap, subst, rules, Bool, Ok, Err, List, map}
 use Rattle.std.proofs.lemmas.List.{nil_from_length}
 use Rattle.client.specs.Prelude.{Note, note, Fits, Rest}
-use Rattle.asks.specs.Prelude.{FeedsPiece, after_all}
-use Rattle.asks.proofs.Tales.{Feeds, part_kept, part_goes_on, part_refused, part_broken}
-use Rattle.asks.proofs.Known.{holds, same}
-use Rattle.asks.proofs.client_end.feed_piece.Goals as goal
+use Rattle.client_blocking.specs.Prelude.{FeedsPiece, after_all}
+use Rattle.client_blocking.proofs.Tales.{Feeds, part_kept, part_goes_on, part_refused, part_broken}
+use Rattle.client_blocking.proofs.Known.{holds, same}
+use Rattle.client_blocking.proofs.client_end.feed_piece.Goals as goal
 
 pub returns-then-is_err-clause-feeds : goal.returns-then-is_err-clause-feeds
 returns-then-is_err-clause-feeds c = λ r f.

@@ -1,8 +1,8 @@
 use Rattle.std.proofs.Common.{refl, sym, ap, ◌∙◌, map, arith}
 use Rattle.client.specs.Prelude.{note, awaits, Fits, Rest}
-use Rattle.asks.specs.Prelude.{source_view, after_all}
-use Rattle.asks.proofs.Asked.{is_awaited, reads_none, stops_waiting, hears_more, hears_end, hears_fault}
-use Rattle.asks.proofs.client_end.read_on.Goals as goal
+use Rattle.client_blocking.specs.Prelude.{source_view, after_all}
+use Rattle.client_blocking.proofs.Asked.{is_awaited, reads_none, stops_waiting, hears_more, hears_end, hears_fault}
+use Rattle.client_blocking.proofs.client_end.read_on.Goals as goal
 
 pub loop-buffer-init : goal.loop-buffer-init
 loop-buffer-init g c = record {

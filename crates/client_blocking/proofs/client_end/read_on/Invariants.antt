@@ -1,8 +1,8 @@
 use Rattle.std.proofs.Common.{◌≡◌, true, map}
 use Rattle.client.specs.Prelude.{Rest, note, Fits}
-use Rattle.asks.specs.Prelude.{source_view, ReadsOn}
+use Rattle.client_blocking.specs.Prelude.{source_view, ReadsOn}
 use Rattle.streams.specs.Prelude.{StaysSound}
-use Rattle.asks.proofs.client_end.read_on.Given as goal
+use Rattle.client_blocking.proofs.client_end.read_on.Given as goal
 
 abbrev pub invariant-loop-buffer : goal.invariant-loop-buffer
 invariant-loop-buffer g l = record {

@@ -2,9 +2,9 @@ use Rattle.std.proofs.Common.{ap, sym, length, ◌∙◌, rules}
 use Rattle.std.specs.Io.KnownBytes.{Appends}
 use Rattle.streams.specs.Prelude.{AppendsFront, Grows, MovesFront}
 use Rattle.client.specs.Prelude.{Rest, taken_out}
-use Rattle.asks.specs.Prelude.{sink_view, PutsBytes, PutsFront}
-use Rattle.asks.proofs.Asked.{all_sent}
-use Rattle.asks.proofs.client_end.write_out.Goals as goal
+use Rattle.client_blocking.specs.Prelude.{sink_view, PutsBytes, PutsFront}
+use Rattle.client_blocking.proofs.Asked.{all_sent}
+use Rattle.client_blocking.proofs.client_end.write_out.Goals as goal
 
 pub returns-then-is_err-clause-out : goal.returns-then-is_err-clause-out
 returns-then-is_err-clause-out g c = λ r f.

@@ -1,5 +1,5 @@
-use Rattle.driver.proofs.Joined.{account_tells}
-use Rattle.driver.proofs.laws.account_tells.Goals as goal
+use Rattle.client_tracking.proofs.Joined.{account_tells}
+use Rattle.client_tracking.proofs.laws.account_tells.Goals as goal
 
 pub returns : goal.returns
 returns c = account_tells

@@ -1,5 +1,5 @@
-use Rattle.driver.proofs.Accounts.{accounts_by_bytes}
-use Rattle.driver.proofs.laws.accounts_by_bytes.Goals as goal
+use Rattle.client_tracking.proofs.Accounts.{accounts_by_bytes}
+use Rattle.client_tracking.proofs.laws.accounts_by_bytes.Goals as goal
 
 pub returns : goal.returns
 returns c = accounts_by_bytes

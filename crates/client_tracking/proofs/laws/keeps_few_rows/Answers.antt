@@ -1,5 +1,5 @@
-use Rattle.driver.proofs.FewRows.{keeps_few_rows}
-use Rattle.driver.proofs.laws.keeps_few_rows.Goals as goal
+use Rattle.client_tracking.proofs.FewRows.{keeps_few_rows}
+use Rattle.client_tracking.proofs.laws.keeps_few_rows.Goals as goal
 
 pub returns : goal.returns
 returns c = keeps_few_rows

@@ -1,10 +1,10 @@
 use Rattle.std.proofs.Common.{rules, ◌≡◌, sym, ◌∙◌, ap, Some, map, option_map, slice_index_or, slice_set}
 use Rattle.std.proofs.lemmas.Bool.{ne_eqb}
-use Rattle.driver.specs.Account.{ReplyView}
-use Rattle.driver.specs.Holding.{reply_view, row_view}
-use Rattle.driver.specs.declared.replies.Reply.{Reply}
-use Rattle.driver.proofs.Taking.{same_at, found_at, taken_at, one_more_other, all_other, none_found, none_taken}
-use Rattle.driver.proofs.replies.take_rows_in.Goals as goal
+use Rattle.client_tracking.specs.Account.{ReplyView}
+use Rattle.client_tracking.specs.Holding.{reply_view, row_view}
+use Rattle.client_tracking.specs.declared.replies.Reply.{Reply}
+use Rattle.client_tracking.proofs.Taking.{same_at, found_at, taken_at, one_more_other, all_other, none_found, none_taken}
+use Rattle.client_tracking.proofs.replies.take_rows_in.Goals as goal
 
 pub returns-then-index-ordinal-clause-rows : goal.returns-then-index-ordinal-clause-rows
 returns-then-index-ordinal-clause-rows c =

@@ -1,7 +1,7 @@
 use Rattle.std.proofs.Common.{◌≡◌, map, take}
-use Rattle.driver.specs.Holding.{reply_view}
-use Rattle.driver.proofs.Taking.{AllOther}
-use Rattle.driver.proofs.replies.take_rows_in.Given as goal
+use Rattle.client_tracking.specs.Holding.{reply_view}
+use Rattle.client_tracking.proofs.Taking.{AllOther}
+use Rattle.client_tracking.proofs.replies.take_rows_in.Given as goal
 
 abbrev pub invariant-loop-i : goal.invariant-loop-i
 invariant-loop-i l = AllOther l.ordinal (map reply_view (take l.i l.initial.replies.items)) × (l.replies ≡ l.initial.replies)

@@ -1,14 +1,14 @@
 use Rattle.std.proofs.Common.{◌≡◌, ◌∙◌, refl, sym, ap, subst, rules, arith, suc, ◌-◌, List, [], Ok, Result, map, length, append-nil, true≢false}
 use Rattle.std.proofs.lemmas.List.{length-map}
 use Rattle.messages.specs.Prelude.{RequestView, request_view}
-use Rattle.driver.specs.Account.{Account}
-use Rattle.driver.specs.Telling.{tells_of}
+use Rattle.client_tracking.specs.Account.{Account}
+use Rattle.client_tracking.specs.Telling.{tells_of}
 use Rattle.wire.specs.Prelude.{offer_of}
-use Rattle.connects.specs.declared.breaks.Break.{Break}
-use Rattle.connects.specs.Prelude.{stand_of, place, health, Exchanges, SendsInParts, asked_view, requests_of, streams, at_first}
-use Rattle.connects.proofs.Reading.{stand_is, seen_by}
-use Rattle.connects.proofs.Trying.{none_short, none_begun, offer_front, heard_quiet, some_requests, attempted, ok_of, none_over}
-use Rattle.connects.proofs.attempting.attempt_over.Goals as goal
+use Rattle.driver.specs.declared.breaks.Break.{Break}
+use Rattle.driver.specs.Prelude.{stand_of, place, health, Exchanges, SendsInParts, asked_view, requests_of, streams, at_first}
+use Rattle.driver.proofs.Reading.{stand_is, seen_by}
+use Rattle.driver.proofs.Trying.{none_short, none_begun, offer_front, heard_quiet, some_requests, attempted, ok_of, none_over}
+use Rattle.driver.proofs.attempting.attempt_over.Goals as goal
 
 -- no memory for a client: nothing was moved
 pub returns-in_default : goal.returns-in_default

@@ -1,8 +1,8 @@
 use Rattle.std.proofs.Common.{◌≡◌, Err, sym, subst, rules, Result}
-use Rattle.connects.specs.declared.breaks.Break.{Break}
-use Rattle.connects.specs.Prelude.{stand_of, place, Converses}
-use Rattle.connects.proofs.Reading.{says_unwritten, says_written}
-use Rattle.connects.proofs.exchanging.converse.Goals as goal
+use Rattle.driver.specs.declared.breaks.Break.{Break}
+use Rattle.driver.specs.Prelude.{stand_of, place, Converses}
+use Rattle.driver.proofs.Reading.{says_unwritten, says_written}
+use Rattle.driver.proofs.exchanging.converse.Goals as goal
 
 pub returns-in_err-write_out-clause-converses : goal.returns-in_err-write_out-clause-converses
 returns-in_err-write_out-clause-converses g c =

@@ -1,7 +1,7 @@
 use Rattle.std.proofs.Common.{refl}
-use Rattle.connects.specs.Prelude.{stand_of, lost_stand}
-use Rattle.connects.proofs.Reading.{stand_is}
-use Rattle.connects.proofs.exchanging.exchange.Goals as goal
+use Rattle.driver.specs.Prelude.{stand_of, lost_stand}
+use Rattle.driver.proofs.Reading.{stand_is}
+use Rattle.driver.proofs.exchanging.exchange.Goals as goal
 
 pub returns-in-Ok-clause-exchanges : goal.returns-in-Ok-clause-exchanges
 returns-in-Ok-clause-exchanges g c = record { answered = stand_of c.converse.new.tracking; converses = c.in-Ok.ensures.converses; settles = refl }

@@ -1,9 +1,9 @@
 use Rattle.std.proofs.Common.{inl, inr, sym, ◌∙◌, subst, Err, rules}
 use Rattle.std.proofs.lemmas.List.{nil_from_length}
-use Rattle.connects.specs.declared.breaks.Break.{Break}
-use Rattle.connects.specs.Prelude.{stand_of, heard_stand, Feeds}
-use Rattle.connects.proofs.Reading.{stand_is, part_none, part_on, part_refused, part_done}
-use Rattle.connects.proofs.exchanging.feed_piece.Goals as goal
+use Rattle.driver.specs.declared.breaks.Break.{Break}
+use Rattle.driver.specs.Prelude.{stand_of, heard_stand, Feeds}
+use Rattle.driver.proofs.Reading.{stand_is, part_none, part_on, part_refused, part_done}
+use Rattle.driver.proofs.exchanging.feed_piece.Goals as goal
 
 pub loop-rest-init : goal.loop-rest-init
 loop-rest-init c = part_none (stand_of c.args.tracking.now) c.args.piece.now

@@ -1,7 +1,7 @@
 use Rattle.std.proofs.Common.{sym, ◌∙◌, rules}
-use Rattle.connects.specs.Prelude.{stand_of}
-use Rattle.connects.proofs.Reading.{reads_none, reads_on, awaits_open}
-use Rattle.connects.proofs.exchanging.read_on.Goals as goal
+use Rattle.driver.specs.Prelude.{stand_of}
+use Rattle.driver.proofs.Reading.{reads_none, reads_on, awaits_open}
+use Rattle.driver.proofs.exchanging.read_on.Goals as goal
 
 pub loop-buffer-init : goal.loop-buffer-init
 loop-buffer-init g c = record { reads = reads_none (stand_of c.args.tracking.now) (g.I.Source.given c.args.source.now); sound = λ h. h; stays = λ h. h }

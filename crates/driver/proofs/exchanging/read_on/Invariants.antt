@@ -1,7 +1,7 @@
 use Rattle.std.proofs.Common.{◌≡◌, true, Ok}
 use Rattle.streams.specs.Prelude.{StaysSound}
-use Rattle.connects.specs.Prelude.{stand_of, ReadsOn}
-use Rattle.connects.proofs.exchanging.read_on.Given as goal
+use Rattle.driver.specs.Prelude.{stand_of, ReadsOn}
+use Rattle.driver.proofs.exchanging.read_on.Given as goal
 
 abbrev pub invariant-loop-buffer : goal.invariant-loop-buffer
 invariant-loop-buffer g l = record {

@@ -1,9 +1,9 @@
 use Rattle.std.proofs.Common.{ℕ, rules, subst, take}
 use Rattle.streams.specs.Moving.{Grows}
-use Rattle.connects.specs.declared.breaks.Break.TheVariants as break
-use Rattle.connects.specs.Prelude.{stand_of}
-use Rattle.connects.proofs.Reading.{reads_piece, reads_kept, reads_empty}
-use Rattle.connects.proofs.exchanging.read_piece.Goals as goal
+use Rattle.driver.specs.declared.breaks.Break.TheVariants as break
+use Rattle.driver.specs.Prelude.{stand_of}
+use Rattle.driver.proofs.Reading.{reads_piece, reads_kept, reads_empty}
+use Rattle.driver.proofs.exchanging.read_piece.Goals as goal
 
 pub returns-in_default-clause-reads : goal.returns-in_default-clause-reads
 returns-in_default-clause-reads g c = reads_kept (stand_of c.args.tracking.now) (g.I.Source.given c.args.source.now) (g.I.Source.given c.read.new.self) break.ReadFailed c.in_default.ensures.moves

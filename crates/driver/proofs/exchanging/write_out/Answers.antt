@@ -1,9 +1,9 @@
 use Rattle.std.proofs.Common.{◌≡◌, subst, rules, List, ℕ}
 use Rattle.streams.specs.Moving.{Grows}
 use Rattle.streams.specs.Prelude.{MovesFront}
-use Rattle.connects.specs.Prelude.{stand_of, emptied_stand}
-use Rattle.connects.proofs.Reading.{stand_is}
-use Rattle.connects.proofs.exchanging.write_out.Goals as goal
+use Rattle.driver.specs.Prelude.{stand_of, emptied_stand}
+use Rattle.driver.proofs.Reading.{stand_is}
+use Rattle.driver.proofs.exchanging.write_out.Goals as goal
 
 pub returns-then-is_err-clause-out : goal.returns-then-is_err-clause-out
 returns-then-is_err-clause-out g c =

@@ -3,10 +3,10 @@ use Rattle.std.proofs.lemmas.List.{map-append, nil_from_length, length-map}
 use Rattle.streams.proofs.Parts.{all_done}
 use Rattle.messages.specs.declared.Request.{Request}
 use Rattle.messages.specs.Prelude.{RequestView, request_view}
-use Rattle.connects.specs.Prelude.{stand_of, place, health, SendsInParts}
-use Rattle.connects.proofs.Reading.{stand_is, seen_by}
-use Rattle.connects.proofs.Parting.{SoAsked, none_asked, room_made, no_room, one_more, none_more, all_sent}
-use Rattle.connects.proofs.parts.send_in_parts.Goals as goal
+use Rattle.driver.specs.Prelude.{stand_of, place, health, SendsInParts}
+use Rattle.driver.proofs.Reading.{stand_is, seen_by}
+use Rattle.driver.proofs.Parting.{SoAsked, none_asked, room_made, no_room, one_more, none_more, all_sent}
+use Rattle.driver.proofs.parts.send_in_parts.Goals as goal
 
 pub loop-request-init : goal.loop-request-init
 loop-request-init g c = record { parts = c.into_iter-request-iterator.ensures.into_iter_gives.0; asked = none_asked _ c.requires.quiet }

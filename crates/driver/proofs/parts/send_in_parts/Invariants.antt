@@ -1,8 +1,8 @@
 use Rattle.std.proofs.Common.{◌≡◌, ◌++◌, map}
 use Rattle.messages.specs.Prelude.{request_view}
-use Rattle.connects.specs.Prelude.{stand_of, place}
-use Rattle.connects.proofs.Parting.{SoAsked}
-use Rattle.connects.proofs.parts.send_in_parts.Given as goal
+use Rattle.driver.specs.Prelude.{stand_of, place}
+use Rattle.driver.proofs.Parting.{SoAsked}
+use Rattle.driver.proofs.parts.send_in_parts.Given as goal
 
 abbrev pub invariant-loop-request : goal.invariant-loop-request
 invariant-loop-request g l = record {

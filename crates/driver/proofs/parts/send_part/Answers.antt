@@ -1,9 +1,9 @@
 use Rattle.std.proofs.Common.{sym, ◌∙◌, rules}
-use Rattle.connects.specs.Prelude.{stand_of, place, health}
-use Rattle.connects.proofs.Reading.{seen_by}
-use Rattle.connects.proofs.Trying.{ok_of}
-use Rattle.connects.proofs.Parting.{broken_undone, found_undone}
-use Rattle.connects.proofs.parts.send_part.Goals as goal
+use Rattle.driver.specs.Prelude.{stand_of, place, health}
+use Rattle.driver.proofs.Reading.{seen_by}
+use Rattle.driver.proofs.Trying.{ok_of}
+use Rattle.driver.proofs.Parting.{broken_undone, found_undone}
+use Rattle.driver.proofs.parts.send_part.Goals as goal
 
 pub returns-then-is_err : goal.returns-then-is_err
 returns-then-is_err g c =

@@ -2,10 +2,10 @@ use Rattle.std.proofs.Common.{◌≡◌, ◌∷◌, ◌<◌, ◌^◌, refl, sym,
 use Rattle.std.specs.Result.{result_err}
 use Rattle.messages.specs.Prelude.{request_view}
 use Rattle.client.specs.declared.SubmitFault.{SubmitFault}
-use Rattle.connects.specs.Prelude.{stand_of, AsksAll}
-use Rattle.connects.proofs.Reading.{stand_is}
-use Rattle.connects.proofs.Asking.{asked_none, asked_stops, asks_then, accepted_short}
-use Rattle.connects.proofs.pipelines.ask_all.Goals as goal
+use Rattle.driver.specs.Prelude.{stand_of, AsksAll}
+use Rattle.driver.proofs.Reading.{stand_is}
+use Rattle.driver.proofs.Asking.{asked_none, asked_stops, asks_then, accepted_short}
+use Rattle.driver.proofs.pipelines.ask_all.Goals as goal
 
 pub returns-in_err-ordinal-clause-asks : goal.returns-in_err-ordinal-clause-asks
 returns-in_err-ordinal-clause-asks c =

@@ -4,10 +4,10 @@ use Rattle.std.proofs.lemmas.List.{map-append, nil_from_length}
 use Rattle.streams.proofs.Parts.{all_done}
 use Rattle.messages.specs.Prelude.{RequestView, request_view}
 use Rattle.client.specs.declared.SubmitFault.{SubmitFault}
-use Rattle.connects.specs.Prelude.{stand_of, AsksAll}
-use Rattle.connects.proofs.Reading.{stand_is}
-use Rattle.connects.proofs.Asking.{AskedSoFar, asked_none, asked_on, asked_stops}
-use Rattle.connects.proofs.pipelines.ask_each.Goals as goal
+use Rattle.driver.specs.Prelude.{stand_of, AsksAll}
+use Rattle.driver.proofs.Reading.{stand_is}
+use Rattle.driver.proofs.Asking.{AskedSoFar, asked_none, asked_on, asked_stops}
+use Rattle.driver.proofs.pipelines.ask_each.Goals as goal
 
 pub loop-request-init : goal.loop-request-init
 loop-request-init c = record { parts = c.into_iter-request-iterator.ensures.into_iter_gives.0; asked = asked_none (stand_of c.args.tracking.now) }

@@ -1,8 +1,8 @@
 use Rattle.std.proofs.Common.{◌≡◌, ◌++◌, map}
 use Rattle.messages.specs.Prelude.{request_view}
-use Rattle.connects.specs.Prelude.{stand_of}
-use Rattle.connects.proofs.Asking.{AskedSoFar}
-use Rattle.connects.proofs.pipelines.ask_each.Given as goal
+use Rattle.driver.specs.Prelude.{stand_of}
+use Rattle.driver.proofs.Asking.{AskedSoFar}
+use Rattle.driver.proofs.pipelines.ask_each.Given as goal
 
 abbrev pub invariant-loop-request : goal.invariant-loop-request
 invariant-loop-request l = record {

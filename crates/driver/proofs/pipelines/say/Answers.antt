@@ -1,9 +1,9 @@
 use Rattle.std.proofs.Common.{◌+◌, ◌∷◌, ap, rules, map, arith}
 use Rattle.std.proofs.lemmas.List.{length-map}
 use Rattle.messages.specs.Prelude.{request_view}
-use Rattle.connects.specs.Prelude.{Stand, stand_of, place}
-use Rattle.connects.proofs.Asking.{all_said, none_said}
-use Rattle.connects.proofs.pipelines.say.Goals as goal
+use Rattle.driver.specs.Prelude.{Stand, stand_of, place}
+use Rattle.driver.proofs.Asking.{all_said, none_said}
+use Rattle.driver.proofs.pipelines.say.Goals as goal
 
 pub returns-in-Err-clause-says : goal.returns-in-Err-clause-says
 returns-in-Err-clause-says g c =

@@ -1,8 +1,8 @@
 use Rattle.std.proofs.Common.{◌≡◌, ◌++◌, ◌∷◌, [], map, rules}
 use Rattle.messages.specs.Prelude.{request_view}
-use Rattle.driver.specs.Asking.{rows_view}
-use Rattle.connects.proofs.Adding.{one_added}
-use Rattle.connects.proofs.queries.add_queries.Goals as goal
+use Rattle.client_tracking.specs.Asking.{rows_view}
+use Rattle.driver.proofs.Adding.{one_added}
+use Rattle.driver.proofs.queries.add_queries.Goals as goal
 
 pub loop-query-preserved : goal.loop-query-preserved
 loop-query-preserved c =

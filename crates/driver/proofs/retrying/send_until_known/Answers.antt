@@ -1,12 +1,12 @@
 use Rattle.std.proofs.Common.{refl, rules, ◌≡◌, sym, ◌∙◌, ap, suc, true, false, [], ◌∷◌, arith}
-use Rattle.driver.specs.declared.attempts.Tells.TheVariants as tells
-use Rattle.driver.specs.declared.attempts.Retry.TheVariants as retry
-use Rattle.driver.specs.declared.attempts.Fate.TheVariants as fate
-use Rattle.driver.specs.Fates.{fate_of}
-use Rattle.driver.proofs.Fates.{stands, clashes, refuses, refused_after_doubt, nothing, doubts, stays_open, open_at_end, absent_at_end}
-use Rattle.connects.proofs.Retried.{not_tried, tried, is_known, is_over}
-use Rattle.connects.proofs.retrying.send_until_known.Goals as goal
-use Rattle.connects.proofs.retrying.send_until_known.Goals.{in-Refused+else-not-doubtful, in-Nothing, in-Doubt+in-Tokens}
+use Rattle.client_tracking.specs.declared.attempts.Tells.TheVariants as tells
+use Rattle.client_tracking.specs.declared.attempts.Retry.TheVariants as retry
+use Rattle.client_tracking.specs.declared.attempts.Fate.TheVariants as fate
+use Rattle.client_tracking.specs.Fates.{fate_of}
+use Rattle.client_tracking.proofs.Fates.{stands, clashes, refuses, refused_after_doubt, nothing, doubts, stays_open, open_at_end, absent_at_end}
+use Rattle.driver.proofs.Retried.{not_tried, tried, is_known, is_over}
+use Rattle.driver.proofs.retrying.send_until_known.Goals as goal
+use Rattle.driver.proofs.retrying.send_until_known.Goals.{in-Refused+else-not-doubtful, in-Nothing, in-Doubt+in-Tokens}
 
 pub loop-init : goal.loop-init
 loop-init g c = record { so = not_tried _ c.args.retry _ c.args.tries; given_back = refl }

@@ -1,7 +1,7 @@
 use Rattle.std.proofs.Common.{◌≡◌}
-use Rattle.connects.specs.Attempting.{asked_view}
-use Rattle.connects.proofs.Retried.{SoTried}
-use Rattle.connects.proofs.retrying.send_until_known.Given as goal
+use Rattle.driver.specs.Attempting.{asked_view}
+use Rattle.driver.proofs.Retried.{SoTried}
+use Rattle.driver.proofs.retrying.send_until_known.Given as goal
 
 abbrev pub invariant-loop : goal.invariant-loop
 invariant-loop g l = record {

@@ -1,7 +1,7 @@
 use Rattle.std.proofs.Common.{refl, ◌∙◌, ap, None, Some, [], ◌∷◌, ◌++◌, append-nil}
-use Rattle.connects.specs.Prelude.{health, Streams, streams, Ending, ending, asked_view, made_at}
-use Rattle.connects.proofs.Retried.{from_first}
-use Rattle.connects.proofs.retrying.try_once.Goals as goal
+use Rattle.driver.specs.Prelude.{health, Streams, streams, Ending, ending, asked_view, made_at}
+use Rattle.driver.proofs.Retried.{from_first}
+use Rattle.driver.proofs.retrying.try_once.Goals as goal
 
 pub returns-in-Some-clause-tries : goal.returns-in-Some-clause-tries
 returns-in-Some-clause-tries g c =

@@ -1,4 +1,4 @@
-use Rattle.connects.proofs.values.as_list.Goals as goal
+use Rattle.driver.proofs.values.as_list.Goals as goal
 
 pub returns-in-List : goal.returns-in-List
 returns-in-List c = (c.in-List.cells, c.in-List.is, c.as_slice.ensures.value)

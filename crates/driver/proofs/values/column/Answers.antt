@@ -1,6 +1,6 @@
 use Rattle.std.proofs.Common.{sym, ◌∙◌}
-use Rattle.connects.proofs.Columns.{column_next, row_ends}
-use Rattle.connects.proofs.values.column.Goals as goal
+use Rattle.driver.proofs.Columns.{column_next, row_ends}
+use Rattle.driver.proofs.values.column.Goals as goal
 
 pub returns-then-i-row : goal.returns-then-i-row
 returns-then-i-row c = sym (row_ends c.args.name.now c.args.fields.now c.args.row.now c.loop-i.i c.if-i-row.true) ∙ c.loop-i.invariant

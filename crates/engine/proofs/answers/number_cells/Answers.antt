@@ -1,5 +1,5 @@
 use Rattle.std.proofs.Common.{◌<◌, ◌+◌, ◌^◌, arith, rules, to_z, w64}
-use Rattle.cells.specs.declared.cell.Cell.{Int}
+use Rattle.structures_cells.specs.declared.cell.Cell.{Int}
 use Rattle.engine.proofs.Reading.{cells_more, shape-number}
 use Rattle.engine.proofs.answers.number_cells.Goals as goal
 

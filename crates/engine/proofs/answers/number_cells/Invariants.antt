@@ -1,5 +1,5 @@
 use Rattle.std.proofs.Common.{◌≡◌}
-use Rattle.cells.specs.Prelude.{shapes}
+use Rattle.structures_cells.specs.Prelude.{shapes}
 use Rattle.engine.specs.Prelude.{numbers}
 use Rattle.engine.proofs.answers.number_cells.Given as goal
 

@@ -1,6 +1,6 @@
 use Rattle.std.proofs.Common.{◌≡◌, ◌++◌, map}
 use Rattle.packstream.specs.Prelude.{text}
-use Rattle.cells.specs.Prelude.{shapes}
+use Rattle.structures_cells.specs.Prelude.{shapes}
 use Rattle.engine.proofs.answers.push_added.Given as goal
 
 abbrev pub invariant-loop-key : goal.invariant-loop-key

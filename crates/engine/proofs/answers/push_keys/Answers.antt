@@ -2,8 +2,8 @@ use Rattle.std.proofs.Common.{◌≡◌, ◌++◌, ◌∷◌, ap, ◌∙◌, map
 use Rattle.std.specs.Map.{keys_of}
 use Rattle.packstream.specs.Prelude.{text}
 use Rattle.engine.specs.Prelude.{pairs_view}
-use Rattle.cells.specs.Prelude.{shapes}
-use Rattle.cells.specs.declared.cell.Cell.{Text}
+use Rattle.structures_cells.specs.Prelude.{shapes}
+use Rattle.structures_cells.specs.declared.cell.Cell.{Text}
 use Rattle.engine.proofs.Laying.{keys_view, keys_next}
 use Rattle.engine.proofs.Reading.{shape-text}
 use Rattle.engine.proofs.answers.push_keys.Goals as goal

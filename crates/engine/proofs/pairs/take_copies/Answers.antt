@@ -1,7 +1,7 @@
 use Rattle.std.proofs.Common.{◌≡◌, [], ap, sym, ◌∙◌, map}
 use Rattle.std.proofs.lemmas.List.{nil_from_length}
 use Rattle.std.specs.Vec.Iter.{into_iter_items}
-use Rattle.cells.specs.Prelude.{entry}
+use Rattle.structures_cells.specs.Prelude.{entry}
 use Rattle.engine.specs.Prelude.{after_values}
 use Rattle.engine.proofs.Placing.{inserted, view-inserted}
 use Rattle.engine.proofs.pairs.take_copies.Goals as goal

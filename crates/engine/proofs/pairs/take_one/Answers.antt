@@ -1,5 +1,5 @@
 use Rattle.std.proofs.Common.{◌≡◌, [], ap, sym, ◌∙◌, map, string_bytes, rules}
-use Rattle.cells.specs.Prelude.{shape, entry}
+use Rattle.structures_cells.specs.Prelude.{shape, entry}
 use Rattle.engine.specs.Prelude.{with_write}
 use Rattle.engine.proofs.Placing.{taken_present, view-insert_entry}
 use Rattle.engine.proofs.pairs.take_one.Goals as goal

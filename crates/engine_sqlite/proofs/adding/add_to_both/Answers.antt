@@ -1,12 +1,12 @@
 use Rattle.std.proofs.Common.{◌≡◌, refl, sym, ap, subst, rules, ◌+◌, ◌++◌, ◌∷◌, [], length}
 use Rattle.engine.specs.Views.{entry_of, token_view}
-use Rattle.lasting.specs.Ledger.{HoldsLedger, IsRowOf, Lasts, LeavesEither}
-use Rattle.lasting.specs.Table.{row_of}
-use Rattle.lasting.proofs.Keeping.{added, either, left, survives}
+use Rattle.engine_sqlite.specs.Ledger.{HoldsLedger, IsRowOf, Lasts, LeavesEither}
+use Rattle.engine_sqlite.specs.Table.{row_of}
+use Rattle.engine_sqlite.proofs.Keeping.{added, either, left, survives}
 use Rattle.sqlite.specs.Held.{state}
 use Rattle.sqlite.specs.State.{Survives}
 use Rattle.sqlite.proofs.Callers.{survives_begin}
-use Rattle.lasting.proofs.adding.add_to_both.Goals as goal
+use Rattle.engine_sqlite.proofs.adding.add_to_both.Goals as goal
 
 pub returns-in-Ok-commit-clause-lasts : goal.returns-in-Ok-commit-clause-lasts
 returns-in-Ok-commit-clause-lasts g c h =

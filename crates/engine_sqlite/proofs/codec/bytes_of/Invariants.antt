@@ -1,7 +1,7 @@
 use Rattle.std.proofs.Common.{take}
 use Rattle.engine.specs.Prelude.{writes_view}
-use Rattle.lasting.specs.Spelled.{SpellsWrites}
-use Rattle.lasting.proofs.codec.bytes_of.Given as goal
+use Rattle.engine_sqlite.specs.Spelled.{SpellsWrites}
+use Rattle.engine_sqlite.proofs.codec.bytes_of.Given as goal
 
 -- the writes before it are spelled
 abbrev pub invariant-loop-write : goal.invariant-loop-write

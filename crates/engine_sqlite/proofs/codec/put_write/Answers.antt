@@ -1,7 +1,7 @@
 use Rattle.std.proofs.Common.{string_bytes}
-use Rattle.cells.specs.Shape.{shape}
-use Rattle.lasting.proofs.Spelling.{one_write}
-use Rattle.lasting.proofs.codec.put_write.Goals as goal
+use Rattle.structures_cells.specs.Shape.{shape}
+use Rattle.engine_sqlite.proofs.Spelling.{one_write}
+use Rattle.engine_sqlite.proofs.codec.put_write.Goals as goal
 
 pub returns : goal.returns
 returns c =

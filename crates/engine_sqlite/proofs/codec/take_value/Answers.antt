@@ -1,6 +1,6 @@
 use Rattle.std.proofs.Common.{refl, take, arith}
-use Rattle.lasting.proofs.Spelling.{front_and_rest}
-use Rattle.lasting.proofs.codec.take_value.Goals as goal
+use Rattle.engine_sqlite.proofs.Spelling.{front_and_rest}
+use Rattle.engine_sqlite.proofs.codec.take_value.Goals as goal
 
 pub slice_bounds-result-count : goal.slice_bounds-result-count
 slice_bounds-result-count c =

@@ -1,8 +1,8 @@
 use Rattle.std.proofs.Common.{◌∙◌, string_bytes, subst, sym}
-use Rattle.cells.specs.Shape.{shape}
-use Rattle.lasting.specs.Spelled.{TakesValue}
-use Rattle.lasting.proofs.Spelling.{one_taken}
-use Rattle.lasting.proofs.codec.take_write.Goals as goal
+use Rattle.structures_cells.specs.Shape.{shape}
+use Rattle.engine_sqlite.specs.Spelled.{TakesValue}
+use Rattle.engine_sqlite.proofs.Spelling.{one_taken}
+use Rattle.engine_sqlite.proofs.codec.take_write.Goals as goal
 
 pub returns : goal.returns
 returns c =

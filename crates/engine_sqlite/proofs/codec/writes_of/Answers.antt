@@ -1,9 +1,9 @@
 use Rattle.std.proofs.Common.{◌≡◌, ◌++◌, ◌∷◌, [], ◌∙◌, ap, subst, sym, rules, List, ℕ}
 use Rattle.std.proofs.lemmas.List.{map-append}
 use Rattle.engine.specs.Views.{write_view, writes_view}
-use Rattle.lasting.specs.Spelled.{SpellsWrites}
-use Rattle.lasting.proofs.Spelling.{taken_more}
-use Rattle.lasting.proofs.codec.writes_of.Goals as goal
+use Rattle.engine_sqlite.specs.Spelled.{SpellsWrites}
+use Rattle.engine_sqlite.proofs.Spelling.{taken_more}
+use Rattle.engine_sqlite.proofs.codec.writes_of.Goals as goal
 
 pub loop-preserved : goal.loop-preserved
 loop-preserved c =

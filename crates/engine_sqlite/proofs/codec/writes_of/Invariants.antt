@@ -1,7 +1,7 @@
 use Rattle.std.proofs.Common.{◌≡◌, ◌++◌, ℕ, List}
 use Rattle.engine.specs.Prelude.{writes_view}
-use Rattle.lasting.specs.Spelled.{SpellsWrites}
-use Rattle.lasting.proofs.codec.writes_of.Given as goal
+use Rattle.engine_sqlite.specs.Spelled.{SpellsWrites}
+use Rattle.engine_sqlite.proofs.codec.writes_of.Given as goal
 
 -- the bytes before the rest spell the writes so far
 abbrev pub invariant-loop : goal.invariant-loop

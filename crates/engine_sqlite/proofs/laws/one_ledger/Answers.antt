@@ -1,5 +1,5 @@
-use Rattle.lasting.proofs.Alone.{one_ledger_is}
-use Rattle.lasting.proofs.laws.one_ledger.Goals as goal
+use Rattle.engine_sqlite.proofs.Alone.{one_ledger_is}
+use Rattle.engine_sqlite.proofs.laws.one_ledger.Goals as goal
 
 pub returns : goal.returns
 returns c = one_ledger_is

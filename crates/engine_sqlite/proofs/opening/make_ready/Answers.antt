@@ -1,7 +1,7 @@
 use Rattle.std.proofs.Common.{◌≡◌, false, rules}
-use Rattle.lasting.specs.Table.{ledger_schema, no_schema}
-use Rattle.lasting.proofs.Opened.{made_ready, was_ready}
-use Rattle.lasting.proofs.opening.make_ready.Goals as goal
+use Rattle.engine_sqlite.specs.Table.{ledger_schema, no_schema}
+use Rattle.engine_sqlite.proofs.Opened.{made_ready, was_ready}
+use Rattle.engine_sqlite.proofs.opening.make_ready.Goals as goal
 
 pub returns-then-has_ledger-clause-ready : goal.returns-then-has_ledger-clause-ready
 returns-then-has_ledger-clause-ready g c clean =

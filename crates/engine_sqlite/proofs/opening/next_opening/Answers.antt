@@ -1,5 +1,5 @@
 use Rattle.std.proofs.Common.{◌≡◌, ◌+ℤ◌, pos, to_z, of_z, w64, rules}
-use Rattle.lasting.proofs.opening.next_opening.Goals as goal
+use Rattle.engine_sqlite.proofs.opening.next_opening.Goals as goal
 
 pub returns-in-Some-clause-numbers : goal.returns-in-Some-clause-numbers
 returns-in-Some-clause-numbers g c clean =

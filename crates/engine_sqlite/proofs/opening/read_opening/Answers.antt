@@ -1,7 +1,7 @@
-use Rattle.lasting.specs.Shown.{opening_text}
-use Rattle.lasting.proofs.Selecting.{opening_plain, row_leaves}
+use Rattle.engine_sqlite.specs.Shown.{opening_text}
+use Rattle.engine_sqlite.proofs.Selecting.{opening_plain, row_leaves}
 use Rattle.sqlite.specs.Held.{state}
-use Rattle.lasting.proofs.opening.read_opening.Goals as goal
+use Rattle.engine_sqlite.proofs.opening.read_opening.Goals as goal
 
 pub returns-clause-left : goal.returns-clause-left
 returns-clause-left g c has =

@@ -1,7 +1,7 @@
-use Rattle.lasting.specs.Shown.{entries_text}
-use Rattle.lasting.proofs.Selecting.{rows_leave, select_plain}
+use Rattle.engine_sqlite.specs.Shown.{entries_text}
+use Rattle.engine_sqlite.proofs.Selecting.{rows_leave, select_plain}
 use Rattle.sqlite.specs.Held.{state}
-use Rattle.lasting.proofs.opening.read_rows.Goals as goal
+use Rattle.engine_sqlite.proofs.opening.read_rows.Goals as goal
 
 pub returns-clause-left : goal.returns-clause-left
 returns-clause-left g c has =

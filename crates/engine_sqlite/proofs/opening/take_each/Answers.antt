@@ -1,5 +1,5 @@
-use Rattle.lasting.proofs.Reading.{shown_next}
-use Rattle.lasting.proofs.opening.take_each.Goals as goal
+use Rattle.engine_sqlite.proofs.Reading.{shown_next}
+use Rattle.engine_sqlite.proofs.opening.take_each.Goals as goal
 
 pub loop-at-preserved : goal.loop-at-preserved
 loop-at-preserved g c =

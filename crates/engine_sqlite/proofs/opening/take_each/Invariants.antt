@@ -1,6 +1,6 @@
 use Rattle.std.proofs.Common.{take}
-use Rattle.lasting.specs.Shown.{AreShownAs}
-use Rattle.lasting.proofs.opening.take_each.Given as goal
+use Rattle.engine_sqlite.specs.Shown.{AreShownAs}
+use Rattle.engine_sqlite.proofs.opening.take_each.Given as goal
 
 -- the rows before it are the entries
 abbrev pub invariant-loop-at : goal.invariant-loop-at

@@ -1,9 +1,9 @@
 use Rattle.std.proofs.Common.{◌≡◌, subst, sym, to_z, of_z, w64, rules}
-use Rattle.lasting.specs.Shown.{IsLeft, Numbers}
-use Rattle.lasting.proofs.Selecting.{left_then, on_err, read_schema}
+use Rattle.engine_sqlite.specs.Shown.{IsLeft, Numbers}
+use Rattle.engine_sqlite.proofs.Selecting.{left_then, on_err, read_schema}
 use Rattle.sqlite.specs.Held.{state}
 use Rattle.sqlite.specs.State.{HasCleanDisk}
-use Rattle.lasting.proofs.opening.take_ledger.Goals as goal
+use Rattle.engine_sqlite.proofs.opening.take_ledger.Goals as goal
 
 pub returns-in_err-opening-clause-refused : goal.returns-in_err-opening-clause-refused
 returns-in_err-opening-clause-refused g c other =

@@ -1,8 +1,8 @@
-use Rattle.lasting.proofs.Texts.{keeps, puts, shows}
+use Rattle.engine_sqlite.proofs.Texts.{keeps, puts, shows}
 use Rattle.engine.specs.Views.{token_view}
-use Rattle.lasting.specs.Table.{add_text}
+use Rattle.engine_sqlite.specs.Table.{add_text}
 use Rattle.sqlite.specs.Held.{state}
-use Rattle.lasting.proofs.rows.insert.Goals as goal
+use Rattle.engine_sqlite.proofs.rows.insert.Goals as goal
 
 pub returns-clause-puts : goal.returns-clause-puts
 returns-clause-puts g c clean has =

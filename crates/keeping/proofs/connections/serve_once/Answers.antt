@@ -1,6 +1,6 @@
 use Rattle.std.proofs.Common.{true, false}
 use Rattle.server.specs.Views.{rest_of}
-use Rattle.lasting.specs.Kept.{ledger_of}
+use Rattle.engine_sqlite.specs.Kept.{ledger_of}
 use Rattle.keeping.proofs.Served.{served_first, shows}
 use Rattle.keeping.proofs.connections.serve_once.Goals as goal
 

@@ -1,7 +1,7 @@
 use Rattle.std.proofs.Common.{refl, ap, true, false}
 use Rattle.server.specs.Serving.{Rest}
 use Rattle.server.specs.Views.{rest_of}
-use Rattle.lasting.specs.Kept.{ledger_of}
+use Rattle.engine_sqlite.specs.Kept.{ledger_of}
 use Rattle.keeping.specs.Serving.{Shows}
 use Rattle.keeping.proofs.Served.{ends_after, served_more, served_none, shows, vacant}
 use Rattle.keeping.proofs.connections.serve_until_failed.Goals as goal

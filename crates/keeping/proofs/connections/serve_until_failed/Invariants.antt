@@ -1,5 +1,5 @@
 use Rattle.server.specs.Views.{rest_of}
-use Rattle.lasting.specs.Kept.{ledger_of}
+use Rattle.engine_sqlite.specs.Kept.{ledger_of}
 use Rattle.keeping.specs.Serving.{GoesOn, Shows}
 use Rattle.keeping.proofs.connections.serve_until_failed.Given as goal
 

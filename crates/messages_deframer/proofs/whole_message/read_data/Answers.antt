@@ -1,9 +1,9 @@
 use Rattle.std.proofs.Common.{List, ℕ, Some, Err, IfOk, refl, sym, subst, ◌∙◌}
 use Rattle.wire.specs.Prelude.{Message}
 use Rattle.messages.specs.declared.fault.MsgFault.{MsgFault}
-use Rattle.inbox.specs.Taking.{Brings}
-use Rattle.inbox.proofs.Told.{err_holds, bad_tells}
-use Rattle.inbox.proofs.whole_message.read_data.Goals as goal
+use Rattle.messages_deframer.specs.Taking.{Brings}
+use Rattle.messages_deframer.proofs.Told.{err_holds, bad_tells}
+use Rattle.messages_deframer.proofs.whole_message.read_data.Goals as goal
 
 pub returns-in-Ok-clause-ok : goal.returns-in-Ok-clause-ok
 returns-in-Ok-clause-ok g c = λ b reads.

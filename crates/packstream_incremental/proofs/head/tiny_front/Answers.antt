@@ -1,8 +1,8 @@
 use Rattle.std.proofs.Common.{Some, ap, sym, subst, ◌∙◌, arith}
 use Rattle.std.proofs.lemmas.List.{take_more}
-use Rattle.reader.specs.Prelude.{AreTiny}
-use Rattle.reader.proofs.Heads.{tiny_more}
-use Rattle.reader.proofs.head.tiny_front.Goals as goal
+use Rattle.packstream_incremental.specs.Prelude.{AreTiny}
+use Rattle.packstream_incremental.proofs.Heads.{tiny_more}
+use Rattle.packstream_incremental.proofs.head.tiny_front.Goals as goal
 
 pub loop-count-preserved : goal.loop-count-preserved
 loop-count-preserved c =

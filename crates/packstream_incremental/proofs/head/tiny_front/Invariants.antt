@@ -1,6 +1,6 @@
 use Rattle.std.proofs.Common.{◌-◌, ◌≤◌, ◌<◌, length, take}
-use Rattle.reader.specs.Prelude.{AreTiny}
-use Rattle.reader.proofs.head.tiny_front.Given as goal
+use Rattle.packstream_incremental.specs.Prelude.{AreTiny}
+use Rattle.packstream_incremental.proofs.head.tiny_front.Given as goal
 
 abbrev pub invariant-loop-count : goal.invariant-loop-count
 invariant-loop-count l = (l.count ≤ length l.bytes) × (0 < l.count → l.count < l.most) × AreTiny (take l.count l.bytes)

@@ -1,5 +1,5 @@
-use Rattle.reader.proofs.Pieces.{value_read, fault_read, alike}
-use Rattle.reader.proofs.laws.decodes_alike.Goals as goal
+use Rattle.packstream_incremental.proofs.Pieces.{value_read, fault_read, alike}
+use Rattle.packstream_incremental.proofs.laws.decodes_alike.Goals as goal
 
 pub returns : goal.returns
 returns c = λ b p decoded read value fault reads told.

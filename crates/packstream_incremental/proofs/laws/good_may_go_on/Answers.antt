@@ -1,5 +1,5 @@
-use Rattle.reader.proofs.Pieces.{good_data}
-use Rattle.reader.proofs.laws.good_may_go_on.Goals as goal
+use Rattle.packstream_incremental.proofs.Pieces.{good_data}
+use Rattle.packstream_incremental.proofs.laws.good_may_go_on.Goals as goal
 
 pub returns : goal.returns
 returns c = λ b reads good. good_data c.args.reader.now.here b reads good (c.stands.ensures.good good)

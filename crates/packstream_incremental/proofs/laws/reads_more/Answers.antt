@@ -1,5 +1,5 @@
-use Rattle.reader.proofs.Pieces.{more_read}
-use Rattle.reader.proofs.laws.reads_more.Goals as goal
+use Rattle.packstream_incremental.proofs.Pieces.{more_read}
+use Rattle.packstream_incremental.proofs.laws.reads_more.Goals as goal
 
 pub returns : goal.returns
 returns c = more_read

@@ -1,8 +1,8 @@
 use Rattle.std.proofs.Common.{[], refl, subst}
 use Rattle.packstream.proofs.Ranges.{bytes_from_each}
-use Rattle.reader.specs.Prelude.{Points, Point, Takes, Finishes, nothing_read}
-use Rattle.reader.proofs.Pieces.{more_read, value_read, fault_read}
-use Rattle.reader.proofs.piece.read_piece.Goals as goal
+use Rattle.packstream_incremental.specs.Prelude.{Points, Point, Takes, Finishes, nothing_read}
+use Rattle.packstream_incremental.proofs.Pieces.{more_read, value_read, fault_read}
+use Rattle.packstream_incremental.proofs.piece.read_piece.Goals as goal
 
 pub returns : goal.returns
 returns c =

@@ -1,10 +1,10 @@
 use Rattle.std.proofs.Common.{◌≡◌, ◌<◌, ◌↔◌, ℕ, Bool, List, length, Option, Some, None, true, false, sym, ap, subst, ◌∙◌, arith, get_or, slice_get, IsTrue}
 use Rattle.std.proofs.lemmas.Option.{slice_get-get_or, slice_get_within, get_or_from_slice_get}
-use Rattle.reader.specs.declared.texts.Key.{Key}
-use Rattle.reader.specs.declared.texts.Link.{Link}
-use Rattle.reader.specs.Prelude.{name, names_of, text_of, IsNamed, IsFree, HangsOn, HangsNone, side_of}
-use Rattle.reader.proofs.Treeing.{search_starts, search_finds, search_goes_on, search_ends, search_is_over}
-use Rattle.reader.proofs.texts.find.Goals as goal
+use Rattle.packstream_incremental.specs.declared.texts.Key.{Key}
+use Rattle.packstream_incremental.specs.declared.texts.Link.{Link}
+use Rattle.packstream_incremental.specs.Prelude.{name, names_of, text_of, IsNamed, IsFree, HangsOn, HangsNone, side_of}
+use Rattle.packstream_incremental.proofs.Treeing.{search_starts, search_finds, search_goes_on, search_ends, search_is_over}
+use Rattle.packstream_incremental.proofs.texts.find.Goals as goal
 
 pub returns-then-first-keys-clause-free : goal.returns-then-first-keys-clause-free
 returns-then-first-keys-clause-free c = λ l e.

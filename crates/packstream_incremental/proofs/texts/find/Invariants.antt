@@ -1,6 +1,6 @@
 use Rattle.std.proofs.Common.{◌-◌, length}
-use Rattle.reader.proofs.Treeing.{Searched}
-use Rattle.reader.proofs.texts.find.Given as goal
+use Rattle.packstream_incremental.proofs.Treeing.{Searched}
+use Rattle.packstream_incremental.proofs.texts.find.Given as goal
 
 abbrev pub invariant-loop-at : goal.invariant-loop-at
 invariant-loop-at l = Searched l.keys l.bytes l.first l.text l.above l.at

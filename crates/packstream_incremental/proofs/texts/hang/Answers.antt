@@ -1,7 +1,7 @@
 use Rattle.std.proofs.Common.{arith, ◌≡◌, ℕ, ◌++◌, ◌∷◌, [], ap, ◌∙◌, length, true, false}
-use Rattle.reader.specs.Prelude.{hung}
-use Rattle.reader.proofs.Hanging.{hang_writes}
-use Rattle.reader.proofs.texts.hang.Goals as goal
+use Rattle.packstream_incremental.specs.Prelude.{hung}
+use Rattle.packstream_incremental.proofs.Hanging.{hang_writes}
+use Rattle.packstream_incremental.proofs.texts.hang.Goals as goal
 
 pub returns-then-link-clause-ok : goal.returns-then-link-clause-ok
 returns-then-link-clause-ok c =

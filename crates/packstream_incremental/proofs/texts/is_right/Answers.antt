@@ -1,7 +1,7 @@
 use Rattle.std.proofs.Common.{refl, length, ◌/◌, ◌-◌}
 use Rattle.std.proofs.lemmas.Option.{slice_get_read, slice_get_past}
-use Rattle.reader.proofs.Treeing.{side_deep, side_past}
-use Rattle.reader.proofs.texts.is_right.Goals as goal
+use Rattle.packstream_incremental.proofs.Treeing.{side_deep, side_past}
+use Rattle.packstream_incremental.proofs.texts.is_right.Goals as goal
 
 pub returns-in-Some : goal.returns-in-Some
 returns-in-Some c =

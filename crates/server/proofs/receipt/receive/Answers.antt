@@ -3,8 +3,8 @@ use Rattle.std.specs.declared.alloc.AllocError.{AllocError}
 use Rattle.std.proofs.lemmas.Result.{on_err_weaker}
 use Rattle.wire.specs.Prelude.{Item, Noop, TooBig}
 use Rattle.messages.specs.Prelude.{request_view, Arrival, Asked, Unread}
-use Rattle.session.specs.declared.kinds.What.{What}
-use Rattle.session.specs.Prelude.{Kept, Receives, arrival_by, kept_of}
+use Rattle.server_session.specs.declared.kinds.What.{What}
+use Rattle.server_session.specs.Prelude.{Kept, Receives, arrival_by, kept_of}
 use Rattle.server.specs.Prelude.{arrival, IsReceived}
 use Rattle.server.proofs.receipt.receive.Goals as goal
 

@@ -1,6 +1,6 @@
 use Rattle.messages.specs.Prelude.{request_of}
-use Rattle.session.specs.Prelude.{kept_of, version_of}
-use Rattle.session.proofs.Arrived.{received_by}
+use Rattle.server_session.specs.Prelude.{kept_of, version_of}
+use Rattle.server_session.proofs.Arrived.{received_by}
 use Rattle.server.proofs.receipt.receive_message.Goals as goal
 
 pub returns-clause-ok : goal.returns-clause-ok

@@ -1,9 +1,9 @@
 use Rattle.std.proofs.Common.{refl, sym, inl, inr}
 use Rattle.server.specs.Prelude.{rest_of}
-use Rattle.serves.specs.Prelude.{said_by, sink_view}
-use Rattle.serves.proofs.Called.{grows_called, lent_out, none_lent}
-use Rattle.serves.proofs.Views.{puts_nil}
-use Rattle.serves.proofs.due.put_out.Goals as goal
+use Rattle.server_blocking.specs.Prelude.{said_by, sink_view}
+use Rattle.server_blocking.proofs.Called.{grows_called, lent_out, none_lent}
+use Rattle.server_blocking.proofs.Views.{puts_nil}
+use Rattle.server_blocking.proofs.due.put_out.Goals as goal
 
 pub returns-in_default-clause-puts : goal.returns-in_default-clause-puts
 returns-in_default-clause-puts g c = inl (refl, puts_nil (sink_view g.O.Sink.put g.O.Sink.taken c.args.sink.now))

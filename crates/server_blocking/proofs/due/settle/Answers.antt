@@ -1,5 +1,5 @@
-use Rattle.serves.proofs.Stepping.{goes_first, goes_wrong, holds_part}
-use Rattle.serves.proofs.due.settle.Goals as goal
+use Rattle.server_blocking.proofs.Stepping.{goes_first, goes_wrong, holds_part}
+use Rattle.server_blocking.proofs.due.settle.Goals as goal
 
 pub loop-init : goal.loop-init
 loop-init g c = record { grows = λ r i h. h; goes = λ r u t before i s p h. goes_first t s p h }

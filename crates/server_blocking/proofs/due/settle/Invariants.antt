@@ -1,8 +1,8 @@
 use Rattle.std.proofs.Common.{◌≡◌, [], IsSome}
 use Rattle.wire.specs.Prelude.{Opened}
 use Rattle.server.specs.Prelude.{Rest, find, setting, Fits}
-use Rattle.serves.specs.Prelude.{SinkView, sink_view, Talk, GoesOn, Holds, IsPlaced, GrowsOn}
-use Rattle.serves.proofs.due.settle.Given as goal
+use Rattle.server_blocking.specs.Prelude.{SinkView, sink_view, Talk, GoesOn, Holds, IsPlaced, GrowsOn}
+use Rattle.server_blocking.proofs.due.settle.Given as goal
 
 abbrev pub invariant-loop : goal.invariant-loop
 invariant-loop g l = record {

@@ -1,11 +1,11 @@
 use Rattle.std.proofs.Common.{◌∙◌, ap}
 use Rattle.server.specs.Prelude.{setting, rest_of}
-use Rattle.serves.specs.Prelude.{settled, liveness_of, sink_view}
-use Rattle.serves.specs.declared.due.Next.TheVariants as next
-use Rattle.serves.proofs.Stepping.{goes_by, goes_with, goes_wrong, holds_part, holds_same}
-use Rattle.serves.proofs.Called.{ended_there, holds_none, holds_some}
-use Rattle.serves.proofs.Rows.{goes_rows, grows_rows, rows_tell}
-use Rattle.serves.proofs.due.work_once.Goals as goal
+use Rattle.server_blocking.specs.Prelude.{settled, liveness_of, sink_view}
+use Rattle.server_blocking.specs.declared.due.Next.TheVariants as next
+use Rattle.server_blocking.proofs.Stepping.{goes_by, goes_with, goes_wrong, holds_part, holds_same}
+use Rattle.server_blocking.proofs.Called.{ended_there, holds_none, holds_some}
+use Rattle.server_blocking.proofs.Rows.{goes_rows, grows_rows, rows_tell}
+use Rattle.server_blocking.proofs.due.work_once.Goals as goal
 
 pub returns-in-Ok-Step-clause-steps : goal.returns-in-Ok-Step-clause-steps
 returns-in-Ok-Step-clause-steps g c = λ r u t before i o.

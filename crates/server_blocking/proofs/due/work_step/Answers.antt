@@ -1,5 +1,5 @@
-use Rattle.serves.proofs.Called.{grows_worked}
-use Rattle.serves.proofs.due.work_step.Goals as goal
+use Rattle.server_blocking.proofs.Called.{grows_worked}
+use Rattle.server_blocking.proofs.due.work_step.Goals as goal
 
 pub returns-clause-works : goal.returns-clause-works
 returns-clause-works g c = (c.in-Ok.worked, c.in-Ok.ensures.done, c.next_after.ensures)

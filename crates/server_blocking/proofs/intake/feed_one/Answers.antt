@@ -1,7 +1,7 @@
 use Rattle.std.proofs.Common.{arith, refl, inr}
 use Rattle.server.specs.Prelude.{fed_live}
-use Rattle.serves.proofs.Called.{feed_within, grows_called}
-use Rattle.serves.proofs.intake.feed_one.Goals as goal
+use Rattle.server_blocking.proofs.Called.{feed_within, grows_called}
+use Rattle.server_blocking.proofs.intake.feed_one.Goals as goal
 
 pub returns-then-took-eq0-clause-grows : goal.returns-then-took-eq0-clause-grows
 returns-then-took-eq0-clause-grows g c = grows_called c.args.conn (λ s. fed_live s c.args.piece.now) (λ s. refl) _ _ c.in-Ok.took c.in-Ok.ensures.done

@@ -1,7 +1,7 @@
 use Rattle.std.proofs.Common.{◌++◌}
 use Rattle.streams.proofs.Parts.{empty_nil}
-use Rattle.serves.proofs.Talks.{partly_begun, partly_broken, partly_more, partly_over, partly_whole}
-use Rattle.serves.proofs.intake.take_items.Goals as goal
+use Rattle.server_blocking.proofs.Talks.{partly_begun, partly_broken, partly_more, partly_over, partly_whole}
+use Rattle.server_blocking.proofs.intake.take_items.Goals as goal
 
 pub loop-rest-init : goal.loop-rest-init
 loop-rest-init g c = record { grows = λ r i h. h; takes = λ r before up i e s. partly_begun e s }

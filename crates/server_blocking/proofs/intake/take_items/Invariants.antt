@@ -1,8 +1,8 @@
 use Rattle.std.proofs.Common.{◌≡◌, ℕ, List, length, None, IsSome}
 use Rattle.server.specs.Prelude.{Rest, find, setting, Fits}
-use Rattle.serves.specs.Prelude.{HoldsAfter, told_by, GrowsOn, SinkView, sink_view}
-use Rattle.serves.proofs.Talks.{Partly}
-use Rattle.serves.proofs.intake.take_items.Given as goal
+use Rattle.server_blocking.specs.Prelude.{HoldsAfter, told_by, GrowsOn, SinkView, sink_view}
+use Rattle.server_blocking.proofs.Talks.{Partly}
+use Rattle.server_blocking.proofs.intake.take_items.Given as goal
 
 abbrev pub invariant-loop-rest : goal.invariant-loop-rest
 invariant-loop-rest g l = record {

@@ -1,9 +1,9 @@
 use Rattle.std.proofs.Common.{refl, sym, ap, ◌∙◌}
 use Rattle.server.specs.Prelude.{setting}
 use Rattle.server.specs.declared.kinds.Took.{Took}
-use Rattle.serves.specs.Prelude.{rest_after}
-use Rattle.serves.proofs.Talks.{fed, fed_holds, next_placed, none_taken, one_broken, one_rested, one_taken}
-use Rattle.serves.proofs.intake.take_one.Goals as goal
+use Rattle.server_blocking.specs.Prelude.{rest_after}
+use Rattle.server_blocking.proofs.Talks.{fed, fed_holds, next_placed, none_taken, one_broken, one_rested, one_taken}
+use Rattle.server_blocking.proofs.intake.take_one.Goals as goal
 
 pub returns-in-Err-clause-takes : goal.returns-in-Err-clause-takes
 returns-in-Err-clause-takes g c = λ r before up i e h.

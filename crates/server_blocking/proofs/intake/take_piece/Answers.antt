@@ -1,9 +1,9 @@
 use Rattle.std.proofs.Common.{sym, subst}
 use Rattle.server.specs.Prelude.{setting, rest_of, Fits}
-use Rattle.serves.specs.Prelude.{TakesPiece, sink_view}
-use Rattle.serves.proofs.Called.{live_by, lives_by}
-use Rattle.serves.proofs.Conversings.{begins_held, piece_due, piece_taken}
-use Rattle.serves.proofs.intake.take_piece.Goals as goal
+use Rattle.server_blocking.specs.Prelude.{TakesPiece, sink_view}
+use Rattle.server_blocking.proofs.Called.{live_by, lives_by}
+use Rattle.server_blocking.proofs.Conversings.{begins_held, piece_due, piece_taken}
+use Rattle.server_blocking.proofs.intake.take_piece.Goals as goal
 
 pub returns-clause-takes : goal.returns-clause-takes
 returns-clause-takes g c = λ r before up i e s.

@@ -1,8 +1,8 @@
 use Rattle.std.proofs.Common.{◌≡◌, false, ◌∙◌, ap, Some}
 use Rattle.server.specs.Prelude.{Rest, empty, is_full, opened, rest_of}
-use Rattle.serves.proofs.Firsts.{one, one_found, one_lives, one_out, one_last}
+use Rattle.server_blocking.proofs.Firsts.{one, one_found, one_lives, one_out, one_last}
 use Rattle.server.proofs.Known.{holds}
-use Rattle.serves.proofs.response.respond.Goals as goal
+use Rattle.server_blocking.proofs.response.respond.Goals as goal
 
 pub converse-requires : goal.converse-requires
 converse-requires g c =

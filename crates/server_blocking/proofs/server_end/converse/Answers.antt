@@ -1,11 +1,11 @@
 use Rattle.std.proofs.Common.{arith}
 use Rattle.server.specs.Prelude.{setting, Fits}
 use Rattle.streams.specs.declared.fault.StreamFault.TheVariants.{Memory}
-use Rattle.serves.proofs.Conversings.{reads_begun, reads_none}
-use Rattle.serves.proofs.Called.{lives_same}
-use Rattle.serves.proofs.Views.{gives_nil}
-use Rattle.serves.specs.Prelude.{source_view, sink_view}
-use Rattle.serves.proofs.server_end.converse.Goals as goal
+use Rattle.server_blocking.proofs.Conversings.{reads_begun, reads_none}
+use Rattle.server_blocking.proofs.Called.{lives_same}
+use Rattle.server_blocking.proofs.Views.{gives_nil}
+use Rattle.server_blocking.specs.Prelude.{source_view, sink_view}
+use Rattle.server_blocking.proofs.server_end.converse.Goals as goal
 
 pub returns-in_default-clause-converses : goal.returns-in_default-clause-converses
 returns-in_default-clause-converses g c = λ r f e.

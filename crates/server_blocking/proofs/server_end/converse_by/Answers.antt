@@ -1,11 +1,11 @@
 use Rattle.std.proofs.Common.{length, ◌≤◌, take, refl, sym, subst, arith, IsSome}
 use Rattle.server.specs.Prelude.{Fits}
 use Rattle.streams.specs.declared.fault.StreamFault.TheVariants.{ReadFailed}
-use Rattle.serves.proofs.Conversings.{never_read, reads_begun, reads_broken, reads_more, reads_none, reads_over, reads_turn, reads_whole}
-use Rattle.serves.specs.Prelude.{source_view, sink_view}
-use Rattle.serves.proofs.Called.{lives_same, lives_then}
-use Rattle.serves.proofs.Views.{gives_kept}
-use Rattle.serves.proofs.server_end.converse_by.Goals as goal
+use Rattle.server_blocking.proofs.Conversings.{never_read, reads_begun, reads_broken, reads_more, reads_none, reads_over, reads_turn, reads_whole}
+use Rattle.server_blocking.specs.Prelude.{source_view, sink_view}
+use Rattle.server_blocking.proofs.Called.{lives_same, lives_then}
+use Rattle.server_blocking.proofs.Views.{gives_kept}
+use Rattle.server_blocking.proofs.server_end.converse_by.Goals as goal
 
 pub loop-count-init : goal.loop-count-init
 loop-count-init g c = record {

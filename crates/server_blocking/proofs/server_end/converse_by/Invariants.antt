@@ -1,8 +1,8 @@
 use Rattle.std.proofs.Common.{◌≡◌, Some}
 use Rattle.server.specs.Prelude.{Rest, find, fresh, setting, Fits}
-use Rattle.serves.specs.Prelude.{IsLive, LivesOn, source_view, sink_view}
-use Rattle.serves.proofs.Conversings.{Reads}
-use Rattle.serves.proofs.server_end.converse_by.Given as goal
+use Rattle.server_blocking.specs.Prelude.{IsLive, LivesOn, source_view, sink_view}
+use Rattle.server_blocking.proofs.Conversings.{Reads}
+use Rattle.server_blocking.proofs.server_end.converse_by.Given as goal
 
 abbrev pub invariant-loop-count : goal.invariant-loop-count
 invariant-loop-count g l = record {

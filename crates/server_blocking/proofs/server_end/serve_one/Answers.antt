@@ -1,12 +1,12 @@
 use Rattle.std.proofs.Common.{◌∙◌, sym, ap, subst, refl, Option, IsSome, unwrap_or}
-use Rattle.session.specs.declared.kinds.Cause.{Cause}
+use Rattle.server_session.specs.declared.kinds.Cause.{Cause}
 use Rattle.server.specs.Prelude.{find, lost_at, setting, Fits}
-use Rattle.serves.specs.Prelude.{StandsOver, Talk, conversation, with_talk}
-use Rattle.serves.proofs.Conversings.{front_by_given, put_by_given}
-use Rattle.serves.proofs.Stepping.{breaks_off}
-use Rattle.serves.proofs.Called.{leaves_lost, lost_cause, lost_rest}
+use Rattle.server_blocking.specs.Prelude.{StandsOver, Talk, conversation, with_talk}
+use Rattle.server_blocking.proofs.Conversings.{front_by_given, put_by_given}
+use Rattle.server_blocking.proofs.Stepping.{breaks_off}
+use Rattle.server_blocking.proofs.Called.{leaves_lost, lost_cause, lost_rest}
 use Rattle.server.proofs.Known.{gone}
-use Rattle.serves.proofs.server_end.serve_one.Goals as goal
+use Rattle.server_blocking.proofs.server_end.serve_one.Goals as goal
 
 pub returns-in-Ok-clause-serves : goal.returns-in-Ok-clause-serves
 returns-in-Ok-clause-serves g c = λ r f e.

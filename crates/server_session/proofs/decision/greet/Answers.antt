@@ -1,6 +1,6 @@
 use Rattle.std.proofs.Common.{◌≡◌, true}
 use Rattle.wire.specs.Prelude.{hello_has_login}
-use Rattle.session.proofs.decision.greet.Goals as goal
+use Rattle.server_session.proofs.decision.greet.Goals as goal
 
 pub returns-in-Some : goal.returns-in-Some
 returns-in-Some g c = λ left tx token run.

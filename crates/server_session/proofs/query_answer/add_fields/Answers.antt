@@ -1,7 +1,7 @@
 use Rattle.std.proofs.Common.{List, ℕ, ◌+◌, [], ◌∷◌, ◌++◌, length, codes, ap, ◌∙◌, append_assoc}
 use Rattle.engine.specs.Views.{names_view}
-use Rattle.session.proofs.Fielded.{joined}
-use Rattle.session.proofs.query_answer.add_fields.Goals as goal
+use Rattle.server_session.proofs.Fielded.{joined}
+use Rattle.server_session.proofs.query_answer.add_fields.Goals as goal
 
 pub returns-clause-spelled : goal.returns-clause-spelled
 returns-clause-spelled c =

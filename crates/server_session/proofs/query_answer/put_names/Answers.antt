@@ -1,8 +1,8 @@
 use Rattle.std.proofs.Common.{◌∙◌, arith, subst, All, IsUtf8}
 use Rattle.std.proofs.lemmas.List.{take_all}
 use Rattle.engine.specs.Views.{names_view}
-use Rattle.session.proofs.Fielded.{one_named, texts_more}
-use Rattle.session.proofs.query_answer.put_names.Goals as goal
+use Rattle.server_session.proofs.Fielded.{one_named, texts_more}
+use Rattle.server_session.proofs.query_answer.put_names.Goals as goal
 
 pub loop-place-preserved : goal.loop-place-preserved
 loop-place-preserved c = record {

@@ -1,7 +1,7 @@
 use Rattle.std.proofs.Common.{◌≡◌, ◌++◌, map, take, All, IsUtf8}
 use Rattle.packstream.specs.Prelude.{text, canon_all, trees_of}
 use Rattle.engine.specs.Views.{names_view}
-use Rattle.session.proofs.query_answer.put_names.Given as goal
+use Rattle.server_session.proofs.query_answer.put_names.Given as goal
 
 abbrev pub invariant-loop-place : goal.invariant-loop-place
 invariant-loop-place l = record {

@@ -1,7 +1,7 @@
 use Rattle.std.proofs.Common.{◌∙◌}
-use Rattle.cells.specs.Prelude.{shapes}
-use Rattle.session.proofs.Sent.{record_put, typed_row}
-use Rattle.session.proofs.rows.put_record.Goals as goal
+use Rattle.structures_cells.specs.Prelude.{shapes}
+use Rattle.server_session.proofs.Sent.{record_put, typed_row}
+use Rattle.server_session.proofs.rows.put_record.Goals as goal
 
 pub returns-in-Ok-clause-put : goal.returns-in-Ok-clause-put
 returns-in-Ok-clause-put c = λ yes.

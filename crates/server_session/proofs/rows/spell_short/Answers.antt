@@ -1,9 +1,9 @@
 use Rattle.std.proofs.Common.{◌≤◌, ◌∙◌, ap, [], ◌∷◌, ◌++◌, length, arith}
 use Rattle.packstream.specs.Prelude.{canon, list, trees_of}
-use Rattle.cells.specs.Prelude.{shapes}
+use Rattle.structures_cells.specs.Prelude.{shapes}
 use Rattle.structures.specs.Prelude.{form}
-use Rattle.session.proofs.Sent.{record_body, typed_row}
-use Rattle.session.proofs.rows.spell_short.Goals as goal
+use Rattle.server_session.proofs.Sent.{record_body, typed_row}
+use Rattle.server_session.proofs.rows.spell_short.Goals as goal
 
 pub returns : goal.returns
 returns c = λ yes.

@@ -1,8 +1,8 @@
 use Rattle.messages.specs.Prelude.{response_view}
-use Rattle.session.proofs.Fitting.{written, refused}
+use Rattle.server_session.proofs.Fitting.{written, refused}
 use Rattle.std.proofs.Common.{sym, subst}
-use Rattle.session.specs.Prelude.{Refuses}
-use Rattle.session.proofs.spelling.spell_response.Goals as goal
+use Rattle.server_session.specs.Prelude.{Refuses}
+use Rattle.server_session.proofs.spelling.spell_response.Goals as goal
 
 pub returns-in-Ok : goal.returns-in-Ok
 returns-in-Ok c = record { ok = written c.args.version (response_view c.args.response.now) c.clear.new.self.items c.write_response.new.out.items c.clear.ensures.items c.in-Ok.ensures.text c.in-Ok.ensures.read_back; err = tt }

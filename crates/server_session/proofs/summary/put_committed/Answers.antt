@@ -3,8 +3,8 @@ use Rattle.std.proofs.lemmas.List.{append-nil}
 use Rattle.std.proofs.lemmas.Result.{on_ok_weaker}
 use Rattle.packstream.specs.Prelude.{head, entries_of}
 use Rattle.messages.specs.Prelude.{bookmark}
-use Rattle.session.proofs.Summed.{headed, bookmarked}
-use Rattle.session.proofs.summary.put_committed.Goals as goal
+use Rattle.server_session.proofs.Summed.{headed, bookmarked}
+use Rattle.server_session.proofs.summary.put_committed.Goals as goal
 
 pub returns-clause-spelled : goal.returns-clause-spelled
 unfolding head

@@ -1,8 +1,8 @@
 use Rattle.std.proofs.Common.{◌++◌, codes, refl, decimal}
 use Rattle.packstream.specs.Prelude.{text, entry_then, no_entries, head, entries_of}
 use Rattle.messages.specs.Prelude.{greeting}
-use Rattle.session.proofs.Summed.{headed, entry_first, entry_last}
-use Rattle.session.proofs.summary.put_greeting.Goals as goal
+use Rattle.server_session.proofs.Summed.{headed, entry_first, entry_last}
+use Rattle.server_session.proofs.summary.put_greeting.Goals as goal
 
 pub returns-clause-spelled : goal.returns-clause-spelled
 unfolding head

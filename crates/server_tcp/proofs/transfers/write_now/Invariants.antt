@@ -1,5 +1,5 @@
 use Rattle.std.specs.Io.KnownBytes.{Keeps}
-use Rattle.sockets.proofs.transfers.write_now.Given as goal
+use Rattle.server_tcp.proofs.transfers.write_now.Given as goal
 
 -- nothing was written
 abbrev pub invariant-loop : goal.invariant-loop

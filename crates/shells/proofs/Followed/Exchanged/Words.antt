@@ -6,14 +6,14 @@ pub use Rattle.std.proofs.KnownBytes.{Appends-nil, Appends-trans, Consumes-kept,
 pub use Rattle.std.proofs.lemmas.Bool.{cond_both, false≢true, cases_lt, not-false, not-true}
 pub use Rattle.std.proofs.lemmas.List.{map-append, nil_from_length, append_cancel_left, length-take-le, take-append-le}
 pub use Rattle.streams.proofs.Fronts.{front_after, front_whole}
-pub use Rattle.asks.proofs.Asked.{unanswered_waits, unless_err, all_taken, awaits_open}
-pub use Rattle.prints.proofs.Gets.{gets_none, gets_then, front_in, cause_of, flat_map-append, common_steps}
+pub use Rattle.client_blocking.proofs.Asked.{unanswered_waits, unless_err, all_taken, awaits_open}
+pub use Rattle.cli_output.proofs.Gets.{gets_none, gets_then, front_in, cause_of, flat_map-append, common_steps}
 pub use Rattle.std.proofs.lemmas.List.Splits.{slice_split_at, slice_split_none}
 pub use Rattle.client.proofs.Makes.{Makes, makes, tells_summary}
 pub use Rattle.client.proofs.Refusing.{accepted_facts}
 pub use Rattle.std.proofs.lemmas.List.Elements.{All-push}
 pub use Rattle.streams.proofs.Parts.{all_done, empty_nil}
-pub use Rattle.asks.proofs.Tales.{hears_all-append}
+pub use Rattle.client_blocking.proofs.Tales.{hears_all-append}
 pub use Rattle.wire.proofs.Readers.{state-append}
 pub use Rattle.shells.specs.Words.{Appends, Consumes, IsAtEnd, result_err, result_and, Version, Heard, RequestView, ResponseView, Fits, Hearing, Knows, Note, Rest, Summary, asking_bytes, awaits}
 pub use Rattle.shells.specs.Words.{heard_as, hears_item, losses, lost_outcome, note, refuses, taken_out, rest_of, losses_from, StaysSound, UnlessTold, AppendsFront, StreamFault, Memory}

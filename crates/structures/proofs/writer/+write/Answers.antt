@@ -2,7 +2,7 @@ use Rattle.std.proofs.Common.{ℤ, List, None, Some, map, ap, sym, refl, ◌∙�
 use Rattle.std.proofs.lemmas.List.Elements.{same_from_all_zip}
 use Rattle.std.proofs.lemmas.Simd.{map-map}
 use Rattle.structures.proofs.Prelude.{Tree, text_of, texts_of, int, list, dict, trees_of, entries_of, value_lemmas, tree-List, tree-Dict, structures, all_fine, fault_of_structure, shape, shapes, entry, entries, node_shape, unbound_shape, fine_member, fine_pair, the_lemmas, out-Path, shape-List, shape-Dict, relationship_parts, node-out, unbound-out, relationship-out, path-out, form}
-use Rattle.cells.proofs.Judged.{node_fine, unbound_fine, relationship_fine, path_nodes_fine, path_unbounds_fine}
+use Rattle.structures_cells.proofs.Judged.{node_fine, unbound_fine, relationship_fine, path_nodes_fine, path_unbounds_fine}
 use Rattle.structures.proofs.Fitted.{form_list, form_pairs, named_written, relationship_written, path_written}
 use Rattle.structures.proofs.writer.+write.Goals as goal
 

@@ -1,12 +1,12 @@
 use Rattle.std.proofs.Common.{◌≡◌, ℤ, ◌+◌, refl, ap, sym, ◌∙◌, rules, map, Ok, Err, to_z, of_z, w64}
 use Rattle.std.proofs.lemmas.Result.{err_from_is_err_and}
 use Rattle.packstream.specs.Prelude.{Tree, int, structure, no_trees, tree_then, trees_of}
-use Rattle.cells.specs.Prelude.{scan, structures, structures_in, shape, entry, node_shape, unbound_shape, text_of, texts_of, fault_of_structure}
-use Rattle.cells.specs.declared.cell.Path.{out-Path}
-use Rattle.cells.proofs.Views.{node_parts, unbound_parts, relationship_parts, shape-Duration, node-out, unbound-out, relationship-out, path-out}
-use Rattle.cells.proofs.Scanning.{members_step, pairs_step, scan_append, onward, Found}
-use Rattle.cells.proofs.Judged.{duration_judged, texts_plain, fields_ok, relationship_ok, path_ok, path_err, mapped}
-use Rattle.cells.proofs.cell_check.+judge.Goals as goal
+use Rattle.structures_cells.specs.Prelude.{scan, structures, structures_in, shape, entry, node_shape, unbound_shape, text_of, texts_of, fault_of_structure}
+use Rattle.structures_cells.specs.declared.cell.Path.{out-Path}
+use Rattle.structures_cells.proofs.Views.{node_parts, unbound_parts, relationship_parts, shape-Duration, node-out, unbound-out, relationship-out, path-out}
+use Rattle.structures_cells.proofs.Scanning.{members_step, pairs_step, scan_append, onward, Found}
+use Rattle.structures_cells.proofs.Judged.{duration_judged, texts_plain, fields_ok, relationship_ok, path_ok, path_err, mapped}
+use Rattle.structures_cells.proofs.cell_check.+judge.Goals as goal
 
 pub check_cell-returns-in-Duration : goal.check_cell-returns-in-Duration
 check_cell-returns-in-Duration t c =

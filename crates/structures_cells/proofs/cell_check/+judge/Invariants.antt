@@ -1,7 +1,7 @@
 use Rattle.std.proofs.Common.{◌≡◌, drop, map}
 use Rattle.packstream.specs.Prelude.{trees_of, entries_of}
-use Rattle.cells.specs.Prelude.{scan, structures_in, structures_under, shapes, entries, node_shape, unbound_shape, fault_of_structure}
-use Rattle.cells.proofs.cell_check.+judge.Given as goal
+use Rattle.structures_cells.specs.Prelude.{scan, structures_in, structures_under, shapes, entries, node_shape, unbound_shape, fault_of_structure}
+use Rattle.structures_cells.proofs.cell_check.+judge.Given as goal
 
 abbrev pub invariant-check_cells-loop-member : goal.invariant-check_cells-loop-member
 invariant-check_cells-loop-member l = scan (fault_of_structure l.version) l.number (structures_in (trees_of (shapes (drop l.member-index l.member-items)))) ≡ scan (fault_of_structure l.version) l.seen (structures_in (trees_of (shapes l.member-items)))

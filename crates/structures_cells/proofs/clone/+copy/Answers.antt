@@ -1,8 +1,8 @@
 use Rattle.std.proofs.Common.{rules}
 use Rattle.std.proofs.lemmas.List.Elements.{same_from_all_zip}
-use Rattle.cells.specs.declared.cell.Cell.{the_lemmas}
-use Rattle.cells.proofs.Views.{same_node, same_unbound, same_relationship}
-use Rattle.cells.proofs.clone.+copy.Goals as goal
+use Rattle.structures_cells.specs.declared.cell.Cell.{the_lemmas}
+use Rattle.structures_cells.proofs.Views.{same_node, same_unbound, same_relationship}
+use Rattle.structures_cells.proofs.clone.+copy.Goals as goal
 
 pub copy_other-returns-in_ok-clone-in-Bytes : goal.copy_other-returns-in_ok-clone-in-Bytes
 copy_other-returns-in_ok-clone-in-Bytes t c = search (rules, the_lemmas, same_from_all_zip)

@@ -1,6 +1,6 @@
 use Rattle.std.proofs.Common.{◌≡◌, take, map}
-use Rattle.cells.specs.Prelude.{shapes, entries, node_shape, unbound_shape}
-use Rattle.cells.proofs.clone.+copy.Given as goal
+use Rattle.structures_cells.specs.Prelude.{shapes, entries, node_shape, unbound_shape}
+use Rattle.structures_cells.proofs.clone.+copy.Given as goal
 
 abbrev pub invariant-copy_members-loop-member : goal.invariant-copy_members-loop-member
 invariant-copy_members-loop-member l = shapes l.copies.items ≡ shapes (take l.member-index l.member-items)

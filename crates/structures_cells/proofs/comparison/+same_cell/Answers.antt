@@ -1,10 +1,10 @@
 use Rattle.std.proofs.Common.{◌≡◌, not, [], ◌∷◌, int_eq, refl, sym, ◌∙◌, to_z, of_z, w64, arith, rules}
 use Rattle.std.specs.Cmp.Lexicographic.{pointwise}
 use Rattle.std.proofs.lemmas.Bool.{not-true, not-false, and_left}
-use Rattle.cells.specs.Prelude.{shape}
-use Rattle.cells.specs.declared.cell.Cell.{the_lemmas}
-use Rattle.cells.proofs.Alike.{node_alike, unbound_alike, relationship_alike, second_differs, third_differs, last_left, ints_same, relationship_is_alone}
-use Rattle.cells.proofs.comparison.+same_cell.Goals as goal
+use Rattle.structures_cells.specs.Prelude.{shape}
+use Rattle.structures_cells.specs.declared.cell.Cell.{the_lemmas}
+use Rattle.structures_cells.proofs.Alike.{node_alike, unbound_alike, relationship_alike, second_differs, third_differs, last_left, ints_same, relationship_is_alone}
+use Rattle.structures_cells.proofs.comparison.+same_cell.Goals as goal
 
 pub same_cell-returns-in_default-10 : goal.same_cell-returns-in_default-10
 same_cell-returns-in_default-10 t c = relationship_is_alone (shape c.args.one.now) c.args.other.now (search (rules, the_lemmas)) (omega arith) (λ e. omega arith)

@@ -1,7 +1,7 @@
 use Rattle.std.proofs.Common.{◌≡◌, drop}
-use Rattle.cells.specs.Prelude.{shape, entry, node_shape, unbound_shape}
-use Rattle.cells.proofs.Walking.{SameMembers, SamePairs}
-use Rattle.cells.proofs.comparison.+same_cell.Given as goal
+use Rattle.structures_cells.specs.Prelude.{shape, entry, node_shape, unbound_shape}
+use Rattle.structures_cells.proofs.Walking.{SameMembers, SamePairs}
+use Rattle.structures_cells.proofs.comparison.+same_cell.Given as goal
 
 abbrev pub invariant-same_members-loop-i : goal.invariant-same_members-loop-i
 invariant-same_members-loop-i l = SameMembers shape (drop l.i l.member-items) (drop l.i l.others.items) ≡ SameMembers shape l.member-items l.others.items

@@ -1,7 +1,7 @@
 use Rattle.std.proofs.Common.{sym, ◌∙◌}
-use Rattle.cells.specs.Prelude.{shape}
-use Rattle.cells.proofs.Equality.{same_tree-Decides}
-use Rattle.cells.proofs.comparison.same.Goals as goal
+use Rattle.structures_cells.specs.Prelude.{shape}
+use Rattle.structures_cells.proofs.Equality.{same_tree-Decides}
+use Rattle.structures_cells.proofs.comparison.same.Goals as goal
 
 pub returns-clause-equal : goal.returns-clause-equal
 returns-clause-equal c =

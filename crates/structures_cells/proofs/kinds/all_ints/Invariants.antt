@@ -1,7 +1,7 @@
 use Rattle.std.proofs.Common.{◌≡◌, drop}
 use Rattle.packstream.specs.Prelude.{trees, trees_of}
-use Rattle.cells.specs.Prelude.{each, is_int}
-use Rattle.cells.proofs.kinds.all_ints.Given as goal
+use Rattle.structures_cells.specs.Prelude.{each, is_int}
+use Rattle.structures_cells.proofs.kinds.all_ints.Given as goal
 
 abbrev pub invariant-loop-member : goal.invariant-loop-member
 invariant-loop-member l = each is_int (trees_of (trees (drop l.member-index l.members))) ≡ each is_int (trees_of (trees l.members))

@@ -1,7 +1,7 @@
 use Rattle.std.proofs.Common.{refl, ap, rules}
 use Rattle.packstream.specs.Prelude.{tree}
-use Rattle.cells.proofs.Faulty.{path_of}
-use Rattle.cells.proofs.path.is_shaped_by.Goals as goal
+use Rattle.structures_cells.proofs.Faulty.{path_of}
+use Rattle.structures_cells.proofs.path.is_shaped_by.Goals as goal
 
 pub returns-then-len-gt0 : goal.returns-then-len-gt0
 returns-then-len-gt0 c =

@@ -1,9 +1,9 @@
 use Rattle.std.proofs.Common.{ap, sym, ◌∙◌, rules, Ok, Err}
 use Rattle.std.proofs.lemmas.Result.{err_from_is_err_and}
 use Rattle.packstream.specs.Prelude.{Tree, tree, entry}
-use Rattle.cells.specs.Prelude.{fault, scan, structures}
-use Rattle.cells.proofs.Scanning.{members_step, pairs_step, tree-Dict}
-use Rattle.cells.proofs.value_check.+check.Goals as goal
+use Rattle.structures_cells.specs.Prelude.{fault, scan, structures}
+use Rattle.structures_cells.proofs.Scanning.{members_step, pairs_step, tree-Dict}
+use Rattle.structures_cells.proofs.value_check.+check.Goals as goal
 
 pub check_value-returns-in-Dict : goal.check_value-returns-in-Dict
 check_value-returns-in-Dict t c = c.check_pairs.ensures ∙ ap (λ (u : Tree). scan (fault c.args.version) c.args.seen (structures u)) (sym (ap tree c.in-Dict.is ∙ tree-Dict c.in-Dict.pairs))

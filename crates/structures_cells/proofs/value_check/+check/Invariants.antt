@@ -1,7 +1,7 @@
 use Rattle.std.proofs.Common.{◌≡◌, drop}
 use Rattle.packstream.specs.Prelude.{trees, trees_of, entries, entries_of}
-use Rattle.cells.specs.Prelude.{fault, scan, structures_in, structures_under}
-use Rattle.cells.proofs.value_check.+check.Given as goal
+use Rattle.structures_cells.specs.Prelude.{fault, scan, structures_in, structures_under}
+use Rattle.structures_cells.proofs.value_check.+check.Given as goal
 
 abbrev pub invariant-check_members-loop-member : goal.invariant-check_members-loop-member
 invariant-check_members-loop-member l = scan (fault l.version) l.number (structures_in (trees_of (trees (drop l.member-index l.member-items)))) ≡ scan (fault l.version) l.seen (structures_in (trees_of (trees l.member-items)))

@@ -1,6 +1,6 @@
 use Rattle.std.proofs.Common.{refl, sym, ◌∙◌, true, false}
-use Rattle.cells.proofs.Faulty.{fault_is, wrong_is, counts_agree, counts_differ}
-use Rattle.cells.proofs.wrong.fault_of.Goals as goal
+use Rattle.structures_cells.proofs.Faulty.{fault_is, wrong_is, counts_agree, counts_differ}
+use Rattle.structures_cells.proofs.wrong.fault_of.Goals as goal
 
 pub returns-then-fields-kinds : goal.returns-then-fields-kinds
 returns-then-fields-kinds c = sym (fault_is c.args.version c.args.tag _ c.in-Ok.kinds.now c.in-Ok.ensures ∙ wrong_is c.in-Ok.kinds.now c.args.tag _ false _ _ _ (counts_differ c.args.fields.now c.in-Ok.kinds.now c.if-fields-kinds.true) refl refl refl)

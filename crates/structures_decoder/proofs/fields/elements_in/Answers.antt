@@ -1,5 +1,5 @@
-use Rattle.scanner.proofs.Words.{refl, rules}
-use Rattle.scanner.proofs.fields.elements_in.Goals as goal
+use Rattle.structures_decoder.proofs.Words.{refl, rules}
+use Rattle.structures_decoder.proofs.fields.elements_in.Goals as goal
 
 pub returns-in_ok-end-in-8 : goal.returns-in_ok-end-in-8
 returns-in_ok-end-in-8 c =

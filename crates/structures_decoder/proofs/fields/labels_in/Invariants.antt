@@ -1,6 +1,6 @@
-use Rattle.scanner.proofs.Words.{map, ◌-◌, text_of}
-use Rattle.scanner.proofs.Laid.{ReadSoFar}
-use Rattle.scanner.proofs.fields.labels_in.Given as goal
+use Rattle.structures_decoder.proofs.Words.{map, ◌-◌, text_of}
+use Rattle.structures_decoder.proofs.Laid.{ReadSoFar}
+use Rattle.structures_decoder.proofs.fields.labels_in.Given as goal
 
 abbrev pub invariant-loop : goal.invariant-loop
 invariant-loop l = ReadSoFar l.scope.version (l.room - 1) l.count l.counter (map text_of l.texts.items) l.rest l.initial.rest

@@ -1,6 +1,6 @@
-use Rattle.scanner.proofs.Words.{◌≡◌, false, ◌-ℤ◌, rules, refl, to_z, of_z, w64, structure, has_utc_times, three}
-use Rattle.scanner.proofs.Laid.{has_fields, local_formed}
-use Rattle.scanner.proofs.moments.date_time_of.Goals as goal
+use Rattle.structures_decoder.proofs.Words.{◌≡◌, false, ◌-ℤ◌, rules, refl, to_z, of_z, w64, structure, has_utc_times, three}
+use Rattle.structures_decoder.proofs.Laid.{has_fields, local_formed}
+use Rattle.structures_decoder.proofs.moments.date_time_of.Goals as goal
 
 pub returns-in-Some : goal.returns-in-Some
 returns-in-Some c =

@@ -1,6 +1,6 @@
-use Rattle.scanner.proofs.Words.{bytes_from_each, shape}
-use Rattle.scanner.proofs.Fronts.{forms}
-use Rattle.scanner.proofs.whole.scan_cell.Goals as goal
+use Rattle.structures_decoder.proofs.Words.{bytes_from_each, shape}
+use Rattle.structures_decoder.proofs.Fronts.{forms}
+use Rattle.structures_decoder.proofs.whole.scan_cell.Goals as goal
 
 pub returns : goal.returns
 returns c =

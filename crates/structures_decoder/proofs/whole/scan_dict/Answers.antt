@@ -1,6 +1,6 @@
-use Rattle.scanner.proofs.Words.{bytes_from_each, dict, entries_of, entries}
-use Rattle.scanner.proofs.Fronts.{forms}
-use Rattle.scanner.proofs.whole.scan_dict.Goals as goal
+use Rattle.structures_decoder.proofs.Words.{bytes_from_each, dict, entries_of, entries}
+use Rattle.structures_decoder.proofs.Fronts.{forms}
+use Rattle.structures_decoder.proofs.whole.scan_dict.Goals as goal
 
 pub returns : goal.returns
 returns c =

@@ -1,6 +1,6 @@
-use Rattle.speller.proofs.Words.{rules, ◌∙◌, arith, text_of}
-use Rattle.speller.proofs.Adding.{none, then, one_more, all_of, list_put}
-use Rattle.speller.proofs.graphs.put_texts.Goals as goal
+use Rattle.structures_encoder.proofs.Words.{rules, ◌∙◌, arith, text_of}
+use Rattle.structures_encoder.proofs.Adding.{none, then, one_more, all_of, list_put}
+use Rattle.structures_encoder.proofs.graphs.put_texts.Goals as goal
 
 pub loop-text-preserved : goal.loop-text-preserved
 loop-text-preserved c =

@@ -1,6 +1,6 @@
-use Rattle.speller.proofs.Words.{◌≡◌, ◌∙◌, ℤ, pos, get_or, to_z, of_z, w64, rules, arith, get_or_default}
-use Rattle.speller.proofs.Adding.{none, then, one_more, all_of}
-use Rattle.speller.proofs.moments.put_ints.Goals as goal
+use Rattle.structures_encoder.proofs.Words.{◌≡◌, ◌∙◌, ℤ, pos, get_or, to_z, of_z, w64, rules, arith, get_or_default}
+use Rattle.structures_encoder.proofs.Adding.{none, then, one_more, all_of}
+use Rattle.structures_encoder.proofs.moments.put_ints.Goals as goal
 
 pub loop-number-preserved : goal.loop-number-preserved
 loop-number-preserved c =

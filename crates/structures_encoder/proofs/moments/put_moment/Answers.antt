@@ -1,6 +1,6 @@
-use Rattle.speller.proofs.Words.{refl, rules, arith, int, float, no_trees, tree_then, shape-Point2D, shape-Point3D}
-use Rattle.speller.proofs.Adding.{last, none, then, as_is, structure_added}
-use Rattle.speller.proofs.moments.put_moment.Goals as goal
+use Rattle.structures_encoder.proofs.Words.{refl, rules, arith, int, float, no_trees, tree_then, shape-Point2D, shape-Point3D}
+use Rattle.structures_encoder.proofs.Adding.{last, none, then, as_is, structure_added}
+use Rattle.structures_encoder.proofs.moments.put_moment.Goals as goal
 
 pub returns-in_ok-put_bits-in-Point2D : goal.returns-in_ok-put_bits-in-Point2D
 returns-in_ok-put_bits-in-Point2D c =

@@ -1,6 +1,6 @@
-use Rattle.speller.proofs.Words.{rules, map, sym, arith, int, trees_of, form_numbers}
-use Rattle.speller.proofs.Adding.{last, count_each, structure_added}
-use Rattle.speller.proofs.moments.put_numbers.Goals as goal
+use Rattle.structures_encoder.proofs.Words.{rules, map, sym, arith, int, trees_of, form_numbers}
+use Rattle.structures_encoder.proofs.Adding.{last, count_each, structure_added}
+use Rattle.structures_encoder.proofs.moments.put_numbers.Goals as goal
 
 pub returns : goal.returns
 returns c =

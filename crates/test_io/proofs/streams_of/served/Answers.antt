@@ -1,8 +1,8 @@
 use Rattle.std.proofs.Common.{ap, ◌∙◌}
 use Rattle.engine.specs.Prelude.{ledger_of}
 use Rattle.server.specs.Prelude.{opened}
-use Rattle.serves.proofs.Firsts.{one, one_lives}
-use Rattle.test_conversation.proofs.streams_of.served.Goals as goal
+use Rattle.server_blocking.proofs.Firsts.{one, one_lives}
+use Rattle.test_io.proofs.streams_of.served.Goals as goal
 
 pub serve_one-ended-requires : goal.serve_one-ended-requires
 serve_one-ended-requires c =

@@ -1,5 +1,5 @@
 use Rattle.std.proofs.Common.{refl, sym, ◌∙◌, ap, subst, drop, Ok, Some, length, ◌-◌, take, List, ℕ}
-use Rattle.session.specs.declared.What.{What}
+use Rattle.server_session.specs.declared.What.{What}
 use Rattle.server.specs.Serving as serving
 use Rattle.world.proofs.Answered as answered
 use Rattle.server.specs.Views as server

@@ -1,5 +1,5 @@
 use Rattle.std.proofs.Common.{◌∙◌, sym, ap, rules, arith}
-use Rattle.inbox.proofs.Opening.{takes_open, come_open, opened}
+use Rattle.messages_deframer.proofs.Opening.{takes_open, come_open, opened}
 use Rattle.client.specs.Prelude.{held_bytes}
 use Rattle.client.specs.Taking.{whole_message}
 use Rattle.client.proofs.Versions.{all_held, chunks_want}

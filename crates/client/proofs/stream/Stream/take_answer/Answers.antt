@@ -1,6 +1,6 @@
 use Rattle.std.proofs.Common.{◌≡◌, ◌∙◌, sym, ap, ◌<◌, ◌≤◌, ◌-◌, min, length, rules, arith, length-take}
 use Rattle.wire.specs.Prelude.{Opened, Took, Item, reading}
-use Rattle.inbox.proofs.Opening.{takes_part, takes_whole, come_open}
+use Rattle.messages_deframer.proofs.Opening.{takes_part, takes_whole, come_open}
 use Rattle.client.specs.Prelude.{held_bytes, came_in}
 use Rattle.client.proofs.Versions.{plain_version, held-length}
 use Rattle.client.proofs.stream.Stream.take_answer.Goals as goal

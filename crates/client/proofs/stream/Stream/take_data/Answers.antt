@@ -1,7 +1,7 @@
 use Rattle.std.proofs.Common.{◌≡◌, ◌∙◌, sym, ap, Bool, true, false, Ok, rules, arith}
 use Rattle.wire.specs.Prelude.{Opened, Took, Item}
-use Rattle.inbox.specs.Opening.{come}
-use Rattle.inbox.proofs.Opening.{takes_open, come_open, opened}
+use Rattle.messages_deframer.specs.Opening.{come}
+use Rattle.messages_deframer.proofs.Opening.{takes_open, come_open, opened}
 use Rattle.client.specs.Prelude.{held_bytes, came_in}
 use Rattle.client.proofs.Versions.{all_held, chunks_want}
 use Rattle.client.proofs.stream.Stream.take_data.Goals as goal

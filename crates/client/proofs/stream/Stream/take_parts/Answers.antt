@@ -1,8 +1,8 @@
 use Rattle.std.proofs.Common.{◌≡◌, ◌∙◌, sym, ap, rules, arith, unwrap_or}
 use Rattle.wire.specs.declared.Version.TheVariants.{V51}
 use Rattle.wire.specs.Prelude.{takes, chunks, Opened, Took, Item, reading}
-use Rattle.inbox.specs.Opening.{come}
-use Rattle.inbox.proofs.Opening.{takes_open, come_open}
+use Rattle.messages_deframer.specs.Opening.{come}
+use Rattle.messages_deframer.proofs.Opening.{takes_open, come_open}
 use Rattle.client.specs.Prelude.{held_bytes, came_in}
 use Rattle.client.proofs.Versions.{all_held, chunks_want}
 use Rattle.client.proofs.stream.Stream.take_parts.Goals as goal

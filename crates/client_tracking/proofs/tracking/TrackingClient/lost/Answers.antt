@@ -1,7 +1,7 @@
 use Rattle.std.proofs.Common.{rules, sym, ◌∙◌, ap, ◌<◌, length}
-use Rattle.driver.specs.Holding.{rest_in, account_of}
-use Rattle.driver.proofs.Taking.{some_lost}
-use Rattle.driver.proofs.tracking.TrackingClient.lost.Goals as goal
+use Rattle.client_tracking.specs.Holding.{rest_in, account_of}
+use Rattle.client_tracking.proofs.Taking.{some_lost}
+use Rattle.client_tracking.proofs.tracking.TrackingClient.lost.Goals as goal
 
 pub returns-then-pending-gt0-clause-account : goal.returns-then-pending-gt0-clause-account
 returns-then-pending-gt0-clause-account c =

@@ -1,10 +1,10 @@
 use Rattle.std.proofs.Common.{rules, ◌≡◌, sym, ◌∙◌, ap, ap₂, true, false, ◌==◌, None, List, eq-eqb}
 use Rattle.std.proofs.lemmas.Bool.{ne_eqb}
 use Rattle.packstream.specs.Tree.{Tree}
-use Rattle.driver.specs.Account.{ReplyView, reply_in, taken_or}
-use Rattle.driver.specs.Holding.{rest_in, account_of}
-use Rattle.driver.proofs.Taking.{none_of, not_found, untaken}
-use Rattle.driver.proofs.tracking.TrackingClient.take_rows.Goals as goal
+use Rattle.client_tracking.specs.Account.{ReplyView, reply_in, taken_or}
+use Rattle.client_tracking.specs.Holding.{rest_in, account_of}
+use Rattle.client_tracking.proofs.Taking.{none_of, not_found, untaken}
+use Rattle.client_tracking.proofs.tracking.TrackingClient.take_rows.Goals as goal
 
 pub returns-then-first_waiting-ordinal-clause-account : goal.returns-then-first_waiting-ordinal-clause-account
 returns-then-first_waiting-ordinal-clause-account c =

@@ -1,8 +1,8 @@
 use Rattle.std.proofs.Common.{◌∷◌, subst, List, map}
 use Rattle.messages.specs.declared.Request.{Request}
 use Rattle.messages.specs.Prelude.{request_view}
-use Rattle.connects.specs.Prelude.{stand_of, place, Says}
-use Rattle.connects.proofs.connection.Connection.ask_one.Goals as goal
+use Rattle.driver.specs.Prelude.{stand_of, place, Says}
+use Rattle.driver.proofs.connection.Connection.ask_one.Goals as goal
 
 pub returns-clause-says : goal.returns-clause-says
 returns-clause-says g c =

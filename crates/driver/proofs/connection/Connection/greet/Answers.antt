@@ -1,9 +1,9 @@
 use Rattle.std.proofs.Common.{ap, string_bytes}
 use Rattle.messages.specs.View.{auth_view}
-use Rattle.driver.specs.Asking.{is_login_in_hello}
-use Rattle.connects.specs.Prelude.{Stand, stand_of, place, greeting}
-use Rattle.connects.proofs.Asking.{unasked_said, greeting_some}
-use Rattle.connects.proofs.connection.Connection.greet.Goals as goal
+use Rattle.client_tracking.specs.Asking.{is_login_in_hello}
+use Rattle.driver.specs.Prelude.{Stand, stand_of, place, greeting}
+use Rattle.driver.proofs.Asking.{unasked_said, greeting_some}
+use Rattle.driver.proofs.connection.Connection.greet.Goals as goal
 
 pub returns-in_default : goal.returns-in_default
 returns-in_default g c =

@@ -1,9 +1,9 @@
 use Rattle.std.proofs.Common.{ap, refl, ◌∷◌, []}
-use Rattle.driver.specs.Asking.{rows_view}
-use Rattle.connects.specs.declared.connection.Answer.{Answer}
-use Rattle.connects.specs.Prelude.{Stand, stand_of, place, query_run, query_view}
-use Rattle.connects.proofs.Asking.{unasked_said}
-use Rattle.connects.proofs.connection.Connection.run.Goals as goal
+use Rattle.client_tracking.specs.Asking.{rows_view}
+use Rattle.driver.specs.declared.connection.Answer.{Answer}
+use Rattle.driver.specs.Prelude.{Stand, stand_of, place, query_run, query_view}
+use Rattle.driver.proofs.Asking.{unasked_said}
+use Rattle.driver.proofs.connection.Connection.run.Goals as goal
 
 pub returns-in_default-clause-says : goal.returns-in_default-clause-says
 returns-in_default-clause-says g c =

@@ -1,9 +1,9 @@
 use Rattle.std.proofs.Common.{ap, refl, ℕ, ◌∷◌, map}
 use Rattle.messages.specs.View.{RequestView, token_view}
-use Rattle.driver.specs.Asking.{rows_view}
-use Rattle.connects.specs.Prelude.{Stand, stand_of, place, within, query_view}
-use Rattle.connects.proofs.Asking.{unasked_said}
-use Rattle.connects.proofs.connection.Connection.transact.Goals as goal
+use Rattle.client_tracking.specs.Asking.{rows_view}
+use Rattle.driver.specs.Prelude.{Stand, stand_of, place, within, query_view}
+use Rattle.driver.proofs.Asking.{unasked_said}
+use Rattle.driver.proofs.connection.Connection.transact.Goals as goal
 
 pub returns-in_default-clause-says : goal.returns-in_default-clause-says
 returns-in_default-clause-says g c =

@@ -23,12 +23,12 @@ use denote.Triple.Entry.{alive}
 use denote.Triple.Spec.{Meets, triple_of}
 use denote.Triple.Table.{entered}
 use denote.Triple.Walked.{says, Stays, walk_of, ends_at, walk_Meets}
-use Rattle.connects.proofs.Walks.{none, none_made}
-use Rattle.connects.specs.contracts.log.Log as Log
-use Rattle.connects.specs.contracts.log.Log.new as F
-use Rattle.connects.specs.contracts.log.Log.new.Key.{name as #self}
-use Rattle.connects.proofs.log.Log.new.Statement as stated
-use Rattle.connects.proofs.log.Log.new.Code as code
+use Rattle.driver.proofs.Walks.{none, none_made}
+use Rattle.driver.specs.contracts.log.Log as Log
+use Rattle.driver.specs.contracts.log.Log.new as F
+use Rattle.driver.specs.contracts.log.Log.new.Key.{name as #self}
+use Rattle.driver.proofs.log.Log.new.Statement as stated
+use Rattle.driver.proofs.log.Log.new.Code as code
 
 abbrev function : Fn
 function = code.function

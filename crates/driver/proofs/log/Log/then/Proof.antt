@@ -25,14 +25,14 @@ use denote.Triple.Entry.{alive}
 use denote.Triple.Spec.{Meets, triple_of}
 use denote.Triple.Table.{entered}
 use denote.Triple.Walked.{says, Stays, stay_dropped, walk_of, ends_at, walk_Meets, Goes-dropped}
-use Rattle.connects.proofs.Walks.{none, none_made}
-use Rattle.connects.specs.contracts.log.Log as Log
-use Rattle.connects.specs.contracts.log.Step as Taken
-use Rattle.connects.specs.Stepping.{stepped}
-use Rattle.connects.specs.contracts.log.Log.then as F
-use Rattle.connects.specs.contracts.log.Log.then.Key.{name as #self}
-use Rattle.connects.proofs.log.Log.then.Statement as stated
-use Rattle.connects.proofs.log.Log.then.Code as code
+use Rattle.driver.proofs.Walks.{none, none_made}
+use Rattle.driver.specs.contracts.log.Log as Log
+use Rattle.driver.specs.contracts.log.Step as Taken
+use Rattle.driver.specs.Stepping.{stepped}
+use Rattle.driver.specs.contracts.log.Log.then as F
+use Rattle.driver.specs.contracts.log.Log.then.Key.{name as #self}
+use Rattle.driver.proofs.log.Log.then.Statement as stated
+use Rattle.driver.proofs.log.Log.then.Code as code
 
 abbrev function : Fn
 function = code.function

@@ -1,13 +1,13 @@
 use Rattle.std.proofs.Common.{◌≡◌, ◌++◌, ◌∷◌, [], ◌∙◌, inl, ap, subst, sym, length, length-append, take, arith, rules}
 use Rattle.engine.specs.Tokens.{Free, found_in}
 use Rattle.engine.specs.Views.{entry_of, token_view, writes_view}
-use Rattle.lasting.specs.Kept.{ledger_of}
-use Rattle.lasting.specs.Ledger.{HoldsLedger}
-use Rattle.lasting.proofs.Enduring.{added_has, added_left, counted_new, lacking_has, lacking_left, lasts_all, leaves_shown, shows_more}
-use Rattle.lasting.proofs.Front.{take_whole}
+use Rattle.engine_sqlite.specs.Kept.{ledger_of}
+use Rattle.engine_sqlite.specs.Ledger.{HoldsLedger}
+use Rattle.engine_sqlite.proofs.Enduring.{added_has, added_left, counted_new, lacking_has, lacking_left, lasts_all, leaves_shown, shows_more}
+use Rattle.engine_sqlite.proofs.Front.{take_whole}
 use Rattle.sqlite.specs.Held.{state}
 use Rattle.sqlite.specs.State.{Survives}
-use Rattle.lasting.proofs.lasting.Lasting.add.Goals as goal
+use Rattle.engine_sqlite.proofs.lasting.Lasting.add.Goals as goal
 
 pub returns-in-Ok-add_to_both-clause-adds : goal.returns-in-Ok-add_to_both-clause-adds
 returns-in-Ok-add_to_both-clause-adds g c =

@@ -1,11 +1,11 @@
 use Rattle.std.proofs.Common.{◌≡◌, ◌∙◌, ap, false, length, subst, sym, to_z, of_z, w64, rules}
 use Rattle.std.proofs.lemmas.List.{length-map}
 use Rattle.engine.specs.Views.{entry_view}
-use Rattle.lasting.specs.Kept.{Kept}
-use Rattle.lasting.specs.Shown.{IsOpenedFrom}
-use Rattle.lasting.proofs.Front.{take_whole}
-use Rattle.lasting.proofs.Opened.{opened_endures, opened_finds}
-use Rattle.lasting.proofs.lasting.Lasting.open.Goals as goal
+use Rattle.engine_sqlite.specs.Kept.{Kept}
+use Rattle.engine_sqlite.specs.Shown.{IsOpenedFrom}
+use Rattle.engine_sqlite.proofs.Front.{take_whole}
+use Rattle.engine_sqlite.proofs.Opened.{opened_endures, opened_finds}
+use Rattle.engine_sqlite.proofs.lasting.Lasting.open.Goals as goal
 
 pub returns-in-Ok-clause-opened : goal.returns-in-Ok-clause-opened
 returns-in-Ok-clause-opened g c clean =

@@ -1,7 +1,7 @@
 use Rattle.std.proofs.Common.{◌≡◌, ◌∙◌, ◌+◌, ◌++◌, ◌∷◌, [], ap, subst, take, length, rules, true, false}
 use Rattle.engine.specs.Prelude.{entry_view, entries_view, is_token, token_view, writes_view}
-use Rattle.lasting.proofs.Front.{free_of_last, front_of_last, last_split}
-use Rattle.lasting.proofs.lasting.LastingEngine.known.Goals as goal
+use Rattle.engine_sqlite.proofs.Front.{free_of_last, front_of_last, last_split}
+use Rattle.engine_sqlite.proofs.lasting.LastingEngine.known.Goals as goal
 
 pub returns-then-has_token : goal.returns-then-has_token
 returns-then-has_token g c =

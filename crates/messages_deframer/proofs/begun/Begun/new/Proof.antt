@@ -14,10 +14,10 @@ use denote.Steps.{nothing}
 use denote.Triple.Entry.{on_entry}
 use denote.Triple.Walked.{says}
 use Rattle.wire.specs.Unfinished.{fresh}
-use Rattle.inbox.specs.contracts.begun.Begun.{the_row as Row}
-use Rattle.inbox.specs.contracts.begun.Begun.new as f
-use Rattle.inbox.proofs.begun.Begun.new.Statement.{statement}
-use Rattle.inbox.proofs.begun.Begun.new.Code as code
+use Rattle.messages_deframer.specs.contracts.begun.Begun.{the_row as Row}
+use Rattle.messages_deframer.specs.contracts.begun.Begun.new as f
+use Rattle.messages_deframer.proofs.begun.Begun.new.Statement.{statement}
+use Rattle.messages_deframer.proofs.begun.Begun.new.Code as code
 
 abbrev first : Row.Denot
 first = record { item = fresh }

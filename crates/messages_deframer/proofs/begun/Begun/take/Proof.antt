@@ -17,10 +17,10 @@ use denote.Steps.{nothing, opens, closes}
 use denote.Triple.Walked.{says, Stays, stay_ref, stay_dropped, Goes-ref, Goes-dropped, ends_at}
 use Rattle.wire.specs.Framing.{chunks}
 use Rattle.wire.specs.Reader.{takes}
-use Rattle.inbox.specs.contracts.begun.Begun.{the_row as Row}
-use Rattle.inbox.specs.contracts.begun.Begun.take as f
-use Rattle.inbox.proofs.begun.Begun.take.Statement.{statement}
-use Rattle.inbox.proofs.begun.Begun.take.Code as code
+use Rattle.messages_deframer.specs.contracts.begun.Begun.{the_row as Row}
+use Rattle.messages_deframer.specs.contracts.begun.Begun.take as f
+use Rattle.messages_deframer.proofs.begun.Begun.take.Statement.{statement}
+use Rattle.messages_deframer.proofs.begun.Begun.take.Code as code
 
 abbrev stayed : Stays f.ended.signature.params f.ended.kept
 stayed = (stay_ref (0 ∷ []) tt (plain (λ _. Row)), (stay_dropped (shr_slice_of (1 ∷ []) tt (plain (λ _. u8))) yes, tt))

@@ -1,8 +1,8 @@
 use Rattle.std.proofs.Common.{◌≡◌, ◌∙◌, ◌≤◌, ◌+◌, ap, length, subst, sym}
 use Rattle.wire.specs.Prelude.{Unfinished, takes, chunks}
-use Rattle.inbox.specs.Taking.{whole_message, WantsRoom}
-use Rattle.inbox.proofs.Fronts.{at_start, first_takes, first_wants, first_within, none_come, whole_is}
-use Rattle.inbox.proofs.inbox.Inbox.message_in.Goals as goal
+use Rattle.messages_deframer.specs.Taking.{whole_message, WantsRoom}
+use Rattle.messages_deframer.proofs.Fronts.{at_start, first_takes, first_wants, first_within, none_come, whole_is}
+use Rattle.messages_deframer.proofs.inbox.Inbox.message_in.Goals as goal
 
 pub returns-clause-lends : goal.returns-clause-lends
 returns-clause-lends c = λ m.

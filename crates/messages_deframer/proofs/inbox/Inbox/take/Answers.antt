@@ -1,7 +1,7 @@
 use Rattle.std.proofs.Common.{subst, sym}
-use Rattle.inbox.specs.Standing.{IsAt}
-use Rattle.inbox.proofs.Taken.{taken_over, told}
-use Rattle.inbox.proofs.inbox.Inbox.take.Goals as goal
+use Rattle.messages_deframer.specs.Standing.{IsAt}
+use Rattle.messages_deframer.proofs.Taken.{taken_over, told}
+use Rattle.messages_deframer.proofs.inbox.Inbox.take.Goals as goal
 
 pub invariant_of-self : goal.invariant_of-self
 invariant_of-self g c =

@@ -1,12 +1,12 @@
 use Rattle.std.proofs.Common.{◌≡◌, ap, refl, subst, sym, ◌∙◌}
 use Rattle.packstream.proofs.Ranges.{bytes_from_each}
 use Rattle.wire.specs.Prelude.{Unfinished, takes, chunks}
-use Rattle.inbox.specs.declared.stream.Stream.{Stream}
-use Rattle.inbox.specs.Standing.{IsAt}
-use Rattle.inbox.specs.Taking.{used_up}
-use Rattle.inbox.proofs.Fronts.{alone_taken, alone_wants, alone_going, wants}
-use Rattle.inbox.proofs.Told.{err_holds}
-use Rattle.inbox.proofs.inbox.Inbox.take_data.Goals as goal
+use Rattle.messages_deframer.specs.declared.stream.Stream.{Stream}
+use Rattle.messages_deframer.specs.Standing.{IsAt}
+use Rattle.messages_deframer.specs.Taking.{used_up}
+use Rattle.messages_deframer.proofs.Fronts.{alone_taken, alone_wants, alone_going, wants}
+use Rattle.messages_deframer.proofs.Told.{err_holds}
+use Rattle.messages_deframer.proofs.inbox.Inbox.take_data.Goals as goal
 
 pub returns-in_err-advance-clause-err : goal.returns-in_err-advance-clause-err
 returns-in_err-advance-clause-err c =

@@ -1,7 +1,7 @@
 use Rattle.std.proofs.Common.{sym, ◌∙◌, ap}
 use Rattle.wire.specs.Prelude.{Unfinished}
-use Rattle.inbox.proofs.Fronts.{wants}
-use Rattle.inbox.proofs.inbox.Inbox.take_parts.Goals as goal
+use Rattle.messages_deframer.proofs.Fronts.{wants}
+use Rattle.messages_deframer.proofs.inbox.Inbox.take_parts.Goals as goal
 
 pub returns-in_default-clause-err : goal.returns-in_default-clause-err
 returns-in_default-clause-err g c =

@@ -2,10 +2,10 @@ use Rattle.std.proofs.Common.{take, sym, subst}
 use Rattle.packstream.proofs.Ranges.{bytes_from_each}
 use Rattle.wire.specs.declared.parts.Part.{Part}
 use Rattle.wire.specs.Prelude.{with_data}
-use Rattle.reader.specs.Prelude.{Reads}
-use Rattle.reader.proofs.Pieces.{good_before}
-use Rattle.inbox.proofs.Taken.{taken_bytes}
-use Rattle.inbox.proofs.stream.Stream.next.Goals as goal
+use Rattle.packstream_incremental.specs.Prelude.{Reads}
+use Rattle.packstream_incremental.proofs.Pieces.{good_before}
+use Rattle.messages_deframer.proofs.Taken.{taken_bytes}
+use Rattle.messages_deframer.proofs.stream.Stream.next.Goals as goal
 
 pub returns-in_ok-feed-clause-reads : goal.returns-in_ok-feed-clause-reads
 returns-in_ok-feed-clause-reads c = λ body reads.

@@ -1,9 +1,9 @@
 use Rattle.std.proofs.Common.{◌≡◌, ◌<◌, ◌-◌, ◌∙◌, ⊎_elim, refl, length, take, drop, arith, length-take, length-drop}
 use Rattle.wire.specs.declared.parts.Part.TheVariants as part
-use Rattle.inbox.proofs.Parts.{some_used, keeps_going}
-use Rattle.inbox.proofs.Coming.{comes_none, comes_on, comes_to, comes_all, comes_data, neither}
-use Rattle.inbox.proofs.Told.{err_holds}
-use Rattle.inbox.proofs.stream.Stream.scan.Goals as goal
+use Rattle.messages_deframer.proofs.Parts.{some_used, keeps_going}
+use Rattle.messages_deframer.proofs.Coming.{comes_none, comes_on, comes_to, comes_all, comes_data, neither}
+use Rattle.messages_deframer.proofs.Told.{err_holds}
+use Rattle.messages_deframer.proofs.stream.Stream.scan.Goals as goal
 
 pub loop-used-init : goal.loop-used-init
 loop-used-init c = record { comes = λ u is. comes_none c.args.self.now u c.args.piece.now is c.requires.over; within = omega arith; going = c.requires.going; held = refl; over = refl; good = λ e. e }

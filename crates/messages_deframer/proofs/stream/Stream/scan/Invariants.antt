@@ -1,8 +1,8 @@
 use Rattle.std.proofs.Common.{◌≡◌, length, ◌-◌, ◌≤◌, None, false}
 use Rattle.wire.specs.Prelude.{Unfinished}
-use Rattle.inbox.specs.Standing.{IsAt}
-use Rattle.inbox.specs.Scanning.{Comes}
-use Rattle.inbox.proofs.stream.Stream.scan.Given as goal
+use Rattle.messages_deframer.specs.Standing.{IsAt}
+use Rattle.messages_deframer.specs.Scanning.{Comes}
+use Rattle.messages_deframer.proofs.stream.Stream.scan.Given as goal
 
 abbrev pub invariant-loop-used : goal.invariant-loop-used
 invariant-loop-used l = record {

@@ -1,9 +1,9 @@
 use Rattle.std.proofs.Common.{◌∙◌, refl, sym, subst, [], true}
-use Rattle.reader.specs.Prelude.{Points, Reads}
-use Rattle.inbox.specs.declared.stream.Stream.{Stream}
-use Rattle.inbox.proofs.Told.{err_holds}
-use Rattle.inbox.proofs.Taken.{taken_part, taken_noop, taken_message, taken_refused}
-use Rattle.inbox.proofs.stream.Stream.take.Goals as goal
+use Rattle.packstream_incremental.specs.Prelude.{Points, Reads}
+use Rattle.messages_deframer.specs.declared.stream.Stream.{Stream}
+use Rattle.messages_deframer.proofs.Told.{err_holds}
+use Rattle.messages_deframer.proofs.Taken.{taken_part, taken_noop, taken_message, taken_refused}
+use Rattle.messages_deframer.proofs.stream.Stream.take.Goals as goal
 
 pub returns-in-Head-clause-ok : goal.returns-in-Head-clause-ok
 returns-in-Head-clause-ok g c = λ u is. taken_part (g.M.Readable.reads c.args.version) u c.args.piece.now c.in_ok-used.field-0 c.scan.new.self (c.in_ok-used.ensures.over ∙ c.requires.over) (c.in_ok-used.ensures.ok u is) c.in-Head.is

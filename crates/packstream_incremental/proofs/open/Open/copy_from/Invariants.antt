@@ -1,5 +1,5 @@
 use Rattle.std.proofs.Common.{◌≡◌, ◌≤◌, ◌<◌, ◌-◌, ℕ, slice_get}
-use Rattle.reader.proofs.open.Open.copy_from.Given as goal
+use Rattle.packstream_incremental.proofs.open.Open.copy_from.Given as goal
 
 abbrev pub invariant-loop-at : goal.invariant-loop-at
 invariant-loop-at l =

@@ -1,9 +1,9 @@
 use Rattle.std.proofs.Common.{◌-◌, arith, ap, sym, ◌∙◌}
 use Rattle.std.proofs.lemmas.Option.{get_or_from_slice_get}
-use Rattle.reader.specs.declared.open.Level.{Level}
-use Rattle.reader.specs.declared.open.Inside.TheVariants as inside
-use Rattle.reader.proofs.Leveling.{last_level, passes}
-use Rattle.reader.proofs.open.Open.pass.Goals as goal
+use Rattle.packstream_incremental.specs.declared.open.Level.{Level}
+use Rattle.packstream_incremental.specs.declared.open.Inside.TheVariants as inside
+use Rattle.packstream_incremental.proofs.Leveling.{last_level, passes}
+use Rattle.packstream_incremental.proofs.open.Open.pass.Goals as goal
 
 pub returns-clause-frames : goal.returns-clause-frames
 returns-clause-frames c = λ f fs levels.

@@ -1,6 +1,6 @@
 use Rattle.std.proofs.Common.{sym, ◌∙◌, arith}
-use Rattle.reader.proofs.Taking.{refuses_deep, refuses_none, no_text}
-use Rattle.reader.proofs.open.Open.refuses.Goals as goal
+use Rattle.packstream_incremental.proofs.Taking.{refuses_deep, refuses_none, no_text}
+use Rattle.packstream_incremental.proofs.open.Open.refuses.Goals as goal
 
 pub returns-then-self-eq-MOST : goal.returns-then-self-eq-MOST
 returns-then-self-eq-MOST c = λ fs levels.

@@ -1,7 +1,7 @@
 use Rattle.std.proofs.Common.{◌≡◌, refl, sym, ◌∙◌}
-use Rattle.reader.specs.Prelude.{whole, still, ends}
-use Rattle.reader.proofs.Leveling.{step_out, stay_in, all_ended}
-use Rattle.reader.proofs.open.Open.value_ends.Goals as goal
+use Rattle.packstream_incremental.specs.Prelude.{whole, still, ends}
+use Rattle.packstream_incremental.proofs.Leveling.{step_out, stay_in, all_ended}
+use Rattle.packstream_incremental.proofs.open.Open.value_ends.Goals as goal
 
 pub loop-self-init : goal.loop-self-init
 loop-self-init c = (refl, λ fs t h. (fs, t, h, refl))

@@ -1,7 +1,7 @@
 use Rattle.std.proofs.Common.{◌≡◌, List}
 use Rattle.packstream.specs.Prelude.{Tree}
-use Rattle.reader.specs.Prelude.{Frame, AreLevels, ends}
-use Rattle.reader.proofs.open.Open.value_ends.Given as goal
+use Rattle.packstream_incremental.specs.Prelude.{Frame, AreLevels, ends}
+use Rattle.packstream_incremental.proofs.open.Open.value_ends.Given as goal
 
 abbrev pub invariant-loop-self : goal.invariant-loop-self
 invariant-loop-self l =

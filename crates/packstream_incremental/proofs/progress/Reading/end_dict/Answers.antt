@@ -1,10 +1,10 @@
 use Rattle.std.proofs.Common.{◌≡◌, ◌<◌, ◌∷◌, ℕ, length, refl, ap, sym, subst, ◌∙◌}
 use Rattle.packstream.specs.declared.marker.Marker.TheVariants as announces
-use Rattle.reader.specs.declared.open.Open.{Open}
-use Rattle.reader.specs.Prelude.{AreLevels, waits, Holds, holds}
-use Rattle.reader.proofs.Standing.{after, has_taken}
-use Rattle.reader.proofs.Values.{has_room, dict_stands}
-use Rattle.reader.proofs.progress.Reading.end_dict.Goals as goal
+use Rattle.packstream_incremental.specs.declared.open.Open.{Open}
+use Rattle.packstream_incremental.specs.Prelude.{AreLevels, waits, Holds, holds}
+use Rattle.packstream_incremental.proofs.Standing.{after, has_taken}
+use Rattle.packstream_incremental.proofs.Values.{has_room, dict_stands}
+use Rattle.packstream_incremental.proofs.progress.Reading.end_dict.Goals as goal
 
 pub open_dict-requires : goal.open_dict-requires
 open_dict-requires c =

@@ -1,12 +1,12 @@
 use Rattle.std.proofs.Common.{◌≡◌, ◌-◌, ◌∷◌, ℕ, List, Bool, Option, Ok, drop, length, ap, sym, subst, ◌∙◌, arith, IsUtf8}
-use Rattle.reader.specs.declared.open.Open.{Open}
-use Rattle.reader.specs.Prelude.{Name, IsRoot, IsNamed, Frame, waits, AreLevels, Holds, holds, with_item, body, size_with}
+use Rattle.packstream_incremental.specs.declared.open.Open.{Open}
+use Rattle.packstream_incremental.specs.Prelude.{Name, IsRoot, IsNamed, Frame, waits, AreLevels, Holds, holds, with_item, body, size_with}
 use Rattle.packstream.specs.Prelude.{at_key}
 use Rattle.packstream.specs.declared.marker.Marker.{Marker}
-use Rattle.reader.proofs.Standing.{after, has_taken}
-use Rattle.reader.proofs.Values.{key_frame, key_root, key_stands, named_with, named_is}
-use Rattle.reader.proofs.Taking.{tail_at, key_twice}
-use Rattle.reader.proofs.progress.Reading.end_key.Goals as goal
+use Rattle.packstream_incremental.proofs.Standing.{after, has_taken}
+use Rattle.packstream_incremental.proofs.Values.{key_frame, key_root, key_stands, named_with, named_is}
+use Rattle.packstream_incremental.proofs.Taking.{tail_at, key_twice}
+use Rattle.packstream_incremental.proofs.progress.Reading.end_key.Goals as goal
 
 pub join-requires-clause-root : goal.join-requires-clause-root
 join-requires-clause-root c =

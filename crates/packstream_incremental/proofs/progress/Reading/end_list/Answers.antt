@@ -1,9 +1,9 @@
 use Rattle.std.proofs.Common.{◌<◌, ap, sym, subst, ◌∙◌}
-use Rattle.reader.specs.declared.open.Open.{Open}
-use Rattle.reader.specs.Prelude.{AreLevels, Holds, holds}
-use Rattle.reader.proofs.Standing.{after, has_taken}
-use Rattle.reader.proofs.Values.{list_has_room, list_stands}
-use Rattle.reader.proofs.progress.Reading.end_list.Goals as goal
+use Rattle.packstream_incremental.specs.declared.open.Open.{Open}
+use Rattle.packstream_incremental.specs.Prelude.{AreLevels, Holds, holds}
+use Rattle.packstream_incremental.proofs.Standing.{after, has_taken}
+use Rattle.packstream_incremental.proofs.Values.{list_has_room, list_stands}
+use Rattle.packstream_incremental.proofs.progress.Reading.end_list.Goals as goal
 
 pub open-requires : goal.open-requires
 open-requires c =

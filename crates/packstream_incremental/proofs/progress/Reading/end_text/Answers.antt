@@ -1,10 +1,10 @@
 use Rattle.std.proofs.Common.{◌≡◌, ℕ, List, false, sym, subst, ◌∙◌, IsUtf8}
 use Rattle.std.specs.Str.{is_utf8}
 use Rattle.packstream.proofs.Texts.{not_utf8}
-use Rattle.reader.specs.Prelude.{Holds, holds}
-use Rattle.reader.proofs.Values.{text_value}
-use Rattle.reader.proofs.Taking.{text_bad, text_told}
-use Rattle.reader.proofs.progress.Reading.end_text.Goals as goal
+use Rattle.packstream_incremental.specs.Prelude.{Holds, holds}
+use Rattle.packstream_incremental.proofs.Values.{text_value}
+use Rattle.packstream_incremental.proofs.Taking.{text_bad, text_told}
+use Rattle.packstream_incremental.proofs.progress.Reading.end_text.Goals as goal
 
 pub returns-in_default-clause-told : goal.returns-in_default-clause-told
 returns-in_default-clause-told c =

@@ -1,8 +1,8 @@
 use Rattle.std.proofs.Common.{ap, sym, subst, ◌∙◌}
-use Rattle.reader.specs.declared.open.Open.{Open}
-use Rattle.reader.specs.Prelude.{AreLevels, Holds, holds}
-use Rattle.reader.proofs.Standing.{after, value_stands, has_taken}
-use Rattle.reader.proofs.progress.Reading.end_value.Goals as goal
+use Rattle.packstream_incremental.specs.declared.open.Open.{Open}
+use Rattle.packstream_incremental.specs.Prelude.{AreLevels, Holds, holds}
+use Rattle.packstream_incremental.proofs.Standing.{after, value_stands, has_taken}
+use Rattle.packstream_incremental.proofs.progress.Reading.end_value.Goals as goal
 
 pub returns-clause-told : goal.returns-clause-told
 returns-clause-told c =

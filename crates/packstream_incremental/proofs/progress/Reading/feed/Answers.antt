@@ -1,10 +1,10 @@
 use Rattle.std.proofs.Common.{◌≡◌, ◌++◌, ap, refl, sym, subst, ◌∙◌}
 use Rattle.std.proofs.lemmas.List.{append-nil}
 use Rattle.packstream.proofs.Ranges.{bytes_from_each}
-use Rattle.reader.specs.declared.read_fault.ReadFault.{ReadFault}
-use Rattle.reader.specs.Prelude.{Holds, holds, at_mark, with_fault, HoldsOn, IsFaultOf}
-use Rattle.reader.proofs.Held.{keeps_on, keeps_cut, joins, on_taken, on_cut, on_bad, turns_back}
-use Rattle.reader.proofs.progress.Reading.feed.Goals as goal
+use Rattle.packstream_incremental.specs.declared.read_fault.ReadFault.{ReadFault}
+use Rattle.packstream_incremental.specs.Prelude.{Holds, holds, at_mark, with_fault, HoldsOn, IsFaultOf}
+use Rattle.packstream_incremental.proofs.Held.{keeps_on, keeps_cut, joins, on_taken, on_cut, on_bad, turns_back}
+use Rattle.packstream_incremental.proofs.progress.Reading.feed.Goals as goal
 
 pub cut-requires : goal.cut-requires
 cut-requires c = keeps_cut (holds c.args.self.now) (holds c.take.new.self) c.args.before.now c.requires.before c.take.ensures.grown c.requires.keeping

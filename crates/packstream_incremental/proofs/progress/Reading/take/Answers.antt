@@ -1,9 +1,9 @@
 use Rattle.std.proofs.Common.{sym, subst, ◌∙◌}
 use Rattle.packstream.specs.Prelude.{AreBytes}
 use Rattle.packstream.proofs.Ranges.{bytes_from_each, both_bytes}
-use Rattle.reader.specs.Prelude.{holds}
-use Rattle.reader.proofs.Taking.{has_bytes}
-use Rattle.reader.proofs.progress.Reading.take.Goals as goal
+use Rattle.packstream_incremental.specs.Prelude.{holds}
+use Rattle.packstream_incremental.proofs.Taking.{has_bytes}
+use Rattle.packstream_incremental.proofs.progress.Reading.take.Goals as goal
 
 pub take_item-requires-clause-bytes : goal.take_item-requires-clause-bytes
 take_item-requires-clause-bytes c =

@@ -1,8 +1,8 @@
 use Rattle.std.proofs.Common.{◌-◌, length, sym, subst, arith}
-use Rattle.reader.specs.declared.progress.Part.TheVariants as part
-use Rattle.reader.specs.Prelude.{Holds, holds, Goes}
-use Rattle.reader.proofs.Taking.{body_taken, stored_is, body_longer}
-use Rattle.reader.proofs.progress.Reading.take_body.Goals as goal
+use Rattle.packstream_incremental.specs.declared.progress.Part.TheVariants as part
+use Rattle.packstream_incremental.specs.Prelude.{Holds, holds, Goes}
+use Rattle.packstream_incremental.proofs.Taking.{body_taken, stored_is, body_longer}
+use Rattle.packstream_incremental.proofs.progress.Reading.take_body.Goals as goal
 
 pub returns-then-bytes-lacks-clause-told : goal.returns-then-bytes-lacks-clause-told
 returns-then-bytes-lacks-clause-told c =

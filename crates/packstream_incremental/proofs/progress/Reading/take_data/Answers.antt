@@ -1,7 +1,7 @@
 use Rattle.std.proofs.Common.{◌-◌, length, arith}
-use Rattle.reader.specs.Prelude.{holds}
-use Rattle.reader.proofs.Taking.{body_taken}
-use Rattle.reader.proofs.progress.Reading.take_data.Goals as goal
+use Rattle.packstream_incremental.specs.Prelude.{holds}
+use Rattle.packstream_incremental.proofs.Taking.{body_taken}
+use Rattle.packstream_incremental.proofs.progress.Reading.take_data.Goals as goal
 
 pub returns-clause-taken : goal.returns-clause-taken
 returns-clause-taken c = λ e.

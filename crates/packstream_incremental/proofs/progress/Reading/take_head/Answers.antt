@@ -2,12 +2,12 @@ use Rattle.std.proofs.Common.{◌≡◌, ◌+◌, ◌++◌, ℕ, [], length, Opt
 use Rattle.packstream.specs.declared.marker.Marker.{Marker}
 use Rattle.packstream.specs.Prelude.{AreBytes, marker}
 use Rattle.packstream.proofs.Ranges.{bytes_from_each, front_bytes}
-use Rattle.reader.specs.Prelude.{field, body, number_from, Holds, holds, Goes, HasTaken}
-use Rattle.reader.specs.declared.progress.Part.{Part}
-use Rattle.reader.specs.declared.progress.Part.TheVariants as part
-use Rattle.reader.proofs.Heads.{joined_fits, fits_word}
-use Rattle.reader.proofs.Taking.{parted, stored, stored_is, head_longer, head_whole, part_taken}
-use Rattle.reader.proofs.progress.Reading.take_head.Goals as goal
+use Rattle.packstream_incremental.specs.Prelude.{field, body, number_from, Holds, holds, Goes, HasTaken}
+use Rattle.packstream_incremental.specs.declared.progress.Part.{Part}
+use Rattle.packstream_incremental.specs.declared.progress.Part.TheVariants as part
+use Rattle.packstream_incremental.proofs.Heads.{joined_fits, fits_word}
+use Rattle.packstream_incremental.proofs.Taking.{parted, stored, stored_is, head_longer, head_whole, part_taken}
+use Rattle.packstream_incremental.proofs.progress.Reading.take_head.Goals as goal
 
 pub join-requires : goal.join-requires
 join-requires c =

@@ -1,10 +1,10 @@
 use Rattle.std.proofs.Common.{◌≡◌, [], ◌∷◌, sym, subst, ◌∙◌}
 use Rattle.packstream.specs.declared.fault.Reason.TheVariants as reason
-use Rattle.reader.specs.Prelude.{place, Holds, holds, Goes}
-use Rattle.reader.specs.declared.progress.Part.TheVariants as part
-use Rattle.reader.proofs.Opening.{refused, no_marker}
-use Rattle.reader.proofs.Taking.{stored_is, goes_of, done_of, trails, head_bad, head_starts}
-use Rattle.reader.proofs.progress.Reading.take_item.Goals as goal
+use Rattle.packstream_incremental.specs.Prelude.{place, Holds, holds, Goes}
+use Rattle.packstream_incremental.specs.declared.progress.Part.TheVariants as part
+use Rattle.packstream_incremental.proofs.Opening.{refused, no_marker}
+use Rattle.packstream_incremental.proofs.Taking.{stored_is, goes_of, done_of, trails, head_bad, head_starts}
+use Rattle.packstream_incremental.proofs.progress.Reading.take_item.Goals as goal
 
 pub returns-then-is_whole-clause-told : goal.returns-then-is_whole-clause-told
 returns-then-is_whole-clause-told c =

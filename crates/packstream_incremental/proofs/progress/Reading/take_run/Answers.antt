@@ -1,10 +1,10 @@
 use Rattle.std.proofs.Common.{◌++◌, ℕ, List, [], ap, subst, ◌∙◌}
 use Rattle.std.proofs.lemmas.List.{append-nil}
-use Rattle.reader.specs.declared.open.Open.{Open}
-use Rattle.reader.specs.Prelude.{Holds, holds, with_item, HasTaken}
-use Rattle.reader.proofs.Standing.{after, has_taken}
-use Rattle.reader.proofs.Taking.{stored, stored_is, tiny_stands}
-use Rattle.reader.proofs.progress.Reading.take_run.Goals as goal
+use Rattle.packstream_incremental.specs.declared.open.Open.{Open}
+use Rattle.packstream_incremental.specs.Prelude.{Holds, holds, with_item, HasTaken}
+use Rattle.packstream_incremental.proofs.Standing.{after, has_taken}
+use Rattle.packstream_incremental.proofs.Taking.{stored, stored_is, tiny_stands}
+use Rattle.packstream_incremental.proofs.progress.Reading.take_run.Goals as goal
 
 pub returns-clause-taken : goal.returns-clause-taken
 returns-clause-taken c =

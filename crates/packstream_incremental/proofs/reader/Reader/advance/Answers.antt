@@ -1,9 +1,9 @@
 use Rattle.std.proofs.Common.{Ok, ap, sym, subst, ◌∙◌}
 use Rattle.std.proofs.lemmas.List.{append-nil}
 use Rattle.packstream.proofs.Ranges.{bytes_from_each}
-use Rattle.reader.specs.Prelude.{Point, Points, Takes, Holds, holds}
-use Rattle.reader.proofs.Held.{keeps_on, keeps_at, here_at, kept_within, joins}
-use Rattle.reader.proofs.reader.Reader.advance.Goals as goal
+use Rattle.packstream_incremental.specs.Prelude.{Point, Points, Takes, Holds, holds}
+use Rattle.packstream_incremental.proofs.Held.{keeps_on, keeps_at, here_at, kept_within, joins}
+use Rattle.packstream_incremental.proofs.reader.Reader.advance.Goals as goal
 
 pub invariant_of-self-then-branch : goal.invariant_of-self-then-branch
 invariant_of-self-then-branch c =

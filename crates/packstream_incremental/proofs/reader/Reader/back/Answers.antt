@@ -1,7 +1,7 @@
 use Rattle.std.proofs.Common.{Bool, sym, subst}
-use Rattle.reader.specs.Prelude.{Holds, holds, IsKept, IsKeptAt}
-use Rattle.reader.proofs.Held.{kept_back}
-use Rattle.reader.proofs.reader.Reader.back.Goals as goal
+use Rattle.packstream_incremental.specs.Prelude.{Holds, holds, IsKept, IsKeptAt}
+use Rattle.packstream_incremental.proofs.Held.{kept_back}
+use Rattle.packstream_incremental.proofs.reader.Reader.back.Goals as goal
 
 pub invariant_of-self : goal.invariant_of-self
 invariant_of-self c =

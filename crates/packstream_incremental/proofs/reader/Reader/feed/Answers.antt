@@ -1,7 +1,7 @@
 use Rattle.std.proofs.Common.{Bool, sym, subst}
-use Rattle.reader.specs.Prelude.{holds, IsKept, IsKeptAt}
-use Rattle.reader.proofs.Held.{keeps_at, kept_marked}
-use Rattle.reader.proofs.reader.Reader.feed.Goals as goal
+use Rattle.packstream_incremental.specs.Prelude.{holds, IsKept, IsKeptAt}
+use Rattle.packstream_incremental.proofs.Held.{keeps_at, kept_marked}
+use Rattle.packstream_incremental.proofs.reader.Reader.feed.Goals as goal
 
 pub invariant_of-self : goal.invariant_of-self
 invariant_of-self c =

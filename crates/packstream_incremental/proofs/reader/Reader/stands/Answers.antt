@@ -1,7 +1,7 @@
 use Rattle.std.proofs.Common.{ap, sym, subst, ◌∙◌}
-use Rattle.reader.specs.Prelude.{Point, Points, MayGoOn, Holds, holds}
-use Rattle.reader.proofs.Held.{keeps_at, here_at, may_go_on}
-use Rattle.reader.proofs.reader.Reader.stands.Goals as goal
+use Rattle.packstream_incremental.specs.Prelude.{Point, Points, MayGoOn, Holds, holds}
+use Rattle.packstream_incremental.proofs.Held.{keeps_at, here_at, may_go_on}
+use Rattle.packstream_incremental.proofs.reader.Reader.stands.Goals as goal
 
 pub returns-clause-good : goal.returns-clause-good
 returns-clause-good c = λ good.

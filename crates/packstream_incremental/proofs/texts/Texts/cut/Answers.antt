@@ -1,8 +1,8 @@
 use Rattle.std.proofs.Common.{take, length, ap, sym, subst, ◌∙◌}
 use Rattle.std.specs.List.{take-map}
-use Rattle.reader.specs.Prelude.{Kept, ArePlaced, name, names_of}
-use Rattle.reader.proofs.Treeing.{tree_cut}
-use Rattle.reader.proofs.texts.Texts.cut.Goals as goal
+use Rattle.packstream_incremental.specs.Prelude.{Kept, ArePlaced, name, names_of}
+use Rattle.packstream_incremental.proofs.Treeing.{tree_cut}
+use Rattle.packstream_incremental.proofs.texts.Texts.cut.Goals as goal
 
 pub invariant_of-self : goal.invariant_of-self
 invariant_of-self c =

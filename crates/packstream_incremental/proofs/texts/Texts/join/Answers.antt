@@ -1,10 +1,10 @@
 use Rattle.std.proofs.Common.{◌≤◌, ◌-◌, ℕ, List, [], ◌∷◌, ◌++◌, length, drop, Option, refl, ap, subst, ◌∙◌, arith}
 use Rattle.std.proofs.lemmas.List.{length-drop}
-use Rattle.reader.specs.declared.texts.Key.{Key}
-use Rattle.reader.specs.declared.texts.Link.{Link}
-use Rattle.reader.specs.Prelude.{Kept, names_of, IsNamed, IsFree}
-use Rattle.reader.proofs.Hanging.{text_from, moved, new_key, links, tree_hangs_at, names_after}
-use Rattle.reader.proofs.texts.Texts.join.Goals as goal
+use Rattle.packstream_incremental.specs.declared.texts.Key.{Key}
+use Rattle.packstream_incremental.specs.declared.texts.Link.{Link}
+use Rattle.packstream_incremental.specs.Prelude.{Kept, names_of, IsNamed, IsFree}
+use Rattle.packstream_incremental.proofs.Hanging.{text_from, moved, new_key, links, tree_hangs_at, names_after}
+use Rattle.packstream_incremental.proofs.texts.Texts.join.Goals as goal
 
 -- no key is this text, which may hang there
 abbrev MayHang : ℕ → Option Link → List Key → List ℕ → List ℕ → Type 0

@@ -1,7 +1,7 @@
 use Rattle.std.proofs.Common.{Some, refl, ◌+◌, length}
 use Rattle.wire.specs.Prelude.{Message}
-use Rattle.inbox.proofs.Told.{err_holds}
-use Rattle.session.specs.Prelude.{kept_of}
+use Rattle.messages_deframer.proofs.Told.{err_holds}
+use Rattle.server_session.specs.Prelude.{kept_of}
 use Rattle.server.proofs.Feeds.{chunks_taken, chunks_want}
 use Rattle.server.proofs.input.Incoming.take_chunks.Goals as goal
 

@@ -1,6 +1,6 @@
 use Rattle.std.proofs.Common.{arith, refl}
-use Rattle.inbox.proofs.Told.{err_holds}
-use Rattle.session.specs.Prelude.{kept_of}
+use Rattle.messages_deframer.proofs.Told.{err_holds}
+use Rattle.server_session.specs.Prelude.{kept_of}
 use Rattle.server.proofs.Feeds.{offer_goes, offer_ends, offer_wants}
 use Rattle.server.proofs.input.Incoming.take_offer.Goals as goal
 

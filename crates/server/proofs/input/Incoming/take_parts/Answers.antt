@@ -1,10 +1,10 @@
 use Rattle.std.proofs.Common.{refl, ap, sym, subst, ◌∙◌, length, Ok, Bool, None, ℕ}
 use Rattle.wire.specs.Prelude.{Unfinished, Took, Item, takes, chunks}
-use Rattle.inbox.specs.Taking.{WantsRoom}
-use Rattle.inbox.specs.Opening.{come}
-use Rattle.inbox.proofs.Told.{err_holds}
-use Rattle.session.specs.declared.kinds.What.{What}
-use Rattle.session.specs.Prelude.{kept_of}
+use Rattle.messages_deframer.specs.Taking.{WantsRoom}
+use Rattle.messages_deframer.specs.Opening.{come}
+use Rattle.messages_deframer.proofs.Told.{err_holds}
+use Rattle.server_session.specs.declared.kinds.What.{What}
+use Rattle.server_session.specs.Prelude.{kept_of}
 use Rattle.server.specs.Prelude.{offered}
 use Rattle.server.proofs.Feeds.{chunks_taken, chunks_want}
 use Rattle.server.proofs.input.Incoming.take_parts.Goals as goal

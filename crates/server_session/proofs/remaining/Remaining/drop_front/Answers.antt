@@ -1,6 +1,6 @@
 use Rattle.std.proofs.Common.{◌∙◌, ap, drop, drop-drop, arith}
-use Rattle.session.specs.Prelude.{remaining_rows}
-use Rattle.session.proofs.remaining.Remaining.drop_front.Goals as goal
+use Rattle.server_session.specs.Prelude.{remaining_rows}
+use Rattle.server_session.proofs.remaining.Remaining.drop_front.Goals as goal
 
 pub loop-gone-preserved : goal.loop-gone-preserved
 loop-gone-preserved c = record {

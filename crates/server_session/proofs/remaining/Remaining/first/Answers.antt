@@ -1,7 +1,7 @@
 use Rattle.std.proofs.Common.{◌≡◌, ◌+◌, ◌-◌, arith}
 use Rattle.engine.specs.Prelude.{cells_in}
-use Rattle.session.proofs.Listed.{row_first}
-use Rattle.session.proofs.remaining.Remaining.first.Goals as goal
+use Rattle.server_session.proofs.Listed.{row_first}
+use Rattle.server_session.proofs.remaining.Remaining.first.Goals as goal
 
 pub returns : goal.returns
 returns c = λ row rest e.

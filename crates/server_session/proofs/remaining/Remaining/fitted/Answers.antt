@@ -1,10 +1,10 @@
 use Rattle.std.proofs.Common.{◌∙◌, ap, sym, List}
 use Rattle.packstream.specs.Prelude.{Tree}
-use Rattle.cells.specs.Prelude.{shapes}
+use Rattle.structures_cells.specs.Prelude.{shapes}
 use Rattle.engine.specs.Prelude.{cells_in}
 use Rattle.engine.specs.Views.{rows_in}
-use Rattle.session.proofs.Listed.{rows_in_fitted}
-use Rattle.session.proofs.remaining.Remaining.fitted.Goals as goal
+use Rattle.server_session.proofs.Listed.{rows_in_fitted}
+use Rattle.server_session.proofs.remaining.Remaining.fitted.Goals as goal
 
 pub returns-then-are_plain-clause-rows : goal.returns-then-are_plain-clause-rows
 returns-then-are_plain-clause-rows c =

@@ -1,8 +1,8 @@
 use Rattle.std.proofs.Common.{◌-◌, arith}
-use Rattle.cells.specs.Prelude.{shapes}
+use Rattle.structures_cells.specs.Prelude.{shapes}
 use Rattle.engine.specs.Prelude.{cells_in}
-use Rattle.session.proofs.Listed.{rows_behind}
-use Rattle.session.proofs.remaining.Remaining.pass.Goals as goal
+use Rattle.server_session.proofs.Listed.{rows_behind}
+use Rattle.server_session.proofs.remaining.Remaining.pass.Goals as goal
 
 pub returns-then-self-gt0-clause-rows : goal.returns-then-self-gt0-clause-rows
 returns-then-self-gt0-clause-rows c =

@@ -2,11 +2,11 @@ use Rattle.std.proofs.Common.{◌∙◌, ap, sym, ℕ, List, length, None}
 use Rattle.packstream.specs.Prelude.{Tree}
 use Rattle.messages.specs.Prelude.{response_of_summary, Committed}
 use Rattle.engine.specs.Prelude.{found_in, commit_by, writes_view}
-use Rattle.session.specs.Prelude.{change_inside, close, count_at, kept_of}
-use Rattle.session.proofs.Commits.{commits_told}
-use Rattle.session.proofs.Listed.{rows_counted}
-use Rattle.session.proofs.Replies.{acts_same, acts_told, left_is}
-use Rattle.session.proofs.session.Session.answer.Goals as goal
+use Rattle.server_session.specs.Prelude.{change_inside, close, count_at, kept_of}
+use Rattle.server_session.proofs.Commits.{commits_told}
+use Rattle.server_session.proofs.Listed.{rows_counted}
+use Rattle.server_session.proofs.Replies.{acts_same, acts_told, left_is}
+use Rattle.server_session.proofs.session.Session.answer.Goals as goal
 
 pub returns-in-Hello : goal.returns-in-Hello
 returns-in-Hello g c =

@@ -1,10 +1,10 @@
 use Rattle.std.proofs.Common.{◌≡◌, ◌∙◌, ap, sym, subst, drop}
 use Rattle.messages.specs.Prelude.{RequestView, request_view}
 use Rattle.machine.specs.Prelude.{kind_of}
-use Rattle.session.specs.Prelude.{Setting, Reply, replies, serve, version_of, reply_of, token_of, entry_in, IsFree, kept_of}
-use Rattle.session.proofs.Free.{serve_free}
-use Rattle.session.proofs.Turns.{asked_head, answers_at}
-use Rattle.session.proofs.session.Session.answer_other.Goals as goal
+use Rattle.server_session.specs.Prelude.{Setting, Reply, replies, serve, version_of, reply_of, token_of, entry_in, IsFree, kept_of}
+use Rattle.server_session.proofs.Free.{serve_free}
+use Rattle.server_session.proofs.Turns.{asked_head, answers_at}
+use Rattle.server_session.proofs.session.Session.answer_other.Goals as goal
 
 pub decide-requires-clause-unrun : goal.decide-requires-clause-unrun
 decide-requires-clause-unrun g c = c.requires.unrun (request_view c.request-request.result.now) (drop 1 (kept_of c.args.self.now).waiting) c.request-request.ensures

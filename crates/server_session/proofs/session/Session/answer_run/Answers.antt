@@ -2,10 +2,10 @@ use Rattle.std.proofs.Common.{◌≡◌, ◌∙◌, ap, sym, subst, drop, None, 
 use Rattle.messages.specs.Prelude.{RequestView, request_view}
 use Rattle.machine.specs.Prelude.{kind_of}
 use Rattle.engine.specs.Prelude.{AnswerView, QueryFault, Runs, answer_view}
-use Rattle.session.specs.Prelude.{Answers, FailsBy, replies, version_of, reply_to_run, asked_by, token_of, kept_of}
-use Rattle.session.proofs.Listed.{few_answered}
-use Rattle.session.proofs.Turns.{asked_head}
-use Rattle.session.proofs.session.Session.answer_run.Goals as goal
+use Rattle.server_session.specs.Prelude.{Answers, FailsBy, replies, version_of, reply_to_run, asked_by, token_of, kept_of}
+use Rattle.server_session.proofs.Listed.{few_answered}
+use Rattle.server_session.proofs.Turns.{asked_head}
+use Rattle.server_session.proofs.session.Session.answer_run.Goals as goal
 
 pub asking-asking-requires : goal.asking-asking-requires
 asking-asking-requires g c = c.requires.run (request_view c.request-request.result.now) (drop 1 (kept_of c.args.self.now).waiting) c.request-request.ensures

@@ -1,7 +1,7 @@
-use Rattle.session.specs.Prelude.{kept_of, token_of, is_halted}
+use Rattle.server_session.specs.Prelude.{kept_of, token_of, is_halted}
 use Rattle.std.proofs.Common.{◌≡◌, ◌∙◌, sym, true}
 use Rattle.messages.specs.Prelude.{request_view}
-use Rattle.session.proofs.session.Session.decide.Goals as goal
+use Rattle.server_session.proofs.session.Session.decide.Goals as goal
 
 pub returns-then-is_halted : goal.returns-then-is_halted
 returns-then-is_halted g c =

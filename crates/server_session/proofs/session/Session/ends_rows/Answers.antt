@@ -1,8 +1,8 @@
 use Rattle.std.proofs.Common.{◌<◌, ◌≤◌, length, arith}
-use Rattle.session.specs.Prelude.{kept_of}
-use Rattle.session.proofs.Listed.{rows_counted}
-use Rattle.session.proofs.Replies.{acts_same, ends_some, ends_all}
-use Rattle.session.proofs.session.Session.ends_rows.Goals as goal
+use Rattle.server_session.specs.Prelude.{kept_of}
+use Rattle.server_session.proofs.Listed.{rows_counted}
+use Rattle.server_session.proofs.Replies.{acts_same, ends_some, ends_all}
+use Rattle.server_session.proofs.session.Session.ends_rows.Goals as goal
 
 pub returns-then-dropped-self : goal.returns-then-dropped-self
 returns-then-dropped-self g c =

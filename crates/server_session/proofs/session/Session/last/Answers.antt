@@ -2,10 +2,10 @@ use Rattle.std.proofs.Common.{ℕ, ◌∙◌, sym, ap, List, length, Some}
 use Rattle.messages.specs.Prelude.{ResponseView, response_of_summary, Closing}
 use Rattle.engine.specs.Prelude.{found_in, commit_by, WriteView, token_view, writes_view}
 use Rattle.engine.specs.declared.ledger.Commit.{Commit}
-use Rattle.session.specs.Prelude.{Change, change_alone, close_last, kept_of}
-use Rattle.session.proofs.Commits.{commits_told}
-use Rattle.session.proofs.Writes.{one_write}
-use Rattle.session.proofs.session.Session.last.Goals as goal
+use Rattle.server_session.specs.Prelude.{Change, change_alone, close_last, kept_of}
+use Rattle.server_session.proofs.Commits.{commits_told}
+use Rattle.server_session.proofs.Writes.{one_write}
+use Rattle.server_session.proofs.session.Session.last.Goals as goal
 
 pub returns-in_ok-commit-in-Streaming : goal.returns-in_ok-commit-in-Streaming
 returns-in_ok-commit-in-Streaming g c =

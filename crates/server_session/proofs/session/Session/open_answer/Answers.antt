@@ -2,8 +2,8 @@ use Rattle.std.proofs.Common.{◌≡◌, ap, subst, rules, List, ℕ, Ok, None, 
 use Rattle.wire.specs.declared.Version.{Version}
 use Rattle.machine.specs.Prelude.{kind_of}
 use Rattle.engine.specs.Views.{names_view}
-use Rattle.session.specs.Prelude.{Answers, FailsBy, answer_by, Kept, Reply, replies, opened, version_of, reply_to_run, token_of, kept_of}
-use Rattle.session.proofs.session.Session.open_answer.Goals as goal
+use Rattle.server_session.specs.Prelude.{Answers, FailsBy, answer_by, Kept, Reply, replies, opened, version_of, reply_to_run, token_of, kept_of}
+use Rattle.server_session.proofs.session.Session.open_answer.Goals as goal
 
 pub returns-in-Ok-clause-ok : goal.returns-in-Ok-clause-ok
 returns-in-Ok-clause-ok c = λ q later waits same conn ledger.

@@ -1,8 +1,8 @@
 use Rattle.std.proofs.Common.{subst, None, OnOk}
 use Rattle.machine.specs.Prelude.{kind_of}
-use Rattle.session.specs.declared.spelling.Unwritten.{Unwritten}
-use Rattle.session.specs.Prelude.{Answers, FailsBy, Reply, replies, kept_of}
-use Rattle.session.proofs.session.Session.refuse_run.Goals as goal
+use Rattle.server_session.specs.declared.spelling.Unwritten.{Unwritten}
+use Rattle.server_session.specs.Prelude.{Answers, FailsBy, Reply, replies, kept_of}
+use Rattle.server_session.proofs.session.Session.refuse_run.Goals as goal
 
 pub returns-in-Because-clause-ok : goal.returns-in-Because-clause-ok
 returns-in-Because-clause-ok c = λ reply by q later waits same conn ledger.

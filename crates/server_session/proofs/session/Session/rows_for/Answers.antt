@@ -1,8 +1,8 @@
 use Rattle.std.proofs.Common.{sym, ◌∙◌, arith}
-use Rattle.session.proofs.Listed.{rows_counted}
-use Rattle.session.proofs.Owed.{owes_next}
-use Rattle.session.specs.Views.{open_of}
-use Rattle.session.proofs.session.Session.rows_for.Goals as goal
+use Rattle.server_session.proofs.Listed.{rows_counted}
+use Rattle.server_session.proofs.Owed.{owes_next}
+use Rattle.server_session.specs.Views.{open_of}
+use Rattle.server_session.proofs.session.Session.rows_for.Goals as goal
 
 pub returns-else-not-is_streaming : goal.returns-else-not-is_streaming
 returns-else-not-is_streaming c = λ i l.

@@ -1,8 +1,8 @@
 use Rattle.std.proofs.Common.{◌≡◌, ap, length, arith}
-use Rattle.session.specs.Prelude.{Kept, remaining_rows, kept_of}
-use Rattle.session.proofs.Listed.{rows_counted}
-use Rattle.session.proofs.Sent.{row_sent}
-use Rattle.session.proofs.session.Session.send.Goals as goal
+use Rattle.server_session.specs.Prelude.{Kept, remaining_rows, kept_of}
+use Rattle.server_session.proofs.Listed.{rows_counted}
+use Rattle.server_session.proofs.Sent.{row_sent}
+use Rattle.server_session.proofs.session.Session.send.Goals as goal
 
 pub returns-then-put_first-clause-ok : goal.returns-then-put_first-clause-ok
 returns-then-put_first-clause-ok c = λ q later waits is conn ledger.

@@ -1,10 +1,10 @@
 use Rattle.std.proofs.Common.{subst, arith, rules, None}
 use Rattle.machine.specs.Prelude.{kind_of}
-use Rattle.session.proofs.Listed.{rows_counted}
-use Rattle.session.specs.Prelude.{Answers, Reply, replies, remaining_rows, version_of, kept_of}
-use Rattle.session.proofs.Sent.{row_put}
-use Rattle.session.proofs.Replies.{first_sized, row_unfit}
-use Rattle.session.proofs.session.Session.send_spelled.Goals as goal
+use Rattle.server_session.proofs.Listed.{rows_counted}
+use Rattle.server_session.specs.Prelude.{Answers, Reply, replies, remaining_rows, version_of, kept_of}
+use Rattle.server_session.proofs.Sent.{row_put}
+use Rattle.server_session.proofs.Replies.{first_sized, row_unfit}
+use Rattle.server_session.proofs.session.Session.send_spelled.Goals as goal
 
 pub put_row-requires-clause-fits : goal.put_row-requires-clause-fits
 put_row-requires-clause-fits c =

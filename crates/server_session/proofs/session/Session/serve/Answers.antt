@@ -2,13 +2,13 @@ use Rattle.std.proofs.Common.{◌≡◌, ◌∙◌, sym, subst, refl, drop, true
 use Rattle.std.proofs.lemmas.List.{append-nil}
 use Rattle.messages.specs.Prelude.{RequestView, request_view}
 use Rattle.machine.specs.Prelude.{kind_of, is_goodbye}
-use Rattle.session.specs.declared.kinds.Cause.{Cause}
-use Rattle.session.specs.declared.kinds.Worked.{Worked}
-use Rattle.session.specs.Prelude.{Setting, Step, Steps, Answers, version_of, owes_row, runs, kept_of}
-use Rattle.session.proofs.Listed.{rows_counted}
-use Rattle.session.proofs.Replies.{owed_some}
-use Rattle.session.proofs.Turns.{asked_head, turns_goodbye, turns_worked, row_turn, run_here, run_turn}
-use Rattle.session.proofs.session.Session.serve.Goals as goal
+use Rattle.server_session.specs.declared.kinds.Cause.{Cause}
+use Rattle.server_session.specs.declared.kinds.Worked.{Worked}
+use Rattle.server_session.specs.Prelude.{Setting, Step, Steps, Answers, version_of, owes_row, runs, kept_of}
+use Rattle.server_session.proofs.Listed.{rows_counted}
+use Rattle.server_session.proofs.Replies.{owed_some}
+use Rattle.server_session.proofs.Turns.{asked_head, turns_goodbye, turns_worked, row_turn, run_here, run_turn}
+use Rattle.server_session.proofs.session.Session.serve.Goals as goal
 
 pub returns-then-is_goodbye-clause-ok : goal.returns-then-is_goodbye-clause-ok
 returns-then-is_goodbye-clause-ok g c =

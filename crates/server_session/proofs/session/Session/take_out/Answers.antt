@@ -1,6 +1,6 @@
 use Rattle.std.proofs.Common.{◌≡◌, ◌<◌, ℕ, List, length, take, min, Result, Ok, Err, arith, rules, length-take, OnErr}
 use Rattle.packstream.specs.Writing.{whole}
-use Rattle.session.proofs.session.Session.take_out.Goals as goal
+use Rattle.server_session.proofs.session.Session.take_out.Goals as goal
 
 -- what can't be had is of some bytes
 some_taken : {X E : Type 0} (r : Result X E) (max count : ℕ) (b : List ℕ) → count ≡ min max (length b) → OnErr r (0 < count) → OnErr r (0 < length (take max b))

@@ -1,8 +1,8 @@
 use Rattle.std.proofs.Common.{◌≡◌, sym, subst, ℕ, arith}
-use Rattle.session.specs.Prelude.{Kept, WritesRows, kept_of}
-use Rattle.session.proofs.Listed.{rows_counted}
-use Rattle.session.proofs.Owed.{none_sent, one_sent, owed_some_rows, row_left}
-use Rattle.session.proofs.session.Session.write_rows.Goals as goal
+use Rattle.server_session.specs.Prelude.{Kept, WritesRows, kept_of}
+use Rattle.server_session.proofs.Listed.{rows_counted}
+use Rattle.server_session.proofs.Owed.{none_sent, one_sent, owed_some_rows, row_left}
+use Rattle.server_session.proofs.session.Session.write_rows.Goals as goal
 
 pub loop-count-init : goal.loop-count-init
 loop-count-init c = none_sent (kept_of c.args.self.now)

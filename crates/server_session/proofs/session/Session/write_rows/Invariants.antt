@@ -1,6 +1,6 @@
-use Rattle.session.specs.Views.{kept_of}
-use Rattle.session.proofs.Owed.{Sent}
-use Rattle.session.proofs.session.Session.write_rows.Given as goal
+use Rattle.server_session.specs.Views.{kept_of}
+use Rattle.server_session.proofs.Owed.{Sent}
+use Rattle.server_session.proofs.session.Session.write_rows.Given as goal
 
 abbrev pub invariant-loop-count : goal.invariant-loop-count
 invariant-loop-count l = Sent l.count (kept_of l.fn.self) (kept_of l.self)

@@ -1,4 +1,4 @@
-use Rattle.cells.specs.Prelude.{shapes}
+use Rattle.structures_cells.specs.Prelude.{shapes}
 use Rattle.shells.proofs.Followed.{refl, sym, ap, [], append-nil, ◌∙◌, Appends-nil, ⊎_elim, WriteFailed, unless_err, row_text, in_line, unmade, note_line, whole}
 use Rattle.shells.proofs.caller.Caller.put_explained.Goals as goal
 
