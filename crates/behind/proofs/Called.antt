@@ -10,7 +10,7 @@ use Rattle.engine.specs.Prelude.{EntryView, Welcome}
 use Rattle.server_session.specs.Prelude.{Setting, Done, WroteRow, Wrote, work_kept}
 use Rattle.server.specs.declared.Took.{Took}
 use Rattle.server.specs.Prelude.{Rest, Live, is_full, find, setting, feed_at, work_at, take_out_at, Event as Call, opens, feeds, works, takes, noops, loses, after_call, after_event, used_of, took_by, fed_live, taken_from, noop_put, with_session, after_step}
-use Rattle.lines.specs.Prelude.{out_of, gave_by}
+use Rattle.server_event_loop.specs.ConnectionPrelude.{out_of, gave_by}
 use Rattle.client.specs.Prelude.{Run, starts, Reading, reading_of, put_out}
 use Rattle.client.proofs.Runs.{tells_by_bytes, calls_hold, starts_hold}
 use Rattle.world.specs.Prelude.{Peer, Ours, Foreign, Connection, Said, fresh, output, bytes_delivered, heard_by_bytes, wish_of, input, kept_of, World, Event, Opens, Feeds, ToServer, ToClient, Work, PutsNoop, ServerLost, Opened, Gave, SawNothing, Refusal, Effect, quiet, ledger, live, at_conn, at_peer, with_effect, after_effect, effect_at_peer, taken_for, taken_out, feed, work, noop, server_gone, said_by, said_to, IsCountedIn, Reached, goes_on, takes_out, server_rest, live_of, Definition, setting_of, to_client, give}

@@ -4,8 +4,8 @@ use Rattle.std.proofs.lemmas.Bool.{cond-true, cond-false, cond_both, ne_eqb, eq-
 use Rattle.wire.specs.declared.Wish.{Wish}
 use Rattle.engine.specs.Prelude.{EntryView, Welcome}
 use Rattle.server.specs.Prelude.{Rest, Live, empty, find, fed_live, taken_from, with_session, feed_at, take_out_at, Event as Call, opens, feeds, works, takes, noops, loses, after_event, after_events, used_of, took_by, bytes_taken}
-use Rattle.lines.specs.Prelude.{out_of, gave_by, bytes_given}
-use Rattle.lines.proofs.Moved.{after_both, taken_both, given_both}
+use Rattle.server_event_loop.specs.ConnectionPrelude.{out_of, gave_by, bytes_given}
+use Rattle.server_event_loop.proofs.Moved.{after_both, taken_both, given_both}
 use Rattle.client.specs.Prelude.{Call as ClientCall, Run, starts, call as called, calls}
 use Rattle.server_session.specs.Prelude.{Setting}
 use Rattle.world.specs.Prelude.{Peer, Ours, Foreign, Connection, Said, SaysRow, SaysSummary, output, bytes_delivered, World, Reached, server_rest, Definition, setting_of}

@@ -6,7 +6,7 @@ use Rattle.engine.specs.Welcomes.{Welcome}
 use Rattle.server.specs.Serving.{Rest}
 use Rattle.server.specs.Running.{Event as Call}
 use Rattle.server.specs.Past.{bytes_taken}
-use Rattle.lines.specs.Moving.{bytes_given}
+use Rattle.server_event_loop.specs.Moving.{bytes_given}
 use Rattle.client.specs.Rest.{refuses}
 use Rattle.client.specs.Moments.{Call as ClientCall, Submits, Run, starts, calls}
 use Rattle.client.specs.Fits.{IsWrittenBy}

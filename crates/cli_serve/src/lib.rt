@@ -5,7 +5,7 @@ mod printed;
 mod reasons;
 mod serving;
 
-pub use hosts::Limits;
 pub use reasons::{Reason, put_reason};
+pub use server_event_loop::Limits;
 pub use server_tcp::Place;
 pub use serving::serve_at;

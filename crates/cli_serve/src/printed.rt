@@ -4,13 +4,13 @@ ghost use Rattle.std.specs.Fmt.{decimal};
 ghost use Rattle.cli_output.specs.Names.{cause_code};
 ghost use Rattle.cli_output.specs.Telling.{conn_line};
 ghost use Rattle.cli_output.specs.Stopping.{Gets};
-ghost use Rattle.hosts.specs.Running.{TellsMore};
+ghost use Rattle.server_event_loop.specs.Running.{TellsMore};
 ghost use Rattle.cli_serve.specs.Printing.{cause_of};
 
 use cli_output::{cause_code, tell};
-use hosts::{Journal, Parting};
 use itoa::Buffer;
 use server::Cause;
+use server_event_loop::{Journal, Parting};
 use std::io::Eprint;
 use streams::{Sink, write_all};
 

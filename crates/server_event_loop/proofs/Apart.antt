@@ -7,8 +7,8 @@ use Rattle.std.proofs.KnownBytes.{Appends-nil, Appends-trans}
 use Rattle.engine.specs.declared.answer.Mode.{Mode as QueryMode}
 use Rattle.engine.specs.Prelude.{WriteView, ParameterView, EntryView, AnswerView, QueryFault, Welcome}
 use Rattle.server.specs.Prelude.{Rest, Event, opens, feeds, works, takes, noops, loses, after_event, after_events, bytes_taken, took_by}
-use Rattle.lines.specs.Prelude.{Wire, Held, End, gave_by, bytes_given, IsOn, AreOn, Moves, Turns, begins, then_opens, then_moves, Along}
-use Rattle.lines.proofs.Moved.{after_both, taken_both, given_both}
+use Rattle.server_event_loop.specs.ConnectionPrelude.{Wire, Held, End, gave_by, bytes_given, IsOn, AreOn, Moves, Turns, begins, then_opens, then_moves, Along}
+use Rattle.server_event_loop.proofs.Moved.{after_both, taken_both, given_both}
 
 module _ {G : Type 0} (answer : List EntryView → List WriteView → List ℕ → List ParameterView → QueryMode → Result AnswerView QueryFault) (welcomes : G → Welcome) where
   took_other : (k j : ℕ) → k ≢ j → (e : Event) → IsOn k e → (r : Rest G) → took_by j e r ≡ []

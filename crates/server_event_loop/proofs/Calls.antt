@@ -6,8 +6,8 @@ use Rattle.engine.specs.declared.answer.Mode.{Mode as QueryMode}
 use Rattle.engine.specs.Prelude.{WriteView, ParameterView, EntryView, AnswerView, QueryFault, Welcome}
 use Rattle.server_session.specs.Prelude.{work_kept}
 use Rattle.server.specs.Prelude.{Rest, Live, find, fresh, with_session, fed_live, taken_from, setting, after_step, Event, opens, feeds, works, takes, noops, loses, after_call, after_event, after_events}
-use Rattle.lines.specs.Prelude.{Wire, Held, End, ends_by, ends_of, IsOn, AreOn, Moves, Turns, begins, then_opens, then_moves}
-use Rattle.hosts.specs.Prelude.{Gone, gone_with, gone_by, gone_of}
+use Rattle.server_event_loop.specs.ConnectionPrelude.{Wire, Held, End, ends_by, ends_of, IsOn, AreOn, Moves, Turns, begins, then_opens, then_moves}
+use Rattle.server_event_loop.specs.Prelude.{Gone, gone_with, gone_by, gone_of}
 
 next_call : {G A X : Type 0} (r : Rest G) (f : X → A × Rest G) → ((x : X) → (f x).1.next ≡ r.next) → (o : Option X) → (after_call (option_map f o) r).next ≡ r.next
 next_call r f same None = refl

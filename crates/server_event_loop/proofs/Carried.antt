@@ -4,7 +4,7 @@ use Rattle.std.proofs.lemmas.Bool.Decides.{nat_tests}
 use Rattle.std.proofs.lemmas.List.{drop_min, nil_from_length}
 use Rattle.std.specs.Io.KnownBytes.{Appends}
 use Rattle.std.proofs.KnownBytes.{Appends-nil}
-use Rattle.lines.specs.Prelude.{Wire, Held, Hears, Tells, Carries}
+use Rattle.server_event_loop.specs.ConnectionPrelude.{Wire, Held, Hears, Tells, Carries}
 
 -- nothing came and nothing went
 pub carries_none : (x : Held) (u : ℕ → Wire) → Carries 1 x x u u

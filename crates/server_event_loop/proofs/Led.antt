@@ -8,14 +8,14 @@ use Rattle.engine.specs.declared.answer.Mode.{Mode as QueryMode}
 use Rattle.engine.specs.Prelude.{WriteView, ParameterView, EntryView, AnswerView, QueryFault, Welcome}
 use Rattle.server.specs.Prelude.{Rest, Live, find, is_full, opened, Event, opens, after_event}
 use Rattle.server.proofs.Runs.{find_other-push}
-use Rattle.lines.specs.declared.closing.Closing.{Closing}
-use Rattle.lines.specs.declared.line.Parting.{Parting}
-use Rattle.lines.specs.Prelude.{Wire, Held, End, Moves, Turns, then_opens, then_moves, holding, new_held, Lingers, owed_of}
-use Rattle.lines.proofs.Apart.{turns_reach}
-use Rattle.lines.proofs.Living.{moves_leave}
-use Rattle.hosts.specs.Prelude.{At, Told, Owed, Gone, gone_with, gone_of, closing_owed, seats_at, closings_at, IsLive, IsSeated, Tells, AreTold, TellsMore, Stands, Leads}
-use Rattle.hosts.proofs.Lists.{each_push, each_as, seats_push, closings_push, seats_apart, closings_apart, no_seats, no_closings, first_alone, holding_own, holding_other, holding_same, tells_none, tells_then, told_both}
-use Rattle.hosts.proofs.Calls.{found_pushed, moves_next, gone_own, gone_both, held_numbers}
+use Rattle.server_event_loop.specs.declared.closing.Closing.{Closing}
+use Rattle.server_event_loop.specs.declared.line.Parting.{Parting}
+use Rattle.server_event_loop.specs.ConnectionPrelude.{Wire, Held, End, Moves, Turns, then_opens, then_moves, holding, new_held, Lingers, owed_of}
+use Rattle.server_event_loop.proofs.Apart.{turns_reach}
+use Rattle.server_event_loop.proofs.Living.{moves_leave}
+use Rattle.server_event_loop.specs.Prelude.{At, Told, Owed, Gone, gone_with, gone_of, closing_owed, seats_at, closings_at, IsLive, IsSeated, Tells, AreTold, TellsMore, Stands, Leads}
+use Rattle.server_event_loop.proofs.Lists.{each_push, each_as, seats_push, closings_push, seats_apart, closings_apart, no_seats, no_closings, first_alone, holding_own, holding_other, holding_same, tells_none, tells_then, told_both}
+use Rattle.server_event_loop.proofs.Calls.{found_pushed, moves_next, gone_own, gone_both, held_numbers}
 
 -- a server among these connections
 abbrev pub among : {G : Type 0} → List Held → List Owed → Rest G → (ℕ → Wire) → Option (List Told) → At G

@@ -5,3 +5,9 @@ pub mod Lingered
 pub mod Parted
 pub mod Apart
 pub mod Living
+pub mod Lists
+pub mod Calls
+pub mod Led
+pub mod Served
+pub mod Ran
+pub mod Once

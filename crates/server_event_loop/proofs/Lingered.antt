@@ -2,8 +2,8 @@
 use Rattle.std.proofs.Common.{◌≡◌, ◌≢◌, refl, sym, ap, subst, ◌∙◌, ℕ, arith, List, [], ◌++◌, take, drop, append_assoc, take-append-drop, Option}
 use Rattle.std.specs.Io.KnownBytes.{Appends}
 use Rattle.std.proofs.KnownBytes.{Appends-nil}
-use Rattle.lines.specs.declared.closing.Closing.{Closing}
-use Rattle.lines.specs.Prelude.{Wire, Tells, owed_of, Lingers}
+use Rattle.server_event_loop.specs.declared.closing.Closing.{Closing}
+use Rattle.server_event_loop.specs.ConnectionPrelude.{Wire, Tells, owed_of, Lingers}
 
 -- nothing came and nothing went
 pub lingers_none : (x y : Closing) (u : ℕ → Wire) → owed_of y ≡ owed_of x → y.drained ≡ x.drained → y.conn ≡ x.conn → Lingers x y u u

@@ -2,12 +2,12 @@
 use Rattle.std.proofs.Common.{◌≡◌, ◌≢◌, ◌<◌, ◌≤◌, ◌+◌, ◌==◌, if◌then◌else◌, refl, sym, ap, ◌∙◌, ℕ, arith, Bool, true, false, List, [], ◌∷◌, ◌++◌, length, map, take, drop, zero, suc, add-one, slice_index_or, slice_set, append_assoc, append-nil, Option, Some, None}
 use Rattle.std.specs.List.{AllByRecursion}
 use Rattle.std.proofs.lemmas.Bool.{eqb-true, eqb-false, eq-eqb}
-use Rattle.lines.specs.declared.limits.Readiness.{Readiness}
-use Rattle.lines.specs.declared.seat.Seat.{Seat}
-use Rattle.lines.specs.declared.closing.Closing.{Closing}
-use Rattle.lines.specs.Turns.{joined}
-use Rattle.lines.specs.Prelude.{Held, holding, seat_held}
-use Rattle.hosts.specs.Prelude.{Told, Owed, Gone, seats_at, closings_at, closing_owed, woken_seat, woken_closing, TellsMore, AreTold}
+use Rattle.server_event_loop.specs.declared.limits.Readiness.{Readiness}
+use Rattle.server_event_loop.specs.declared.seat.Seat.{Seat}
+use Rattle.server_event_loop.specs.declared.closing.Closing.{Closing}
+use Rattle.server_event_loop.specs.Turns.{joined}
+use Rattle.server_event_loop.specs.ConnectionPrelude.{Held, holding, seat_held}
+use Rattle.server_event_loop.specs.Prelude.{Told, Owed, Gone, seats_at, closings_at, closing_owed, woken_seat, woken_closing, TellsMore, AreTold}
 
 pub each_push : {A : Type 0} (P : A → Type 0) (xs : List A) (x : A) → AllByRecursion P xs → P x → AllByRecursion P (xs ++ x ∷ [])
 each_push P [] x all it = (it, tt)

@@ -6,7 +6,7 @@ use Rattle.engine.specs.Prelude.{WriteView, ParameterView, EntryView, AnswerView
 use Rattle.server_session.specs.Prelude.{work_kept}
 use Rattle.server.specs.Prelude.{Rest, Live, find, replace, with_kept, with_session, fed_live, taken_from, on_live, setting, after_step, feed_at, work_at, take_out_at, Event, opens, feeds, works, takes, noops, loses, after_call, after_event, after_events}
 use Rattle.server.proofs.Runs.{find-conn, find_replaced, leaves_others}
-use Rattle.lines.specs.Prelude.{Wire, Held, End, end_of, ends_by, ends_of, IsOn, AreOn, Moves}
+use Rattle.server_event_loop.specs.ConnectionPrelude.{Wire, Held, End, end_of, ends_by, ends_of, IsOn, AreOn, Moves}
 
 first_empty : {A : Type 0} (xs ys : List A) → xs ++ ys ≡ [] → xs ≡ []
 first_empty [] ys e = refl

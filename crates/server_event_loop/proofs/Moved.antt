@@ -8,7 +8,7 @@ use Rattle.engine.specs.Prelude.{WriteView, ParameterView, EntryView, AnswerView
 use Rattle.server_session.specs.declared.kinds.Worked.{Worked}
 use Rattle.server.specs.declared.kinds.Took.{Took}
 use Rattle.server.specs.Prelude.{Rest, Event, feeds, works, takes, loses, after_call, after_event, after_events, feed_at, work_at, take_out_at, took_by, used_of, bytes_taken}
-use Rattle.lines.specs.Prelude.{Wire, Held, End, out_of, gave_by, bytes_given, ends_by, ends_of, AreOn, Moves, Carries}
+use Rattle.server_event_loop.specs.ConnectionPrelude.{Wire, Held, End, out_of, gave_by, bytes_given, ends_by, ends_of, AreOn, Moves, Carries}
 
 -- what came before and what comes next, in one
 in_turn : (x a s y b t z : List ℕ) → x ++ a ≡ s ++ y → y ++ b ≡ t ++ z → x ++ (a ++ b) ≡ (s ++ t) ++ z

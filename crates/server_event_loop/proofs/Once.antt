@@ -6,9 +6,9 @@ use Rattle.engine.specs.Prelude.{WriteView, ParameterView, EntryView, AnswerView
 use Rattle.server_session.specs.Prelude.{work_kept}
 use Rattle.server.specs.Prelude.{Rest, Live, find, without, is_full, opened, with_session, fed_live, taken_from, noop_put, setting, after_step, Event, opens, feeds, works, takes, noops, loses, after_call, after_event, after_events, AreBelow, IsKept}
 use Rattle.server.proofs.Runs.{leaves_others}
-use Rattle.lines.specs.Prelude.{end_of}
-use Rattle.lines.proofs.Moved.{after_both}
-use Rattle.hosts.specs.Prelude.{Gone, gone_with, gone_by, gone_of, times_gone}
+use Rattle.server_event_loop.specs.ConnectionPrelude.{end_of}
+use Rattle.server_event_loop.proofs.Moved.{after_both}
+use Rattle.server_event_loop.specs.Prelude.{Gone, gone_with, gone_by, gone_of, times_gone}
 
 times_both : (k : ℕ) (xs ys : List Gone) → times_gone k (xs ++ ys) ≡ times_gone k xs + times_gone k ys
 times_both k [] ys = omega arith

@@ -13,9 +13,9 @@ use Rattle.server.specs.declared.kinds.Refused.TheVariants as refused
 use Rattle.server.specs.Prelude.{Rest, Live, loses, find, replace, taken_from, with_kept, with_session, cause_or, take_out_at, lost_at, after_call, MayTakeOut}
 use Rattle.server.specs.Serving.{RefusesCall}
 use Rattle.server.proofs.Runs.{find-conn, find_replaced}
-use Rattle.lines.specs.declared.line.Parting.TheVariants.{Whole, Cut}
-use Rattle.lines.specs.Prelude.{Wire, Held, end_of, ends_by, Moves, Parts, out_of, with_going}
-use Rattle.lines.proofs.Moved.{moves_then, moves_kept, moves_drawn, moves_lost}
+use Rattle.server_event_loop.specs.declared.line.Parting.TheVariants.{Whole, Cut}
+use Rattle.server_event_loop.specs.ConnectionPrelude.{Wire, Held, end_of, ends_by, Moves, Parts, out_of, with_going}
+use Rattle.server_event_loop.proofs.Moved.{moves_then, moves_kept, moves_drawn, moves_lost}
 
 -- of fewer bytes than were asked for none is left
 left_short : (max : ℕ) (xs : List ℕ) → length (take max xs) < max → drop max xs ≡ []

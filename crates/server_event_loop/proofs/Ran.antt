@@ -3,13 +3,13 @@ use Rattle.std.proofs.Common.{◌≡◌, refl, ap, sym, subst, map, ℕ, arith, 
 use Rattle.engine.specs.declared.answer.Mode.{Mode as QueryMode}
 use Rattle.engine.specs.Prelude.{WriteView, ParameterView, EntryView, AnswerView, QueryFault, Welcome}
 use Rattle.server.specs.Prelude.{Rest, Live, Event, find}
-use Rattle.lines.specs.declared.seat.Seat.{Seat}
-use Rattle.lines.specs.declared.closing.Closing.{Closing}
-use Rattle.lines.specs.Prelude.{Wire, Held, new_held, seat_held, begins}
-use Rattle.lines.proofs.Apart.{turns_reach, turns_along}
-use Rattle.hosts.specs.Prelude.{At, Told, Owed, closing_owed, IsSeated, Stands, Leads, Runs}
-use Rattle.hosts.proofs.Lists.{tells_none}
-use Rattle.hosts.proofs.Led.{among, leads_heard}
+use Rattle.server_event_loop.specs.declared.seat.Seat.{Seat}
+use Rattle.server_event_loop.specs.declared.closing.Closing.{Closing}
+use Rattle.server_event_loop.specs.ConnectionPrelude.{Wire, Held, new_held, seat_held, begins}
+use Rattle.server_event_loop.proofs.Apart.{turns_reach, turns_along}
+use Rattle.server_event_loop.specs.Prelude.{At, Told, Owed, closing_owed, IsSeated, Stands, Leads, Runs}
+use Rattle.server_event_loop.proofs.Lists.{tells_none}
+use Rattle.server_event_loop.proofs.Led.{among, leads_heard}
 
 -- A server has come to stand so, by some calls.
 pub record HasCome {G : Type 0} (answer : List EntryView → List WriteView → List ℕ → List ParameterView → QueryMode → Result AnswerView QueryFault) (welcomes : G → Welcome) (r : Rest G) (before : ℕ → Wire) (earlier : Option (List Told)) (a : At G) : Type 0 where

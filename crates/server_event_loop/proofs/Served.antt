@@ -10,20 +10,20 @@ use Rattle.engine.specs.Prelude.{WriteView, ParameterView, EntryView, AnswerView
 use Rattle.server_session.specs.declared.kinds.Cause.{Cause}
 use Rattle.server_session.specs.declared.kinds.Cause.TheVariants as cause
 use Rattle.server.specs.Prelude.{Rest, Live, find, fresh, opened, lost_at, cause_or, Opens, loses}
-use Rattle.lines.specs.declared.closing.Closing.{Closing}
-use Rattle.lines.specs.declared.limits.Limits.{Limits}
-use Rattle.lines.specs.declared.line.Parting.{Parting}
-use Rattle.lines.specs.declared.line.Parting.TheVariants.{Whole, Cut}
-use Rattle.lines.specs.Prelude.{Wire, Held, end_of, ends_by, Moves, new_held, with_going, Parts, seat_held}
-use Rattle.lines.specs.declared.seat.Seat.{Seat}
+use Rattle.server_event_loop.specs.declared.closing.Closing.{Closing}
+use Rattle.server_event_loop.specs.declared.limits.Limits.{Limits}
+use Rattle.server_event_loop.specs.declared.line.Parting.{Parting}
+use Rattle.server_event_loop.specs.declared.line.Parting.TheVariants.{Whole, Cut}
+use Rattle.server_event_loop.specs.ConnectionPrelude.{Wire, Held, end_of, ends_by, Moves, new_held, with_going, Parts, seat_held}
+use Rattle.server_event_loop.specs.declared.seat.Seat.{Seat}
 use Rattle.server.specs.declared.kinds.Refused.{Refused}
 use Rattle.server.specs.declared.kinds.Refused.TheVariants as refused
-use Rattle.lines.proofs.Moved.{moves_lost}
-use Rattle.lines.proofs.Living.{moves_live}
-use Rattle.hosts.specs.Prelude.{Told, Owed, closing_owed, IsSeated, TellsMore, Leads, Ends, Fades, nobody, turned, closed, remains}
-use Rattle.hosts.proofs.Lists.{each_push}
-use Rattle.hosts.proofs.Calls.{found_new, found_pushed}
-use Rattle.hosts.proofs.Led.{among, leads_then, leads_within, leads_turned, leads_parted, leads_lingered, leads_closed, leads_back, leads_behind, leads_heard, leads_opened}
+use Rattle.server_event_loop.proofs.Moved.{moves_lost}
+use Rattle.server_event_loop.proofs.Living.{moves_live}
+use Rattle.server_event_loop.specs.Prelude.{Told, Owed, closing_owed, IsSeated, TellsMore, Leads, Ends, Fades, nobody, turned, closed, remains}
+use Rattle.server_event_loop.proofs.Lists.{each_push}
+use Rattle.server_event_loop.proofs.Calls.{found_new, found_pushed}
+use Rattle.server_event_loop.proofs.Led.{among, leads_then, leads_within, leads_turned, leads_parted, leads_lingered, leads_closed, leads_back, leads_behind, leads_heard, leads_opened}
 
 -- a list of which so many at most are still to have their turn, and this holds of the others
 pub record InTurn {A : Type 0} (P : A → Type 0) (left : ℕ) (items : List A) : Type 0 where

@@ -2,5 +2,9 @@ pub mod Peers
 pub mod Moving
 pub mod Views
 pub mod Turns
+pub mod Turning
+pub mod ConnectionPrelude
+pub mod Standing
 pub mod Running
+pub mod Waiting
 pub mod Prelude

@@ -8,7 +8,7 @@ use Rattle.server_session.specs.declared.kinds.Cause.{Cause}
 use Rattle.server.specs.Serving.{Live, Rest, cause_or, find, take_out_at}
 use Rattle.server.specs.Running.{Event, feeds, works, takes, loses, after_event, after_events}
 use Rattle.server.specs.Past.{bytes_taken}
-use Rattle.lines.specs.Peers.{Wire}
+use Rattle.server_event_loop.specs.Peers.{Wire}
 
 -- what is held of a connection between its peer and its session
 pub record Held : Type 0 where

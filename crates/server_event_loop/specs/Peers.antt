@@ -1,9 +1,9 @@
 -- What reads and writes do to the bytes of a connection.
 use Rattle.std.specs.Prelude.{◌≡◌, ◌+◌, ◌≤◌, ℕ, List, length, take, Option, Result, Ok, Err}
 use Rattle.std.specs.Io.KnownBytes.{Appends}
-use Rattle.lines.specs.declared.peers.Failed.{Failed}
-use Rattle.lines.specs.declared.peers.Got.{Got}
-use Rattle.lines.specs.declared.peers.Got.TheVariants.{Bytes}
+use Rattle.server_event_loop.specs.declared.peers.Failed.{Failed}
+use Rattle.server_event_loop.specs.declared.peers.Got.{Got}
+use Rattle.server_event_loop.specs.declared.peers.Got.TheVariants.{Bytes}
 
 -- the bytes that were read of a connection and those that were written to it, if they are known, and how often either was tried
 pub record Wire : Type 0 where

@@ -6,14 +6,14 @@ use Rattle.engine.specs.Views.{WriteView, ParameterView, EntryView, AnswerView, 
 use Rattle.engine.specs.Welcomes.{Welcome}
 use Rattle.server.specs.Serving.{Rest, find}
 use Rattle.server.specs.Running.{Event, loses, after_event, after_events}
-use Rattle.lines.specs.declared.line.Parting.{Parting}
-use Rattle.lines.specs.declared.line.Parting.TheVariants.{Whole, Cut}
-use Rattle.lines.specs.declared.limits.Limits.{Limits}
-use Rattle.lines.specs.Peers.{Wire}
-use Rattle.lines.specs.Moving.{Held, End, end_of}
-use Rattle.lines.specs.Views.{new_held, Parts}
-use Rattle.lines.specs.Running.{Turns, Along}
-use Rattle.hosts.specs.Standing.{At, Told, Owed, IsSeated}
+use Rattle.server_event_loop.specs.declared.line.Parting.{Parting}
+use Rattle.server_event_loop.specs.declared.line.Parting.TheVariants.{Whole, Cut}
+use Rattle.server_event_loop.specs.declared.limits.Limits.{Limits}
+use Rattle.server_event_loop.specs.Peers.{Wire}
+use Rattle.server_event_loop.specs.Moving.{Held, End, end_of}
+use Rattle.server_event_loop.specs.Views.{new_held, Parts}
+use Rattle.server_event_loop.specs.Turning.{Turns, Along}
+use Rattle.server_event_loop.specs.Standing.{At, Told, Owed, IsSeated}
 
 -- a session that was given up: its number, and its end
 pub record Gone : Type 0 where

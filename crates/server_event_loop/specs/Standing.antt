@@ -5,12 +5,12 @@ use Rattle.engine.specs.Views.{EntryView}
 use Rattle.server.specs.declared.server.Server.{Server}
 use Rattle.server.specs.Serving.{Rest, find}
 use Rattle.server.specs.Views.{rest_of}
-use Rattle.lines.specs.declared.line.Parting.{Parting}
-use Rattle.lines.specs.declared.seat.Seat.{Seat}
-use Rattle.lines.specs.declared.closing.Closing.{Closing}
-use Rattle.lines.specs.Peers.{Wire}
-use Rattle.lines.specs.Moving.{Held}
-use Rattle.lines.specs.Views.{seat_held, owed_of}
+use Rattle.server_event_loop.specs.declared.line.Parting.{Parting}
+use Rattle.server_event_loop.specs.declared.seat.Seat.{Seat}
+use Rattle.server_event_loop.specs.declared.closing.Closing.{Closing}
+use Rattle.server_event_loop.specs.Peers.{Wire}
+use Rattle.server_event_loop.specs.Moving.{Held}
+use Rattle.server_event_loop.specs.Views.{seat_held, owed_of}
 
 -- an end that is told: the number of the connection, and how its session was given up
 pub record Told : Type 0 where

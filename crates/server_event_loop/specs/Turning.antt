@@ -7,9 +7,9 @@ use Rattle.engine.specs.Welcomes.{Welcome}
 use Rattle.server.specs.Serving.{Rest}
 use Rattle.server.specs.Running.{Event, opens, after_event}
 use Rattle.server.specs.Past.{bytes_taken}
-use Rattle.lines.specs.Peers.{Wire}
-use Rattle.lines.specs.Moving.{Held, End, Moves, bytes_given}
-use Rattle.lines.specs.Views.{new_held}
+use Rattle.server_event_loop.specs.Peers.{Wire}
+use Rattle.server_event_loop.specs.Moving.{Held, End, Moves, bytes_given}
+use Rattle.server_event_loop.specs.Views.{new_held}
 
 -- what is held of each connection, once this is held of one
 abbrev pub holding : (ℕ → Held) → Held → ℕ → Held

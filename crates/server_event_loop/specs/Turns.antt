@@ -2,13 +2,13 @@
 use Rattle.std.specs.Prelude.{◌≡◌, Option, Some, None, ℕ, ◌+◌, ◌^◌, ◌-◌, min, Bool, true, false, ◌||◌, ◌&&◌, not, ◌==◌, length, if◌then◌else◌}
 use Rattle.machine.specs.declared.states.State.{State}
 use Rattle.machine.specs.declared.states.State.TheVariants.{Fresh, Unauth}
-use Rattle.lines.specs.declared.limits.Limits.{Limits}
-use Rattle.lines.specs.declared.limits.Readiness.{Readiness}
-use Rattle.lines.specs.declared.seat.Seat.{Seat}
-use Rattle.lines.specs.declared.seat.Want.{Want}
-use Rattle.lines.specs.declared.seat.Want.TheVariants.{Work, Bytes, Room}
-use Rattle.lines.specs.declared.closing.Phase.{Phase}
-use Rattle.lines.specs.declared.closing.Phase.TheVariants.{Writing, Draining, Closed}
+use Rattle.server_event_loop.specs.declared.limits.Limits.{Limits}
+use Rattle.server_event_loop.specs.declared.limits.Readiness.{Readiness}
+use Rattle.server_event_loop.specs.declared.seat.Seat.{Seat}
+use Rattle.server_event_loop.specs.declared.seat.Want.{Want}
+use Rattle.server_event_loop.specs.declared.seat.Want.TheVariants.{Work, Bytes, Room}
+use Rattle.server_event_loop.specs.declared.closing.Phase.{Phase}
+use Rattle.server_event_loop.specs.declared.closing.Phase.TheVariants.{Writing, Draining, Closed}
 
 -- whether a session that stands so is past its client's log in
 abbrev pub is_past_log_in : Option State → Bool

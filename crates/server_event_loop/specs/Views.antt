@@ -5,13 +5,13 @@ use Rattle.engine.specs.declared.answer.Mode.{Mode as QueryMode}
 use Rattle.engine.specs.Views.{WriteView, ParameterView, EntryView, AnswerView, QueryFault}
 use Rattle.engine.specs.Welcomes.{Welcome}
 use Rattle.server.specs.Serving.{Rest}
-use Rattle.lines.specs.declared.line.Line.{Line}
-use Rattle.lines.specs.declared.line.Parting.{Parting}
-use Rattle.lines.specs.declared.line.Parting.TheVariants.{Whole, Cut}
-use Rattle.lines.specs.declared.seat.Seat.{Seat}
-use Rattle.lines.specs.declared.closing.Closing.{Closing}
-use Rattle.lines.specs.Peers.{Wire}
-use Rattle.lines.specs.Moving.{Held, Moves}
+use Rattle.server_event_loop.specs.declared.line.Line.{Line}
+use Rattle.server_event_loop.specs.declared.line.Parting.{Parting}
+use Rattle.server_event_loop.specs.declared.line.Parting.TheVariants.{Whole, Cut}
+use Rattle.server_event_loop.specs.declared.seat.Seat.{Seat}
+use Rattle.server_event_loop.specs.declared.closing.Closing.{Closing}
+use Rattle.server_event_loop.specs.Peers.{Wire}
+use Rattle.server_event_loop.specs.Moving.{Held, Moves}
 
 -- what is held of a connection of which nothing has come
 abbrev pub new_held : ℕ → Held

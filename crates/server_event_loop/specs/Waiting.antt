@@ -1,13 +1,13 @@
 -- How long nothing is done, and who is given up.
 use Rattle.std.specs.Prelude.{◌≡◌, ◌⊎◌, ◌++◌, ◌<◌, ◌+◌, ◌-◌, ◌^◌, ◌||◌, ◌&&◌, ◌==◌, not, nat_lt, min, ℕ, List, [], ◌∷◌, Bool, true, false, Option, Some, None, if◌then◌else◌}
 use Rattle.std.specs.List.{list_any}
-use Rattle.lines.specs.declared.limits.Limits.{Limits}
-use Rattle.lines.specs.declared.seat.Seat.{Seat}
-use Rattle.lines.specs.declared.closing.Closing.{Closing}
-use Rattle.lines.specs.declared.limits.Readiness.{Readiness}
-use Rattle.lines.specs.Turns.{joined, is_seat_busy, seat_deadline, is_closing_busy, closing_deadline, is_closed}
-use Rattle.lines.specs.Peers.{Wire}
-use Rattle.lines.specs.Views.{Lingers}
+use Rattle.server_event_loop.specs.declared.limits.Limits.{Limits}
+use Rattle.server_event_loop.specs.declared.seat.Seat.{Seat}
+use Rattle.server_event_loop.specs.declared.closing.Closing.{Closing}
+use Rattle.server_event_loop.specs.declared.limits.Readiness.{Readiness}
+use Rattle.server_event_loop.specs.Turns.{joined, is_seat_busy, seat_deadline, is_closing_busy, closing_deadline, is_closed}
+use Rattle.server_event_loop.specs.Peers.{Wire}
+use Rattle.server_event_loop.specs.Views.{Lingers}
 use Rattle.server.specs.Serving.{Rest, is_full}
 
 -- a connection whose session lives isn't given up yet

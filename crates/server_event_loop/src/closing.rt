@@ -36,8 +36,8 @@ pub struct Closing {
 
 impl Closing {
     ghost use Rattle.std.specs.Prelude.{◌≡◌, ◌++◌, []};
-    ghost use Rattle.lines.specs.Views.{owed_of, Lingers};
-    ghost use Rattle.lines.specs.Turns.{joined, is_closed, is_closing_busy, closing_deadline};
+    ghost use Rattle.server_event_loop.specs.Views.{owed_of, Lingers};
+    ghost use Rattle.server_event_loop.specs.Turns.{joined, is_closed, is_closing_busy, closing_deadline};
 
     /// A connection that is owed these bytes, the second behind the first, and that last came further then; closed if it has failed.
     pub(crate) fn new(

@@ -3,7 +3,7 @@ ghost use Rattle.std.specs.Prelude.{ℕ, ◌≤◌, List};
 ghost use Rattle.engine.specs.Views.{EntryView};
 ghost use Rattle.server.specs.Serving.{empty};
 ghost use Rattle.server.specs.Running.{Event};
-ghost use Rattle.hosts.specs.Running.{gone_of, times_gone};
+ghost use Rattle.server_event_loop.specs.Running.{gone_of, times_gone};
 
 use engine::{Engine, Gate};
 use server::laws::keeps_limits;

@@ -2,12 +2,11 @@
 ghost use Rattle.std.specs.Prelude.{◌≡◌, ◌+◌, ◌≤◌, map};
 ghost use Rattle.std.specs.List.{list_any};
 ghost use Rattle.std.specs.VecDeque.{deque_len, deque_capacity};
-ghost use Rattle.lines.specs.Turns.{is_seat_busy};
-ghost use Rattle.hosts.specs.Waiting.{greeting_time, is_busy, nearest_seat, nearest_closing, woken_seat, woken_closing};
+ghost use Rattle.server_event_loop.specs.Turns.{is_seat_busy};
+ghost use Rattle.server_event_loop.specs.Waiting.{greeting_time, is_busy, nearest_seat, nearest_closing, woken_seat, woken_closing};
 
-use crate::{MAX_CONNECTIONS, MAX_SEATS};
+use crate::{Closing, Limits, MAX_CONNECTIONS, MAX_SEATS, Peers, Readiness, Ready, Seat};
 use engine::{Engine, Gate};
-use lines::{Closing, Limits, Peers, Readiness, Ready, Seat};
 use server::Server;
 use std::alloc::{AllocError, Global};
 use std::collections::VecDeque;
@@ -29,9 +28,9 @@ pub struct Host {
 impl Host {
     ghost use Rattle.std.specs.Prelude.{◌≡◌, ℕ, [], map, length, IfOk};
     ghost use Rattle.server.specs.Views.{rest_of};
-    ghost use Rattle.lines.specs.Views.{seat_held};
-    ghost use Rattle.hosts.specs.Standing.{closing_owed};
-    ghost use Rattle.hosts.specs.Waiting.{greeting_time, has_room, pause, woken_seat, woken_closing};
+    ghost use Rattle.server_event_loop.specs.Views.{seat_held};
+    ghost use Rattle.server_event_loop.specs.Standing.{closing_owed};
+    ghost use Rattle.server_event_loop.specs.Waiting.{greeting_time, has_room, pause, woken_seat, woken_closing};
 
     /// Without connections. Memory is made for the 32 that there may be.
     pub fn new(alloc: Global) -> Result<Host, AllocError>

@@ -1,9 +1,9 @@
 //! Who is told of each end.
 ghost use Rattle.std.specs.Prelude.{Option, List, [], ◌∷◌};
-ghost use Rattle.hosts.specs.Standing.{Told};
-ghost use Rattle.hosts.specs.Running.{TellsMore};
+ghost use Rattle.server_event_loop.specs.Standing.{Told};
+ghost use Rattle.server_event_loop.specs.Running.{TellsMore};
 
-use lines::Parting;
+use crate::Parting;
 
 /// Who is told of each connection whose session was given up.
 pub trait Journal {

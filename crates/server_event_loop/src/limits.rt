@@ -1,6 +1,6 @@
 //! How much is done at once, how long is waited, and what may be tried.
 ghost use Rattle.std.specs.Prelude.{◌≡◌};
-ghost use Rattle.lines.specs.Turns.{joined};
+ghost use Rattle.server_event_loop.specs.Turns.{joined};
 
 /// How much of a connection is done at once, and how long is waited for its peer.
 #[derive(Clone, Copy)]

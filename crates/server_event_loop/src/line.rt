@@ -47,9 +47,9 @@ impl Line {
     ghost use Rattle.std.specs.Prelude.{◌≡◌, ◌==◌, ◌++◌, not, length, [], ℕ, IfOk, IsSome};
     ghost use Rattle.server.specs.Serving.{find};
     ghost use Rattle.server.specs.Views.{rest_of};
-    ghost use Rattle.lines.specs.Peers.{Wire};
-    ghost use Rattle.lines.specs.Moving.{Carries, Moves};
-    ghost use Rattle.lines.specs.Views.{held_of, new_held, Parts};
+    ghost use Rattle.server_event_loop.specs.Peers.{Wire};
+    ghost use Rattle.server_event_loop.specs.Moving.{Carries, Moves};
+    ghost use Rattle.server_event_loop.specs.Views.{held_of, new_held, Parts};
 
     /// Of a connection of which nothing has come.
     pub(crate) fn new(alloc: Global, conn: u64) -> Result<Line, AllocError>

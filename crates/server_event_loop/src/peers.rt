@@ -1,6 +1,6 @@
 //! The world outside: peers by the numbers of their connections, and what is ready.
 ghost use Rattle.std.specs.Prelude.{◌≡◌, ◌≢◌, ℕ};
-ghost use Rattle.lines.specs.Peers.{Wire, Hears, Tells, got_count, told_count};
+ghost use Rattle.server_event_loop.specs.Peers.{Wire, Hears, Tells, got_count, told_count};
 
 use crate::limits::Readiness;
 

@@ -1,11 +1,10 @@
 //! A round: who waits is let in, and each connection has a turn.
 
-use crate::MAX_SEATS;
 use crate::host::Host;
 use crate::journal::Journal;
 use crate::turns::{goes_on, remains};
+use crate::{Greeting, Limits, MAX_SEATS, Parting, Peers, Seat};
 use engine::{Engine, Gate};
-use lines::{Greeting, Limits, Parting, Peers, Seat};
 use server::{Cause, Server};
 
 /// Milliseconds after which somebody is greeted again who waits and couldn't be taken.
@@ -16,10 +15,10 @@ impl Host {
     ghost use Rattle.std.specs.List.{AllByRecursion};
     ghost use Rattle.server.specs.Views.{rest_of};
     ghost use Rattle.server.specs.Serving.{find};
-    ghost use Rattle.lines.specs.Views.{seat_held};
-    ghost use Rattle.hosts.specs.Standing.{IsSeated, standing, closing_owed};
-    ghost use Rattle.hosts.specs.Running.{Leads, Ends, turn_calls, round_calls};
-    ghost use Rattle.hosts.specs.Waiting.{AddsInTime, Fades, InTime, remains};
+    ghost use Rattle.server_event_loop.specs.Views.{seat_held};
+    ghost use Rattle.server_event_loop.specs.Standing.{IsSeated, standing, closing_owed};
+    ghost use Rattle.server_event_loop.specs.Running.{Leads, Ends, turn_calls, round_calls};
+    ghost use Rattle.server_event_loop.specs.Waiting.{AddsInTime, Fades, InTime, remains};
 
     /// A round at this time: lets in who waits, as far as there is room; then each connection has one turn, if that would do something;
     /// and each of which there are no further turns, or whose time is up, is given up, and at last closed.

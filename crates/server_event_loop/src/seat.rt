@@ -1,6 +1,6 @@
 //! A connection whose session lives, and its turns.
 ghost use Rattle.std.specs.Prelude.{◌≡◌, ◌+◌, ◌*◌};
-ghost use Rattle.lines.specs.Turns.{is_past_log_in};
+ghost use Rattle.server_event_loop.specs.Turns.{is_past_log_in};
 
 use crate::MAX_PIECE;
 use crate::closing::Closing;
@@ -50,10 +50,10 @@ impl Seat {
     ghost use Rattle.std.specs.Prelude.{◌≡◌, ◌||◌, [], ℕ, false, IfOk, IsSome};
     ghost use Rattle.server.specs.Serving.{find, state_at};
     ghost use Rattle.server.specs.Views.{rest_of};
-    ghost use Rattle.lines.specs.Peers.{Wire};
-    ghost use Rattle.lines.specs.Moving.{Carries, Moves};
-    ghost use Rattle.lines.specs.Views.{new_held, seat_held, owed_of, Parts};
-    ghost use Rattle.lines.specs.Turns.{IsAsOld, is_past_log_in, joined, is_seat_busy, seat_deadline};
+    ghost use Rattle.server_event_loop.specs.Peers.{Wire};
+    ghost use Rattle.server_event_loop.specs.Moving.{Carries, Moves};
+    ghost use Rattle.server_event_loop.specs.Views.{new_held, seat_held, owed_of, Parts};
+    ghost use Rattle.server_event_loop.specs.Turns.{IsAsOld, is_past_log_in, joined, is_seat_busy, seat_deadline};
 
     /// Of a connection that comes now, and of which nothing was read.
     pub fn new(alloc: Global, conn: u64, now: u64) -> Result<Seat, AllocError>

@@ -1,12 +1,12 @@
 //! The loop of a server with many connections.
 ghost use Rattle.std.specs.Prelude.{◌≡◌, ℕ, []};
 ghost use Rattle.server.specs.Views.{rest_of};
-ghost use Rattle.hosts.specs.Running.{Runs};
+ghost use Rattle.server_event_loop.specs.Running.{Runs};
 
 use crate::host::Host;
 use crate::journal::Journal;
+use crate::{Limits, Peers};
 use engine::{Engine, Gate};
-use lines::{Limits, Peers};
 use server::Server;
 use std::alloc::Global;
 

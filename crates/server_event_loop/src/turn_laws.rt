@@ -2,9 +2,9 @@
 ghost use Rattle.std.specs.Prelude.{◌≡◌, ◌≢◌, ℕ, List, [], IsSome};
 ghost use Rattle.server.specs.Serving.{Rest, find};
 ghost use Rattle.server.specs.Running.{Event, after_events};
-ghost use Rattle.lines.specs.Peers.{Wire};
-ghost use Rattle.lines.specs.Moving.{Held, End, Moves};
-ghost use Rattle.lines.specs.Running.{Turns, Along};
+ghost use Rattle.server_event_loop.specs.Peers.{Wire};
+ghost use Rattle.server_event_loop.specs.Moving.{Held, End, Moves};
+ghost use Rattle.server_event_loop.specs.Turning.{Turns, Along};
 
 use engine::{Engine, Gate};
 

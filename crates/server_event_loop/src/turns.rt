@@ -1,12 +1,12 @@
 //! A turn of one connection, and whether it goes on.
 ghost use Rattle.std.specs.Prelude.{◌≡◌, ◌+◌, ◌*◌, [], true};
 ghost use Rattle.server.specs.Views.{rest_of};
-ghost use Rattle.lines.specs.Moving.{Moves};
-ghost use Rattle.lines.specs.Views.{seat_held, Lingers};
-ghost use Rattle.hosts.specs.Waiting.{InTime, remains};
+ghost use Rattle.server_event_loop.specs.Moving.{Moves};
+ghost use Rattle.server_event_loop.specs.Views.{seat_held, Lingers};
+ghost use Rattle.server_event_loop.specs.Waiting.{InTime, remains};
 
+use crate::{Closing, Limits, Peers, Seat, Turned};
 use engine::{Engine, Gate};
-use lines::{Closing, Limits, Peers, Seat, Turned};
 use server::Server;
 
 /// A turn of a connection whose session lives, if it would do something; whether it goes on. Else it is to be given up: there are no

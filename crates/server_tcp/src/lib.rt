@@ -1,4 +1,5 @@
-//! The peers of a server over the sockets of this machine: a [`Network`] is the [`Peers`](lines::Peers) of a listener and its connections.
+//! The peers of a server over the sockets of this machine: a [`Network`] is the [`Peers`](server_event_loop::Peers) of a listener and its
+//! connections.
 //!
 //! No call on a socket waits but the one for all of them, and none raises a signal: a write to a peer that is gone fails. Every failure of a
 //! connection ends that connection alone.

@@ -4,10 +4,10 @@ ghost use Rattle.std.specs.List.{position};
 
 use crate::failures::{Refusal, refusal_of};
 use crate::transfers::{read_now, write_now};
-use lines::{Failed, Got, Greeting, Peers, Readiness, Ready};
 use mio::event::Event;
 use mio::net::{TcpListener, TcpStream};
 use mio::{Events, Interest, Poll, Token};
+use server_event_loop::{Failed, Got, Greeting, Peers, Readiness, Ready};
 use std::alloc::Global;
 use std::io;
 use std::io::{Eprint, ErrorKind};

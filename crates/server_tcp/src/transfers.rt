@@ -1,9 +1,9 @@
 //! Reads and writes that never wait.
 ghost use Rattle.std.specs.Prelude.{◌≡◌, ◌<◌, ◌≤◌, length, take, IfOk};
 ghost use Rattle.std.specs.Io.KnownBytes.{Appends, Consumes, IsAtEnd};
-ghost use Rattle.lines.specs.Peers.{got_count, told_count};
+ghost use Rattle.server_event_loop.specs.Peers.{got_count, told_count};
 
-use lines::{Failed, Got};
+use server_event_loop::{Failed, Got};
 use std::io::{ErrorKind, Read, Write};
 
 /// The most tries of one call that signals interrupt.

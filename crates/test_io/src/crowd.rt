@@ -1,9 +1,8 @@
 //! Peers in memory, and who is told of their ends.
 ghost use Rattle.std.specs.Prelude.{◌≤◌, length};
-ghost use Rattle.lines.specs.Peers.{got_count, told_count};
+ghost use Rattle.server_event_loop.specs.Peers.{got_count, told_count};
 
-use hosts::{Journal, Parting};
-use lines::{Failed, Got, Greeting, Peers, Readiness, Ready};
+use server_event_loop::{Failed, Got, Greeting, Journal, Parting, Peers, Readiness, Ready};
 use std::alloc::Global;
 use std::test::Fail;
 

@@ -1,8 +1,8 @@
 //! Many connections at once over peers in memory.
 use crate::crowd::{After, Crowd, Ends, Guest};
 use crate::streams_of::server;
-use hosts::{Limits, Parting, Stopped, serve};
 use server::Cause;
+use server_event_loop::{Limits, Parting, Stopped, serve};
 use std::alloc::Global;
 use std::test::Fail;
 

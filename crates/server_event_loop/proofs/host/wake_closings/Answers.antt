@@ -1,7 +1,7 @@
 use Rattle.std.proofs.Common.{arith}
-use Rattle.hosts.specs.Prelude.{woken_closing}
-use Rattle.hosts.proofs.Lists.{one_written}
-use Rattle.hosts.proofs.host.wake_closings.Goals as goal
+use Rattle.server_event_loop.specs.Prelude.{woken_closing}
+use Rattle.server_event_loop.proofs.Lists.{one_written}
+use Rattle.server_event_loop.proofs.host.wake_closings.Goals as goal
 
 pub loop-at-preserved : goal.loop-at-preserved
 loop-at-preserved c = record {

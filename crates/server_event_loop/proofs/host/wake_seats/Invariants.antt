@@ -1,7 +1,7 @@
 use Rattle.std.proofs.Common.{◌≡◌, ◌++◌, map, take, drop}
 use Rattle.std.specs.VecDeque.{deque_len, deque_capacity}
-use Rattle.hosts.specs.Prelude.{woken_seat}
-use Rattle.hosts.proofs.host.wake_seats.Given as goal
+use Rattle.server_event_loop.specs.Prelude.{woken_seat}
+use Rattle.server_event_loop.proofs.host.wake_seats.Given as goal
 
 abbrev pub invariant-loop-at : goal.invariant-loop-at
 invariant-loop-at l = record {

@@ -1,9 +1,9 @@
 use Rattle.std.proofs.Common.{map, ◌∙◌, refl}
 use Rattle.server.specs.Prelude.{rest_of}
-use Rattle.lines.specs.Prelude.{seat_held}
-use Rattle.hosts.specs.Prelude.{closing_owed}
-use Rattle.hosts.proofs.Ran.{has_begun, has_begun_so, has_led, has_waited, has_run}
-use Rattle.hosts.proofs.serving.serve.Goals as goal
+use Rattle.server_event_loop.specs.ConnectionPrelude.{seat_held}
+use Rattle.server_event_loop.specs.Prelude.{closing_owed}
+use Rattle.server_event_loop.proofs.Ran.{has_begun, has_begun_so, has_led, has_waited, has_run}
+use Rattle.server_event_loop.proofs.serving.serve.Goals as goal
 
 pub returns-in_default : goal.returns-in_default
 returns-in_default g c = has_run g.E.Engine.answer g.G.Gate.welcomes (has_begun g.E.Engine.answer g.G.Gate.welcomes (rest_of g.E.Engine.entries c.args.server.now) (g.P.Peers.wire c.args.peers.now) (g.J.Journal.told c.args.journal.now) c.requires)

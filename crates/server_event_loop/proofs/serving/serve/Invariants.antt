@@ -1,7 +1,7 @@
 use Rattle.server.specs.Prelude.{rest_of}
-use Rattle.hosts.specs.Prelude.{standing}
-use Rattle.hosts.proofs.Ran.{HasCome}
-use Rattle.hosts.proofs.serving.serve.Given as goal
+use Rattle.server_event_loop.specs.Prelude.{standing}
+use Rattle.server_event_loop.proofs.Ran.{HasCome}
+use Rattle.server_event_loop.proofs.serving.serve.Given as goal
 
 abbrev pub invariant-loop-made : goal.invariant-loop-made
 invariant-loop-made g l = HasCome g.E.Engine.answer g.G.Gate.welcomes (rest_of g.E.Engine.entries l.fn.server) (g.P.Peers.wire l.fn.peers) (g.J.Journal.told l.fn.journal)

@@ -1,5 +1,5 @@
-use Rattle.lines.proofs.Living.{moves_leave, moves_live}
-use Rattle.lines.proofs.laws.moves_leave_others.Goals as goal
+use Rattle.server_event_loop.proofs.Living.{moves_leave, moves_live}
+use Rattle.server_event_loop.proofs.turn_laws.moves_leave_others.Goals as goal
 
 pub returns-clause-others : goal.returns-clause-others
 returns-clause-others g c = λ most asks ends r s old new before after other p differ. moves_leave g.E.Engine.answer g.G.Gate.welcomes p other differ

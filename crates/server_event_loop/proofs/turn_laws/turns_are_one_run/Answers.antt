@@ -1,5 +1,5 @@
-use Rattle.lines.proofs.Apart.{turns_reach, turns_along}
-use Rattle.lines.proofs.laws.turns_are_one_run.Goals as goal
+use Rattle.server_event_loop.proofs.Apart.{turns_reach, turns_along}
+use Rattle.server_event_loop.proofs.turn_laws.turns_are_one_run.Goals as goal
 
 pub returns-clause-reaches : goal.returns-clause-reaches
 returns-clause-reaches g c = λ r before calls s held after t. turns_reach g.E.Engine.answer g.G.Gate.welcomes t

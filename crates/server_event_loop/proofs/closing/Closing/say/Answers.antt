@@ -1,6 +1,6 @@
 use Rattle.std.proofs.Common.{refl}
-use Rattle.lines.proofs.Lingered.{lingers_said}
-use Rattle.lines.proofs.closing.Closing.say.Goals as goal
+use Rattle.server_event_loop.proofs.Lingered.{lingers_said}
+use Rattle.server_event_loop.proofs.closing.Closing.say.Goals as goal
 
 pub returns-in-Err-clause-lingers : goal.returns-in-Err-clause-lingers
 returns-in-Err-clause-lingers g c = lingers_said c.args.self.now _ (g.P.Peers.wire c.args.peers.now) (g.P.Peers.wire c.write.new.self) 0 _ c.as_slice.ensures refl refl refl refl c.in-Err.ensures.tells c.write.ensures.others

@@ -1,8 +1,8 @@
 use Rattle.std.proofs.Common.{arith, map}
-use Rattle.lines.specs.Prelude.{seat_held}
-use Rattle.hosts.specs.Prelude.{closing_owed}
-use Rattle.hosts.proofs.Led.{leads_none, leads_then, leads_within, leads_heard}
-use Rattle.hosts.proofs.host.Host.admit.Goals as goal
+use Rattle.server_event_loop.specs.ConnectionPrelude.{seat_held}
+use Rattle.server_event_loop.specs.Prelude.{closing_owed}
+use Rattle.server_event_loop.proofs.Led.{leads_none, leads_then, leads_within, leads_heard}
+use Rattle.server_event_loop.proofs.host.Host.admit.Goals as goal
 
 pub loop-made-init : goal.loop-made-init
 loop-made-init g c = leads_none g.E.Engine.answer g.G.Gate.welcomes _

@@ -1,7 +1,7 @@
 use Rattle.std.proofs.Common.{◌≡◌, ℕ, map}
-use Rattle.lines.specs.Prelude.{seat_held}
-use Rattle.hosts.specs.Prelude.{closing_owed}
-use Rattle.hosts.proofs.host.Host.hear.Given as goal
+use Rattle.server_event_loop.specs.ConnectionPrelude.{seat_held}
+use Rattle.server_event_loop.specs.Prelude.{closing_owed}
+use Rattle.server_event_loop.proofs.host.Host.hear.Given as goal
 
 abbrev pub invariant-loop-made : goal.invariant-loop-made
 invariant-loop-made g l = record {

@@ -1,10 +1,10 @@
 use Rattle.std.proofs.Common.{◌∙◌, List, map, ap}
-use Rattle.lines.specs.declared.seat.Seat.{Seat}
-use Rattle.lines.specs.declared.closing.Closing.{Closing}
-use Rattle.lines.specs.Prelude.{seat_held}
-use Rattle.hosts.specs.Prelude.{closing_owed}
-use Rattle.hosts.proofs.Lists.{all_held_woken, all_owed_woken}
-use Rattle.hosts.proofs.host.Host.heed.Goals as goal
+use Rattle.server_event_loop.specs.declared.seat.Seat.{Seat}
+use Rattle.server_event_loop.specs.declared.closing.Closing.{Closing}
+use Rattle.server_event_loop.specs.ConnectionPrelude.{seat_held}
+use Rattle.server_event_loop.specs.Prelude.{closing_owed}
+use Rattle.server_event_loop.proofs.Lists.{all_held_woken, all_owed_woken}
+use Rattle.server_event_loop.proofs.host.Host.heed.Goals as goal
 
 pub returns-in-Conn-clause-seats : goal.returns-in-Conn-clause-seats
 returns-in-Conn-clause-seats c = ap (λ (ss : List Seat). map seat_held ss) c.wake.ensures.seats ∙ all_held_woken _ _ c.args.self.now.seats.items

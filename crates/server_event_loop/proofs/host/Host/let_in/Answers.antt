@@ -1,9 +1,9 @@
 use Rattle.std.proofs.Common.{map}
 use Rattle.server.specs.Prelude.{rest_of}
-use Rattle.lines.specs.Prelude.{seat_held, owed_of}
-use Rattle.hosts.specs.Prelude.{closing_owed}
-use Rattle.hosts.proofs.Served.{not_opened, leads_refused, leads_memory, leads_let_in, guest_lives, leads_seatless}
-use Rattle.hosts.proofs.host.Host.let_in.Goals as goal
+use Rattle.server_event_loop.specs.ConnectionPrelude.{seat_held, owed_of}
+use Rattle.server_event_loop.specs.Prelude.{closing_owed}
+use Rattle.server_event_loop.proofs.Served.{not_opened, leads_refused, leads_memory, leads_let_in, guest_lives, leads_seatless}
+use Rattle.server_event_loop.proofs.host.Host.let_in.Goals as goal
 
 pub returns-in_default : goal.returns-in_default
 returns-in_default g c = leads_refused g.E.Engine.answer g.G.Gate.welcomes (map seat_held c.args.self.now.seats.items) (map closing_owed c.args.self.now.closings.items) (not_opened _ _ _ c.in_default.ensures) c.refuse.ensures.same

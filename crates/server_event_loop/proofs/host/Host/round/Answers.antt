@@ -1,11 +1,11 @@
 use Rattle.std.proofs.Common.{◌≡◌, sym, subst, List, map, arith, true}
 use Rattle.std.specs.List.{AllByRecursion}
-use Rattle.lines.specs.declared.seat.Seat.{Seat}
-use Rattle.lines.specs.Prelude.{seat_held}
-use Rattle.hosts.specs.Prelude.{Leads, standing, round_calls, InTime, remains}
-use Rattle.hosts.proofs.Led.{leads_then, leads_within}
-use Rattle.hosts.proofs.Served.{turns_begin, faded_turn, leads_faded, in_turn_left}
-use Rattle.hosts.proofs.host.Host.round.Goals as goal
+use Rattle.server_event_loop.specs.declared.seat.Seat.{Seat}
+use Rattle.server_event_loop.specs.ConnectionPrelude.{seat_held}
+use Rattle.server_event_loop.specs.Prelude.{Leads, standing, round_calls, InTime, remains}
+use Rattle.server_event_loop.proofs.Led.{leads_then, leads_within}
+use Rattle.server_event_loop.proofs.Served.{turns_begin, faded_turn, leads_faded, in_turn_left}
+use Rattle.server_event_loop.proofs.host.Host.round.Goals as goal
 
 pub loop-made-init : goal.loop-made-init
 loop-made-init g c = record {

@@ -1,8 +1,8 @@
 use Rattle.std.proofs.Common.{◌≡◌, ◌-◌, true}
 use Rattle.std.specs.List.{AllByRecursion}
-use Rattle.hosts.specs.Prelude.{Leads, standing, round_calls, InTime, remains}
-use Rattle.hosts.proofs.Served.{InTurn}
-use Rattle.hosts.proofs.host.Host.round.Given as goal
+use Rattle.server_event_loop.specs.Prelude.{Leads, standing, round_calls, InTime, remains}
+use Rattle.server_event_loop.proofs.Served.{InTurn}
+use Rattle.server_event_loop.proofs.host.Host.round.Given as goal
 
 abbrev pub invariant-loop-made : goal.invariant-loop-made
 invariant-loop-made g l = record {

@@ -1,8 +1,8 @@
 use Rattle.std.proofs.Common.{inr, map}
-use Rattle.lines.specs.Prelude.{seat_held}
-use Rattle.hosts.specs.Prelude.{closing_owed}
-use Rattle.hosts.proofs.Served.{lives_on, leads_stays, leads_ends}
-use Rattle.hosts.proofs.host.Host.serve_seat.Goals as goal
+use Rattle.server_event_loop.specs.ConnectionPrelude.{seat_held}
+use Rattle.server_event_loop.specs.Prelude.{closing_owed}
+use Rattle.server_event_loop.proofs.Served.{lives_on, leads_stays, leads_ends}
+use Rattle.server_event_loop.proofs.host.Host.serve_seat.Goals as goal
 
 pub returns-then-goes_on-clause-leads : goal.returns-then-goes_on-clause-leads
 returns-then-goes_on-clause-leads g c = leads_stays g.E.Engine.answer g.G.Gate.welcomes (seat_held c.args.seat) c.goes_on.new.seat c.args.self.now.seats.items c.push_back_reserved.new.self.items (map closing_owed c.args.self.now.closings.items) c.requires.seated c.goes_on.ensures.moves c.push_back_reserved.ensures.items

@@ -1,9 +1,9 @@
 use Rattle.std.proofs.Common.{◌*◌, sym, subst, List, arith}
-use Rattle.lines.specs.declared.seat.Seat.{Seat}
-use Rattle.hosts.specs.Prelude.{Leads, standing, turn_calls, InTime}
-use Rattle.hosts.proofs.Led.{leads_none, leads_then, leads_within}
-use Rattle.hosts.proofs.Served.{turns_begin, one_turn, times_more, times_within, in_turn_left}
-use Rattle.hosts.proofs.host.Host.serve_seats.Goals as goal
+use Rattle.server_event_loop.specs.declared.seat.Seat.{Seat}
+use Rattle.server_event_loop.specs.Prelude.{Leads, standing, turn_calls, InTime}
+use Rattle.server_event_loop.proofs.Led.{leads_none, leads_then, leads_within}
+use Rattle.server_event_loop.proofs.Served.{turns_begin, one_turn, times_more, times_within, in_turn_left}
+use Rattle.server_event_loop.proofs.host.Host.serve_seats.Goals as goal
 
 pub loop-made-init : goal.loop-made-init
 loop-made-init g c = record {

@@ -1,7 +1,7 @@
 use Rattle.std.proofs.Common.{◌-◌, ◌*◌}
-use Rattle.hosts.specs.Prelude.{Leads, standing, turn_calls, InTime}
-use Rattle.hosts.proofs.Served.{InTurn}
-use Rattle.hosts.proofs.host.Host.serve_seats.Given as goal
+use Rattle.server_event_loop.specs.Prelude.{Leads, standing, turn_calls, InTime}
+use Rattle.server_event_loop.proofs.Served.{InTurn}
+use Rattle.server_event_loop.proofs.host.Host.serve_seats.Given as goal
 
 abbrev pub invariant-loop-made : goal.invariant-loop-made
 invariant-loop-made g l = record {

@@ -1,6 +1,6 @@
 use Rattle.std.proofs.Common.{arith, refl}
-use Rattle.lines.proofs.Moved.{moves_kept, moves_then, moves_within}
-use Rattle.lines.proofs.line.Line.advance.Goals as goal
+use Rattle.server_event_loop.proofs.Moved.{moves_kept, moves_then, moves_within}
+use Rattle.server_event_loop.proofs.line.Line.advance.Goals as goal
 
 pub loop-made-init : goal.loop-made-init
 loop-made-init g c = λ w. moves_kept g.E.Engine.answer g.G.Gate.welcomes _ _ _ _ w refl

@@ -1,8 +1,8 @@
 use Rattle.std.proofs.Common.{◌≡◌, ◌++◌, refl, sym, ap, List, ℕ}
-use Rattle.lines.specs.Prelude.{held_of}
-use Rattle.lines.proofs.Moved.{moves_kept, moves_drawn}
-use Rattle.lines.proofs.Carried.{none_goes}
-use Rattle.lines.proofs.line.Line.draw.Goals as goal
+use Rattle.server_event_loop.specs.ConnectionPrelude.{held_of}
+use Rattle.server_event_loop.proofs.Moved.{moves_kept, moves_drawn}
+use Rattle.server_event_loop.proofs.Carried.{none_goes}
+use Rattle.server_event_loop.proofs.line.Line.draw.Goals as goal
 
 pub returns-then-is_going : goal.returns-then-is_going
 returns-then-is_going g c = λ w. moves_kept g.E.Engine.answer g.G.Gate.welcomes 1 _ _ _ w refl

@@ -1,9 +1,9 @@
 use Rattle.std.proofs.Common.{◌≡◌, ◌∙◌, ◌+◌, ◌≤◌, refl, sym, ap, subst, take, drop, length, List, ℕ, Some}
 use Rattle.server.specs.Prelude.{rest_of, feed_at}
-use Rattle.lines.specs.Prelude.{held_of}
-use Rattle.lines.proofs.Moved.{moves_kept, moves_fed}
-use Rattle.lines.proofs.Carried.{left_of}
-use Rattle.lines.proofs.line.Line.feed.Goals as goal
+use Rattle.server_event_loop.specs.ConnectionPrelude.{held_of}
+use Rattle.server_event_loop.proofs.Moved.{moves_kept, moves_fed}
+use Rattle.server_event_loop.proofs.Carried.{left_of}
+use Rattle.server_event_loop.proofs.line.Line.feed.Goals as goal
 
 pub returns-then-self : goal.returns-then-self
 returns-then-self g c = λ w. moves_kept g.E.Engine.answer g.G.Gate.welcomes 1 _ _ _ w refl

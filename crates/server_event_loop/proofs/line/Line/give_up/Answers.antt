@@ -1,7 +1,7 @@
 use Rattle.std.proofs.Common.{◌<◌, arith, length}
-use Rattle.lines.specs.Prelude.{held_of}
-use Rattle.lines.proofs.Parted.{parts_whole, parts_cut}
-use Rattle.lines.proofs.line.Line.give_up.Goals as goal
+use Rattle.server_event_loop.specs.ConnectionPrelude.{held_of}
+use Rattle.server_event_loop.proofs.Parted.{parts_whole, parts_cut}
+use Rattle.server_event_loop.proofs.line.Line.give_up.Goals as goal
 
 pub returns-in-Ok : goal.returns-in-Ok
 returns-in-Ok g c =

@@ -1,9 +1,9 @@
 use Rattle.std.proofs.Common.{◌≡◌, ◌∙◌, ◌++◌, [], ℕ, List, arith, refl, sym, ap, take, drop, length, length-drop, length-take}
 use Rattle.std.proofs.lemmas.List.{nil_from_length}
 use lib.Seq.{take-append_seam}
-use Rattle.lines.specs.Prelude.{held_of, got_count}
-use Rattle.lines.proofs.Carried.{carries_none, carries_heard}
-use Rattle.lines.proofs.line.Line.hear.Goals as goal
+use Rattle.server_event_loop.specs.ConnectionPrelude.{held_of, got_count}
+use Rattle.server_event_loop.proofs.Carried.{carries_none, carries_heard}
+use Rattle.server_event_loop.proofs.line.Line.hear.Goals as goal
 
 pub returns-then-self : goal.returns-then-self
 returns-then-self g c = carries_none (held_of c.args.self.now) (g.P.Peers.wire c.args.peers.now)

@@ -1,6 +1,6 @@
 use Rattle.std.proofs.Common.{arith}
-use Rattle.lines.proofs.Moved.{moves_kept, moves_then, moves_within, moves_worked}
-use Rattle.lines.proofs.line.Line.step.Goals as goal
+use Rattle.server_event_loop.proofs.Moved.{moves_kept, moves_then, moves_within, moves_worked}
+use Rattle.server_event_loop.proofs.line.Line.step.Goals as goal
 
 pub returns-in_default : goal.returns-in_default
 returns-in_default g c = λ w. moves_kept g.E.Engine.answer g.G.Gate.welcomes 2 _ _ _ w c.in_default.ensures.refused

@@ -1,7 +1,7 @@
 use Rattle.std.proofs.Common.{arith, refl, ◌∙◌}
-use Rattle.lines.proofs.Moved.{moves_kept, moves_then, moves_carried, moves_within}
-use Rattle.lines.proofs.Bounded.{one_more, and_one, and_read, some_rounds}
-use Rattle.lines.proofs.seat.Seat.talk.Goals as goal
+use Rattle.server_event_loop.proofs.Moved.{moves_kept, moves_then, moves_carried, moves_within}
+use Rattle.server_event_loop.proofs.Bounded.{one_more, and_one, and_read, some_rounds}
+use Rattle.server_event_loop.proofs.seat.Seat.talk.Goals as goal
 
 pub loop-made-init : goal.loop-made-init
 loop-made-init g c = record {

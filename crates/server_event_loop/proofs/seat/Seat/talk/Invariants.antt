@@ -1,7 +1,7 @@
 use Rattle.std.proofs.Common.{◌*◌, []}
 use Rattle.server.specs.Prelude.{rest_of}
-use Rattle.lines.specs.Prelude.{seat_held, IsAsOld, Moves}
-use Rattle.lines.proofs.seat.Seat.talk.Given as goal
+use Rattle.server_event_loop.specs.ConnectionPrelude.{seat_held, IsAsOld, Moves}
+use Rattle.server_event_loop.proofs.seat.Seat.talk.Given as goal
 
 abbrev pub invariant-loop-made : goal.invariant-loop-made
 invariant-loop-made g l = record {

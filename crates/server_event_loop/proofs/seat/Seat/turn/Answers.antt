@@ -1,8 +1,8 @@
 use Rattle.std.proofs.Common.{sym, subst, ℕ, IsSome}
 use Rattle.server.specs.Prelude.{rest_of, find}
-use Rattle.lines.proofs.Moved.{moves_then}
-use Rattle.lines.proofs.Living.{moves_live}
-use Rattle.lines.proofs.seat.Seat.turn.Goals as goal
+use Rattle.server_event_loop.proofs.Moved.{moves_then}
+use Rattle.server_event_loop.proofs.Living.{moves_live}
+use Rattle.server_event_loop.proofs.seat.Seat.turn.Goals as goal
 
 pub returns-clause-moves : goal.returns-clause-moves
 returns-clause-moves g c = moves_then g.E.Engine.answer g.G.Gate.welcomes c.talk-talked.ensures.moves c.write-drawn.ensures.moves

@@ -1,5 +1,5 @@
-use Rattle.lines.proofs.Moved.{moves_then, moves_carried}
-use Rattle.lines.proofs.seat.Seat.write.Goals as goal
+use Rattle.server_event_loop.proofs.Moved.{moves_then, moves_carried}
+use Rattle.server_event_loop.proofs.seat.Seat.write.Goals as goal
 
 pub returns-clause-moves : goal.returns-clause-moves
 returns-clause-moves g c =

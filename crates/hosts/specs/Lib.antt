@@ -1,4 +1,0 @@
-pub mod Standing
-pub mod Running
-pub mod Waiting
-pub mod Prelude
