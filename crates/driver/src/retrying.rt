@@ -81,8 +81,8 @@ fn is_token(token: &str) -> bool
 /// - Open: an attempt may have committed, and nothing is sent again.
 /// - Absent: the tries are used up, and no attempt committed.
 ///
-/// Each connection has one attempt and is given back after it. None is opened after the fate is known. The law `sent_until_known` of `known` gives
-/// the meaning of each fate for the ledger of a server of this product.
+/// Each connection has one attempt and is given back after it. None is opened after the fate is known. The law `sent_until_known` of
+/// `world_guarantees` gives the meaning of each fate for the ledger of a server of this product.
 ///
 /// # Errors
 ///

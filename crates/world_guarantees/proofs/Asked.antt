@@ -23,9 +23,9 @@ use Rattle.world.proofs.Kept.{tells}
 use Rattle.world.proofs.Clients.{knows_if, did_made}
 use Rattle.world.proofs.Headline.{reached_inv}
 use Rattle.world.proofs.Served.{unseen}
-use Rattle.behind.specs.Prelude.{Moment, asks, client_calls, run_of, IsFront, IsLinked}
-use Rattle.behind.proofs.Pieces.{front_length, front_trans, front_none, front_next, takes_front}
-use Rattle.behind.proofs.Histories.{peer_by, Meets, Side, At, AtMoments, Stands, server_still, gave_still, at_other, at_own, took_in, gave_in, said_in, run_more, answers_among}
+use Rattle.world_guarantees.specs.Prelude.{Moment, asks, client_calls, run_of, IsFront, IsLinked}
+use Rattle.world_guarantees.proofs.Pieces.{front_length, front_trans, front_none, front_next, takes_front}
+use Rattle.world_guarantees.proofs.Histories.{peer_by, Meets, Side, At, AtMoments, Stands, server_still, gave_still, at_other, at_own, took_in, gave_in, said_in, run_more, answers_among}
 
 -- a client that has taken nothing accepts nothing, since it knows no version
 quiet_sent : (wish : Wish) (c : ℕ) (ms : List Moment) (x : ClientCall) → (run_of wish c ms).sent ≡ [] → (run_of wish c ms).took ≡ [] → (called (run_of wish c ms) x).sent ≡ []

@@ -23,7 +23,7 @@ use Rattle.world.proofs.Serve.{has_left}
 use Rattle.world.proofs.Trace.{Trace, Denies, along_run}
 use Rattle.world.proofs.Limits.{commits_once, grows_by_work}
 use Rattle.client_tracking.specs.Telling.{adds_nothing}
-use Rattle.known.specs.Attempts.{BeginsUnder, IsAttempt, OthersStand, CommittedStands, RefusedCommitClashes, RefusedAddsNone, StaysKnown}
+use Rattle.world_guarantees.specs.Attempts.{BeginsUnder, IsAttempt, OthersStand, CommittedStands, RefusedCommitClashes, RefusedAddsNone, StaysKnown}
 
 -- no entry of a connection
 none_of : (c : ℕ) (n : ℕ) (es : List EntryView) → Each (λ e. e.conn ≡ c → e.ordinal < n) es → ((i : ℕ) → i < n → entries c i es ≡ []) → Each (λ e. e.conn ≡ c → ⊥) es

@@ -23,12 +23,12 @@ use Rattle.world.proofs.Kept.{tells}
 use Rattle.world.proofs.Clients.{knows_if}
 use Rattle.world.proofs.Headline.{reached_inv, all_good}
 use Rattle.world.proofs.Served.{find_at, alike, feed_served, work_served, noop_served, take_served, lost_served, open_served}
-use Rattle.behind.specs.Prelude.{Moment, serves, client_calls, run_of, step_said, call_said, counted_if, IsFront, IsLinked}
-use Rattle.behind.proofs.Pieces.{front_next, feed_front}
-use Rattle.behind.proofs.Places.{IsGone, idle_call, idle_loss, push_cases}
-use Rattle.behind.proofs.Replayed.{same_count}
-use Rattle.behind.proofs.Ended.{all_out}
-use Rattle.behind.proofs.Histories.{answers_among, peer_by, IsOut, Meets, Side, Facts, Unopened, OnConn, IsSilent, silent_other, silent_gone, AtMoments, Stands, server_then, took_then, run_then, at_then, at_still}
+use Rattle.world_guarantees.specs.Prelude.{Moment, serves, client_calls, run_of, step_said, call_said, counted_if, IsFront, IsLinked}
+use Rattle.world_guarantees.proofs.Pieces.{front_next, feed_front}
+use Rattle.world_guarantees.proofs.Places.{IsGone, idle_call, idle_loss, push_cases}
+use Rattle.world_guarantees.proofs.Replayed.{same_count}
+use Rattle.world_guarantees.proofs.Ended.{all_out}
+use Rattle.world_guarantees.proofs.Histories.{answers_among, peer_by, IsOut, Meets, Side, Facts, Unopened, OnConn, IsSilent, silent_other, silent_gone, AtMoments, Stands, server_then, took_then, run_then, at_then, at_still}
 
 -- what a session says changes nothing of what was taken out before
 front_in_two : (xs : List ℕ) (down taken : ℕ) → down ≤ taken → take taken xs ≡ take down xs ++ take (taken - down) (drop down xs)

@@ -9,13 +9,13 @@ use Rattle.client_tracking.specs.Fates.{fate_of}
 use Rattle.client_tracking.specs.Attempts.{Attempt, tells_in}
 use Rattle.driver.specs.Prelude.{AskedView, Calls, made_at, tells_at, made_from, Ending, IsKnown}
 use Rattle.world.specs.Prelude.{Definition, setting_of, IsLedger, Each}
-use Rattle.known.specs.Sending.{IsMet}
-use Rattle.known.specs.Tied.{IsAt}
-use Rattle.known.proofs.Sending.{sent_until_known}
-use Rattle.behind.specs.Prelude.{Moment, server_calls, ArePlayed, IsRun}
-use Rattle.behind.specs.Fates.{IsCalledAt, AreCalledAt, CallsAreKnown, IsKnownTo}
-use Rattle.behind.proofs.Played.{are_runs}
-use Rattle.behind.proofs.Relied.{found_in}
+use Rattle.world_guarantees.specs.Sending.{IsMet}
+use Rattle.world_guarantees.specs.Tied.{IsAt}
+use Rattle.world_guarantees.proofs.Sending.{sent_until_known}
+use Rattle.world_guarantees.specs.Prelude.{Moment, server_calls, ArePlayed, IsRun}
+use Rattle.world_guarantees.specs.Fates.{IsCalledAt, AreCalledAt, CallsAreKnown, IsKnownTo}
+use Rattle.world_guarantees.proofs.Played.{are_runs}
+use Rattle.world_guarantees.proofs.Relied.{found_in}
 
 -- The numbers of connections do not change what attempts report.
 tells_from : (wish : Wish) (conns : ℕ → ℕ) (n : ℕ) (cs : List (Option Calls)) → map tells_in (made_from wish conns n cs) ≡ map (tells_at wish) cs

@@ -9,8 +9,8 @@ use Rattle.server_event_loop.proofs.Moved.{after_both, taken_both, given_both}
 use Rattle.client.specs.Prelude.{Call as ClientCall, Run, starts, call as called, calls}
 use Rattle.server_session.specs.Prelude.{Setting}
 use Rattle.world.specs.Prelude.{Peer, Ours, Foreign, Connection, Said, SaysRow, SaysSummary, output, bytes_delivered, World, Reached, server_rest, Definition, setting_of}
-use Rattle.behind.specs.Prelude.{Moment, serves, asks, server_calls, client_calls, run_of, step_said, call_said, all_said}
-use Rattle.behind.proofs.Places.{IsGone, found_none}
+use Rattle.world_guarantees.specs.Prelude.{Moment, serves, asks, server_calls, client_calls, run_of, step_said, call_said, all_said}
+use Rattle.world_guarantees.proofs.Places.{IsGone, found_none}
 
 -- the rows and summaries among what was said
 abbrev pub answers_among : List Said → List Said

@@ -3,3 +3,14 @@ pub mod Tied
 pub mod OneCaller
 pub mod Staying
 pub mod Sending
+pub mod Pieces
+pub mod Places
+pub mod Replayed
+pub mod Ended
+pub mod Histories
+pub mod Called
+pub mod Asked
+pub mod Played
+pub mod Relied
+pub mod Fated
+pub mod Lives

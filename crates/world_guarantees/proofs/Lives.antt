@@ -8,7 +8,7 @@ use Rattle.world.specs.World.{World, ledger, Reached, begins, goes_on, takes_out
 use Rattle.world.specs.Good.{change, often, Stands, StandsOnce}
 use Rattle.world.proofs.Headline.{headline}
 use Rattle.world.proofs.Limits.{commits_once, grows_by_work}
-use Rattle.lives.specs.Lives.{left, Lived, never, again, StandsIn, ReliesOn}
+use Rattle.world_guarantees.specs.Lives.{left, Lived, never, again, StandsIn, ReliesOn}
 
 taken_brought : (w : World) (c n : ℕ) (o : Option Connection)
     → (taken_out w c n o).brought ≡ w.brought

@@ -12,8 +12,8 @@ use Rattle.client_tracking.specs.declared.Fate.{Fate}
 use Rattle.client_tracking.specs.Fates.{fate_of}
 use Rattle.client_tracking.specs.Telling.{adds_nothing, is_committed, is_refused, all_nothing}
 use Rattle.client_tracking.specs.Attempts.{told_of, Made, tells, tells_in}
-use Rattle.known.specs.OneCaller.{IsMade, IsTry, OneStands, OneClashes, AddsNone, NoneAdded, OneCallerMayRely}
-use Rattle.known.proofs.Tied.{attempt_stands, attempt_clashes, attempt_adds_none}
+use Rattle.world_guarantees.specs.OneCaller.{IsMade, IsTry, OneStands, OneClashes, AddsNone, NoneAdded, OneCallerMayRely}
+use Rattle.world_guarantees.proofs.Tied.{attempt_stands, attempt_clashes, attempt_adds_none}
 
 each_nothing : (told : ℕ → Option Outcome) (n : ℕ) → all_nothing told n ≡ true → (i : ℕ) → i < n → adds_nothing (told i) ≡ true
 each_nothing told zero h i l = absurd (omega arith)

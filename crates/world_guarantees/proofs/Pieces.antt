@@ -7,7 +7,7 @@ use Rattle.server_session.specs.declared.What.{What}
 use Rattle.server_session.specs.Prelude.{Kept, shut, full}
 use Rattle.server.specs.declared.Took.{Took}
 use Rattle.server.specs.Prelude.{Feeding, feeding, takes_none, takes_item, Live, Rest, find, fed_live, with_session, feed_at}
-use Rattle.behind.specs.Prelude.{IsFront}
+use Rattle.world_guarantees.specs.Prelude.{IsFront}
 
 module _ (xs ys : List ℕ) (f : IsFront xs ys) where
   pub front_length : length xs ≤ length ys

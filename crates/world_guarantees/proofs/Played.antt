@@ -9,12 +9,12 @@ use Rattle.server.specs.Prelude.{Rest, empty, work_at, after_events, Event as Ca
 use Rattle.world.specs.Prelude.{Connection, bytes_delivered, World, ClientLost, SawNothing, quiet, ledger, empty as empty_world, at_conn, at_peer, with_effect, after_effect, IsLedger, Reached, begins, goes_on, server_rest, Definition, setting_of}
 use Rattle.world.proofs.Deeds.{get_set}
 use Rattle.world.proofs.Served.{unseen}
-use Rattle.known.specs.Tied.{IsAt}
-use Rattle.behind.specs.Prelude.{counted_if, Moment, serves, asks, server_calls, run_of, attempt_of, ArePlayed, IsRun, AreRuns, all_said}
-use Rattle.behind.proofs.Replayed.{begun}
-use Rattle.behind.proofs.Histories.{answers_among, peer_by, Meets, Side, AtMoments, Stands}
-use Rattle.behind.proofs.Called.{calls}
-use Rattle.behind.proofs.Asked.{asked}
+use Rattle.world_guarantees.specs.Tied.{IsAt}
+use Rattle.world_guarantees.specs.Prelude.{counted_if, Moment, serves, asks, server_calls, run_of, attempt_of, ArePlayed, IsRun, AreRuns, all_said}
+use Rattle.world_guarantees.proofs.Replayed.{begun}
+use Rattle.world_guarantees.proofs.Histories.{answers_among, peer_by, Meets, Side, AtMoments, Stands}
+use Rattle.world_guarantees.proofs.Called.{calls}
+use Rattle.world_guarantees.proofs.Asked.{asked}
 
 calls_before : (before : List Moment) (e : Call) (later : List Moment) → server_calls (before ++ serves e ∷ later) ≡ server_calls before ++ e ∷ server_calls later
 calls_before [] e later = refl

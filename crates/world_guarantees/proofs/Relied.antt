@@ -14,10 +14,10 @@ use Rattle.world.specs.Good.{Often}
 use Rattle.world.specs.Prelude.{server_rest, Connection, Said, SaysRow, SaysSummary, heard_as, said_version, bytes_delivered, heard_by_bytes, wish_of, World, ledger, taken_out, Reached, begins, goes_on, takes_out, IsLedger, Each, ExactlyOnce, Never, AtMostOnce, often, Stands as StandsInWorld, StandsOnce as OnceInWorld, is_success, tx_after, transaction, alone_after, alone, commit_of, before, change, change_for, said_within, delivered_whole, server_outcome, tellings_of, Definition, setting_of}
 use Rattle.world.proofs.Headline.{all_good}
 use Rattle.world.proofs.Limits.{commits_once, grows_by_work}
-use Rattle.known.proofs.Tied.{tells_outcomes}
-use Rattle.behind.specs.Prelude.{client_calls, run_of, Moment, server_calls, attempt_of, ArePlayed, StandsOnce, StandsSo, change_of, Relies, IsTrue, ClientsMayRely}
-use Rattle.behind.proofs.Histories.{answers_among}
-use Rattle.behind.proofs.Played.{Ends, last, at_attempt}
+use Rattle.world_guarantees.proofs.Tied.{tells_outcomes}
+use Rattle.world_guarantees.specs.Prelude.{client_calls, run_of, Moment, server_calls, attempt_of, ArePlayed, StandsOnce, StandsSo, change_of, Relies, IsTrue, ClientsMayRely}
+use Rattle.world_guarantees.proofs.Histories.{answers_among}
+use Rattle.world_guarantees.proofs.Played.{Ends, last, at_attempt}
 
 -- A change, and what a client tells, are told by the rows and summaries alone.
 before_among : (i : ℕ) (xs : List Said) → before i (answers_among xs) ≡ answers_among (before i xs)

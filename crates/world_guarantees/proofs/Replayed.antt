@@ -12,8 +12,8 @@ use Rattle.client.specs.Prelude.{Nothing}
 use Rattle.world.proofs.Deeds.{get_more, get_set}
 use Rattle.world.proofs.Sound.{Sound, reached_sound, Speaks, says, feed_speaks, work_speaks, noop_speaks}
 use Rattle.world.proofs.Served.{unseen, alike, feed_served, work_served, noop_served, take_served, lost_served, open_served}
-use Rattle.behind.specs.Prelude.{event_of, counted_if, AreCounted, AreEvents}
-use Rattle.behind.proofs.Places.{IsGone, idle_call, idle_loss}
+use Rattle.world_guarantees.specs.Prelude.{event_of, counted_if, AreCounted, AreEvents}
+use Rattle.world_guarantees.proofs.Places.{IsGone, idle_call, idle_loss}
 
 -- what is kept of each connection: its foreign peer takes all that is taken out
 pub record IsForeign (k : Connection) : Type 0 where

@@ -10,10 +10,10 @@ use Rattle.client_tracking.proofs.Beyond.{told_beyond}
 use Rattle.driver.specs.declared.Break.{Break}
 use Rattle.driver.specs.Prelude.{AskedView, QueryView, asks_of, requests_of, Streams, Attempts, Ending, unmoved, AreTries}
 use Rattle.world.specs.Prelude.{World, Each}
-use Rattle.known.specs.Attempts.{BeginsUnder}
-use Rattle.known.specs.OneCaller.{IsTry}
-use Rattle.known.specs.Sending.{IsMet, SentUntilKnown}
-use Rattle.known.proofs.OneCaller.{tested, told_by, one_caller_may_rely}
+use Rattle.world_guarantees.specs.Attempts.{BeginsUnder}
+use Rattle.world_guarantees.specs.OneCaller.{IsTry}
+use Rattle.world_guarantees.specs.Sending.{IsMet, SentUntilKnown}
+use Rattle.world_guarantees.proofs.OneCaller.{tested, told_by, one_caller_may_rely}
 
 -- After its BEGIN an attempt sends no other BEGIN.
 no_begin : (t : List ℕ) (mode : Mode) (qs : List QueryView) → BeginsUnder t (asks_of mode (RequestView.Discard count.All) qs ++ RequestView.Commit ∷ [])

@@ -11,7 +11,7 @@ use Rattle.world.proofs.Deeds.{Did, opens, acts, step_did, set_same, set_other}
 use Rattle.world.proofs.Trace.{get_append}
 use Rattle.world.proofs.Sound.{Sound, reached_sound, Does, stays, asks, loses, gives, strange, deed_does}
 use Rattle.client_tracking.specs.Attempts.{Attempt}
-use Rattle.known.specs.Tied.{IsAt, LostStays}
+use Rattle.world_guarantees.specs.Tied.{IsAt, LostStays}
 
 module _ (w : World) (c : ℕ) (k : Connection) (a : Attempt) (at : IsAt w c k a) (lost : a.lost ≡ true) where
   gone : k.client_lost ≡ true

@@ -12,9 +12,9 @@ use Rattle.world.proofs.Headline.{headline}
 use Rattle.client_tracking.specs.Account.{outcome_lost}
 use Rattle.client_tracking.specs.Telling.{adds_nothing}
 use Rattle.client_tracking.specs.Attempts.{Attempt, read, told_lost, outcome_heard, told_of}
-use Rattle.known.specs.Attempts.{BeginsUnder}
-use Rattle.known.specs.Tied.{IsAt, TellsOutcomes, AttemptStands, AttemptClashes, AttemptAddsNone}
-use Rattle.known.proofs.Attempts.{committed_stands, refused_commit_clashes, refused_adds_none}
+use Rattle.world_guarantees.specs.Attempts.{BeginsUnder}
+use Rattle.world_guarantees.specs.Tied.{IsAt, TellsOutcomes, AttemptStands, AttemptClashes, AttemptAddsNone}
+use Rattle.world_guarantees.proofs.Attempts.{committed_stands, refused_commit_clashes, refused_adds_none}
 
 -- what holds of each pair holds of the one that is found
 found_each : (P : ℕ → Outcome → Type 0) (i : ℕ) (o : Outcome) (xs : List (ℕ × Outcome)) → Each (λ x. P x.0 x.1) xs → outcome_lost i xs ≡ Some o → P i o

@@ -12,9 +12,9 @@ use Rattle.driver.specs.Attempting.{AskedView, Calls, made_by, tells_at}
 use Rattle.driver.specs.Retrying.{Ending, AreTries, made_from, IsKnown}
 use Rattle.world.specs.World.{IsLedger}
 use Rattle.world.specs.Turns.{Definition, setting_of}
-use Rattle.known.specs.OneCaller.{Means}
-use Rattle.behind.specs.Moments.{Moment, server_calls, attempt_of, ArePlayed}
-use Rattle.behind.specs.Runs.{IsRun}
+use Rattle.world_guarantees.specs.OneCaller.{Means}
+use Rattle.world_guarantees.specs.Moments.{Moment, server_calls, attempt_of, ArePlayed}
+use Rattle.world_guarantees.specs.Runs.{IsRun}
 
 module _ {G : Type 0} (answer : Definition) (welcomes : G → Welcome) where
   -- If a try made these calls, the client of the connection with this number made their attempt: it accepted the same requests, took the same bytes,

@@ -2,3 +2,10 @@ pub mod Attempts
 pub mod Tied
 pub mod OneCaller
 pub mod Sending
+pub mod Calls
+pub mod Moments
+pub mod Runs
+pub mod Standing
+pub mod Fates
+pub mod Prelude
+pub mod Lives

@@ -12,7 +12,7 @@ use Rattle.client.specs.Moments.{Call as ClientCall, Submits, Run, starts, calls
 use Rattle.client.specs.Fits.{IsWrittenBy}
 use Rattle.client_tracking.specs.Attempts.{Attempt}
 use Rattle.world.specs.Turns.{Definition}
-use Rattle.behind.specs.Calls.{AreCounted}
+use Rattle.world_guarantees.specs.Calls.{AreCounted}
 
 -- A call on the server, or on the client of the connection with this number.
 pub data Moment : Type 0 where

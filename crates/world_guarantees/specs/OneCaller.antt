@@ -12,8 +12,8 @@ use Rattle.client_tracking.specs.declared.Retry.{Retry}
 use Rattle.client_tracking.specs.declared.Fate.{Fate}
 use Rattle.client_tracking.specs.Fates.{fate_of}
 use Rattle.client_tracking.specs.Attempts.{Made, tells, tells_in}
-use Rattle.known.specs.Attempts.{BeginsUnder, OthersStand}
-use Rattle.known.specs.Tied.{IsAt}
+use Rattle.world_guarantees.specs.Attempts.{BeginsUnder, OthersStand}
+use Rattle.world_guarantees.specs.Tied.{IsAt}
 
 -- An attempt under the token is a connection of the world. If it reports Stands or Clash, its `commit` is the index of a COMMIT among its requests.
 pub record IsMade (t : List ℕ) (w : World) (m : Made) : Type 0 where

@@ -8,9 +8,9 @@ use Rattle.server.specs.Running.{after_events}
 use Rattle.world.specs.Connections.{Connection, Foreign}
 use Rattle.world.specs.World.{World, IsLedger}
 use Rattle.world.specs.Turns.{Definition}
-use Rattle.known.specs.Tied.{IsAt}
-use Rattle.behind.specs.Calls.{IsBehind}
-use Rattle.behind.specs.Moments.{Moment, server_calls, attempt_of, ArePlayed}
+use Rattle.world_guarantees.specs.Tied.{IsAt}
+use Rattle.world_guarantees.specs.Calls.{IsBehind}
+use Rattle.world_guarantees.specs.Moments.{Moment, server_calls, attempt_of, ArePlayed}
 
 module _ {G : Type 0} (answer : Definition) (welcomes : G → Welcome) where
   -- A world after the calls. Its server is the one after the calls, each of these clients is the connection with its number, and all other peers are

@@ -11,8 +11,8 @@ use Rattle.driver.specs.Retrying.{Ending, AreTries}
 use Rattle.world.specs.Connections.{Connection}
 use Rattle.world.specs.World.{World, Reached}
 use Rattle.world.specs.Good.{Each}
-use Rattle.known.specs.Tied.{IsAt}
-use Rattle.known.specs.OneCaller.{Means}
+use Rattle.world_guarantees.specs.Tied.{IsAt}
+use Rattle.world_guarantees.specs.OneCaller.{Means}
 
 -- If there is an attempt, it is the connection with its number.
 abbrev pub IsMet : World → Option Made → Type 0

@@ -15,7 +15,7 @@ use Rattle.world.specs.Connections.{Said}
 use Rattle.world.specs.World.{said_by, IsLedger}
 use Rattle.world.specs.Good.{Each, Often, ExactlyOnce, Never, AtMostOnce, often, entries, before, change_for, tellings_of}
 use Rattle.world.specs.Turns.{Definition, setting_of}
-use Rattle.behind.specs.Moments.{Moment, server_calls, run_of, attempt_of, ArePlayed}
+use Rattle.world_guarantees.specs.Moments.{Moment, server_calls, run_of, attempt_of, ArePlayed}
 
 -- A committed change is in the ledger exactly once. Without a token it is the one entry of its request since the server was made. With a token it is
 -- the one entry of the whole ledger that has the token, and another caller may have committed it.

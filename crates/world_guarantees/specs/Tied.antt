@@ -10,7 +10,7 @@ use Rattle.world.specs.World.{World, Event, Seen, WStep, ledger, Reached}
 use Rattle.world.specs.Good.{Each, outcome, change}
 use Rattle.client_tracking.specs.Telling.{adds_nothing}
 use Rattle.client_tracking.specs.Attempts.{Attempt, told_of}
-use Rattle.known.specs.Attempts.{BeginsUnder, OthersStand}
+use Rattle.world_guarantees.specs.Attempts.{BeginsUnder, OthersStand}
 
 -- The connection with this number in the world is the attempt. Its client is one of this library, and it has the attempt's wish. It submitted the
 -- same requests and took the same bytes, and it is lost if the attempt's client is.

@@ -1,10 +1,10 @@
 //! Laws of calls on a server, and on this library's clients at its connections. Each function has an empty body, and its contract is the law.
 ghost use Rattle.std.specs.Prelude.{ℕ, Option};
 ghost use Rattle.wire.specs.declared.Wish.{Wish};
-ghost use Rattle.behind.specs.Calls.{AreEvents};
-ghost use Rattle.behind.specs.Fates.{CallsAreKnown};
-ghost use Rattle.behind.specs.Runs.{AreRuns};
-ghost use Rattle.behind.specs.Standing.{ClientsMayRely};
+ghost use Rattle.world_guarantees.specs.Calls.{AreEvents};
+ghost use Rattle.world_guarantees.specs.Fates.{CallsAreKnown};
+ghost use Rattle.world_guarantees.specs.Runs.{AreRuns};
+ghost use Rattle.world_guarantees.specs.Standing.{ClientsMayRely};
 
 use engine::{Engine, Gate};
 

@@ -2,7 +2,7 @@
 ghost use Rattle.std.specs.Prelude.{◌≡◌, true, false, IfOk, OnOk, OnErr};
 ghost use Rattle.messages.specs.Reading.{is_token};
 ghost use Rattle.driver.specs.Attempting.{asked_view};
-ghost use Rattle.behind.specs.Fates.{IsKnownTo};
+ghost use Rattle.world_guarantees.specs.Fates.{IsKnownTo};
 
 use client_tracking::{Fate, Retry};
 use driver::{Asked, BadToken, Connects, until_known};

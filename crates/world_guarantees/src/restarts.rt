@@ -1,5 +1,5 @@
 //! What holds of worlds one after the other. The function has an empty body, and its contract is the law.
-ghost use Rattle.lives.specs.Lives.{ReliesOn};
+ghost use Rattle.world_guarantees.specs.Lives.{ReliesOn};
 
 /// However often a server is ended, at whatever moments, and another is made over the ledger that it left: what holds of a client over
 /// its own server goes on to hold in the ledger of the last. The entries since each server began stand together in it, in their order.

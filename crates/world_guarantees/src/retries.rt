@@ -1,10 +1,10 @@
 //! Laws of what attempts at a transaction under one token mean for the ledger, after any events on any connections. Other callers may use the token
 //! too. Each function has an empty body, and its contract is the law.
 
-ghost use Rattle.known.specs.Attempts.{CommittedStands, RefusedCommitClashes, RefusedAddsNone, StaysKnown};
-ghost use Rattle.known.specs.OneCaller.{OneCallerMayRely};
-ghost use Rattle.known.specs.Sending.{SentUntilKnown};
-ghost use Rattle.known.specs.Tied.{TellsOutcomes, AttemptStands, AttemptClashes, AttemptAddsNone, LostStays};
+ghost use Rattle.world_guarantees.specs.Attempts.{CommittedStands, RefusedCommitClashes, RefusedAddsNone, StaysKnown};
+ghost use Rattle.world_guarantees.specs.OneCaller.{OneCallerMayRely};
+ghost use Rattle.world_guarantees.specs.Sending.{SentUntilKnown};
+ghost use Rattle.world_guarantees.specs.Tied.{TellsOutcomes, AttemptStands, AttemptClashes, AttemptAddsNone, LostStays};
 
 /// States what Committed for a COMMIT means, on a connection that sends each BEGIN under the token. Exactly one entry of the whole ledger has
 /// the token, with the writes of the transaction. Another caller may have added it.

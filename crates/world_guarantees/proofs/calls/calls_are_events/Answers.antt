@@ -1,5 +1,5 @@
-use Rattle.behind.proofs.Replayed.{are_events}
-use Rattle.behind.proofs.laws.calls_are_events.Goals as goal
+use Rattle.world_guarantees.proofs.Replayed.{are_events}
+use Rattle.world_guarantees.proofs.calls.calls_are_events.Goals as goal
 
 pub returns : goal.returns
 returns g c = are_events g.E.Engine.answer g.G.Gate.welcomes

@@ -1,5 +1,5 @@
-use Rattle.behind.proofs.Played.{are_runs}
-use Rattle.behind.proofs.laws.calls_are_runs.Goals as goal
+use Rattle.world_guarantees.proofs.Played.{are_runs}
+use Rattle.world_guarantees.proofs.calls.calls_are_runs.Goals as goal
 
 pub returns : goal.returns
 returns g c = are_runs g.E.Engine.answer g.G.Gate.welcomes

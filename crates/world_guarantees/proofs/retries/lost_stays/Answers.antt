@@ -1,5 +1,5 @@
-use Rattle.known.proofs.Staying.{lost_stays}
-use Rattle.known.proofs.laws.lost_stays.Goals as goal
+use Rattle.world_guarantees.proofs.Staying.{lost_stays}
+use Rattle.world_guarantees.proofs.retries.lost_stays.Goals as goal
 
 pub returns : goal.returns
 returns c = lost_stays
