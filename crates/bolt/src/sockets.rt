@@ -7,11 +7,11 @@ ghost use Rattle.bolt.specs.Served.{IsAtFirst, HasServedAll, listening_line};
 
 use crate::reasons::{put_connected, put_failed, put_lost, put_unreached, put_unread};
 use cli_output::put_fault;
+use cli_sessions::{
+    BothWays, OneWay, ServerStreams, ShellStreams, drain, run_loop, serve_next, shell,
+};
 use engine::{FixedTable, OneUser};
-use loops::{BothWays, OneWay, run_loop};
-use one_by_one::{ServerStreams, drain, serve_next};
 use server::Server;
-use shells::{ShellStreams, shell};
 use std::alloc::{AllocError, Global};
 use std::io::{Read, Write};
 use std::net::{Shutdown, TcpListener, TcpStream};

@@ -1,1 +1,3 @@
 pub mod Followed
+pub mod Looped
+pub mod Served

@@ -1,14 +1,14 @@
 -- What two ends have come to, and how far they have where a fault breaks them off.
-pub use Rattle.shells.proofs.Followed.Exchanged.Words.{[], after_all, all_done, all_taken, ap, append-nil, append_assoc, append_cancel_left, Appends, Appends-nil, Appends-trans, AppendsFront, arith}
-pub use Rattle.shells.proofs.Followed.Exchanged.Words.{at_client, at_server, awaits, Bool, Broken, bytes_eq, cases_lt, cause_of, Consumes, Consumes-nil, Consumes-trans, drop, empty_nil, entries_text}
-pub use Rattle.shells.proofs.Followed.Exchanged.Words.{Err, false, FeedsPiece, first_place, fold, front_after, front_in, front_whole, Gets, hears_all, inl, inr, is_ok, IsAt, IsErrOf, IsSome, IsStopOf}
-pub use Rattle.shells.proofs.Followed.Exchanged.Words.{Item, items_received, length, length-append, length-take, length-take-le, List, map, MatchResult, Memory, nil_from_length, not-false, Note, note}
-pub use Rattle.shells.proofs.Followed.Exchanged.Words.{note_text, notes_text, Ok, OnErr, OnOk, Opened, Option, outputs, Place, place_after, PutsLine, ReadFailed, refl, refuses, RequestView}
-pub use Rattle.shells.proofs.Followed.Exchanged.Words.{Rest as ClientRest, rest_of, Result, rules, said_requests, script_request_view, ScriptRequestView, Some, state, stop_status, stop_text}
-pub use Rattle.shells.proofs.Followed.Exchanged.Words.{StopReason, StreamFault, Submits, subst, sym, take, take-append-drop, take-append-le, take_all, take_at, Tale, text_of, true, Unreadable}
-pub use Rattle.shells.proofs.Followed.Exchanged.Words.{versions_after, WriteFailed, ℕ, ⊎_elim, ◌++◌, ◌+◌, ◌-◌, ◌<◌, ◌∙◌, ◌∷◌, ◌≡◌, ◌≤◌, ◌⊎◌, not-true, true≢false, hears_all-append}
-pub use Rattle.shells.proofs.Followed.Exchanged.{place_more, texts_more}
-pub use Rattle.shells.specs.declared.caller.Caller.{Caller}
+pub use Rattle.cli_sessions.proofs.Followed.Exchanged.Words.{[], after_all, all_done, all_taken, ap, append-nil, append_assoc, append_cancel_left, Appends, Appends-nil, Appends-trans, AppendsFront, arith}
+pub use Rattle.cli_sessions.proofs.Followed.Exchanged.Words.{at_client, at_server, awaits, Bool, Broken, bytes_eq, cases_lt, cause_of, Consumes, Consumes-nil, Consumes-trans, drop, empty_nil, entries_text}
+pub use Rattle.cli_sessions.proofs.Followed.Exchanged.Words.{Err, false, FeedsPiece, first_place, fold, front_after, front_in, front_whole, Gets, hears_all, inl, inr, is_ok, IsAt, IsErrOf, IsSome, IsStopOf}
+pub use Rattle.cli_sessions.proofs.Followed.Exchanged.Words.{Item, items_received, length, length-append, length-take, length-take-le, List, map, MatchResult, Memory, nil_from_length, not-false, Note, note}
+pub use Rattle.cli_sessions.proofs.Followed.Exchanged.Words.{note_text, notes_text, Ok, OnErr, OnOk, Opened, Option, outputs, Place, place_after, PutsLine, ReadFailed, refl, refuses, RequestView}
+pub use Rattle.cli_sessions.proofs.Followed.Exchanged.Words.{Rest as ClientRest, rest_of, Result, rules, said_requests, script_request_view, ScriptRequestView, Some, state, stop_status, stop_text}
+pub use Rattle.cli_sessions.proofs.Followed.Exchanged.Words.{StopReason, StreamFault, Submits, subst, sym, take, take-append-drop, take-append-le, take_all, take_at, Tale, text_of, true, Unreadable}
+pub use Rattle.cli_sessions.proofs.Followed.Exchanged.Words.{versions_after, WriteFailed, ℕ, ⊎_elim, ◌++◌, ◌+◌, ◌-◌, ◌<◌, ◌∙◌, ◌∷◌, ◌≡◌, ◌≤◌, ◌⊎◌, not-true, true≢false, hears_all-append}
+pub use Rattle.cli_sessions.proofs.Followed.Exchanged.{place_more, texts_more}
+pub use Rattle.cli_sessions.specs.declared.caller.Caller.{Caller}
 pub use Rattle.std.proofs.Math.Seq.{drop-append_seam, drop-length, take-append-add, take-append_seam, take-nil}
 pub use Rattle.std.proofs.lemmas.List.Sums.{fold-append}
 pub use borrow.Rule.Slice.PartMut.{post_of, put_mid}
@@ -23,10 +23,10 @@ pub use Rattle.server_blocking.proofs.Called.{grows_by, lives_same, replace-itse
 pub use Rattle.server_blocking.proofs.Talks.{item_talk-append, talk_by_items, told_over}
 pub use Rattle.server_blocking.specs.Prelude.{Grows, IsLive, TakesPiece, Talk, item_talk, told_by, with_talk}
 pub use Rattle.server_blocking.specs.declared.liveness.Liveness.{Liveness}
-pub use Rattle.one_by_one.proofs.Served.{found_by}
-pub use Rattle.loops.specs.Prelude.{AreQuiet, Breaks, BreaksAt, BreaksAtSource, BreaksIn, Comes, EndsAt, Goes, HasHeard, HearsFront, HearsUpTo, HasLooped, IsHeardAll, IsQuiet, LetsReadWaiting, Meets}
-pub use Rattle.loops.specs.Prelude.{Numbers, Outset, Passes, ReadsUpTo, Sits, StandsAt, TellsLine, Turns, Way, Ways, all_sent, answer_to, asked, due, end, exchanged, next_turn, no_turns, outset}
-pub use Rattle.loops.specs.Prelude.{buffer_of, HandsOver, place_by, stage, talk_for, text_by, turns_of, with_item, with_line, LetBothRead, Pair}
+pub use Rattle.cli_sessions.proofs.Served.{found_by}
+pub use Rattle.cli_sessions.specs.LoopPrelude.{AreQuiet, Breaks, BreaksAt, BreaksAtSource, BreaksIn, Comes, EndsAt, Goes, HasHeard, HearsFront, HearsUpTo, HasLooped, IsHeardAll, IsQuiet, LetsReadWaiting, Meets}
+pub use Rattle.cli_sessions.specs.LoopPrelude.{Numbers, Outset, Passes, ReadsUpTo, Sits, StandsAt, TellsLine, Turns, Way, Ways, all_sent, answer_to, asked, due, end, exchanged, next_turn, no_turns, outset}
+pub use Rattle.cli_sessions.specs.LoopPrelude.{buffer_of, HandsOver, place_by, stage, talk_for, text_by, turns_of, with_item, with_line, LetBothRead, Pair}
 
 pub ruleset parts = (take-append-drop, length-take)
 

@@ -5,7 +5,7 @@ use Rattle.server.specs.declared.kinds.Refused.{Refused}
 use Rattle.server.specs.declared.kinds.Refused.TheVariants.{NoSuchConnection, SessionsFull, Memory}
 use Rattle.server.specs.Prelude.{Live, Rest, find, without, fresh, opened, Opens}
 use Rattle.server_blocking.specs.Prelude.{LeavesOthers}
-use Rattle.one_by_one.specs.Prelude.{HasOpened, HasServed}
+use Rattle.cli_sessions.specs.ServePrelude.{HasOpened, HasServed}
 
 -- nothing was opened
 pub not_opened : {G : Type 0} (a b : Rest G) (e : Refused) → Opens (Err e) a b → b ≡ a

@@ -1,8 +1,8 @@
 -- The line of each request that a client at a shell sends.
 use Rattle.std.specs.Prelude.{◌≡◌, ℕ, suc, true, List, [], ◌++◌, Option}
-use Rattle.shells.specs.Words.{Appends, Version, Newest, offer_of, RequestView, Phase, kind_of, is_goodbye, Outcome, asking_bytes, AppendsFront, outcome_name}
-use Rattle.shells.specs.Words.{phase_name, Gets, heard_line, lost_line}
-use Rattle.shells.specs.Streams.{Streams}
+use Rattle.cli_sessions.specs.Words.{Appends, Version, Newest, offer_of, RequestView, Phase, kind_of, is_goodbye, Outcome, asking_bytes, AppendsFront, outcome_name}
+use Rattle.cli_sessions.specs.Words.{phase_name, Gets, heard_line, lost_line}
+use Rattle.cli_sessions.specs.ShellStreams.{Streams}
 
 -- a text that has this line in it
 abbrev pub Has : List ℕ → List ℕ → Type 0

@@ -9,11 +9,11 @@ use Rattle.streams.specs.Fronts.{AppendsFront}
 use Rattle.cli_scripts.specs.Views.{ScriptRequestView}
 use Rattle.cli_output.specs.declared.stop.StopReason.TheVariants.{Broken}
 use Rattle.cli_output.specs.Telling.{entries_text}
-use Rattle.loops.specs.declared.loops.Pair.{Pair}
-use Rattle.loops.specs.Turns.{AreQuiet, IsQuiet, Turns, all_sent, due, exchanged, stage, talk_for, turns_of}
-use Rattle.loops.specs.Ways.{Ways}
-use Rattle.loops.specs.Passing.{Passes}
-use Rattle.loops.specs.Looping.{Comes, Goes, HasCause, Loops, ReadsUpTo, all_text, end, whole_talk}
+use Rattle.cli_sessions.specs.declared.loops.Pair.{Pair}
+use Rattle.cli_sessions.specs.Turns.{AreQuiet, IsQuiet, Turns, all_sent, due, exchanged, stage, talk_for, turns_of}
+use Rattle.cli_sessions.specs.Ways.{Ways}
+use Rattle.cli_sessions.specs.Passing.{Passes}
+use Rattle.cli_sessions.specs.Looping.{Comes, Goes, HasCause, Loops, ReadsUpTo, all_text, end, whole_talk}
 
 module _ (S : Setting) (conn : ℕ) (ledger : List EntryView) where
   -- A fault came when both had come so far, in the exchange that follows: the client has read all that was answered before, and a beginning of what the

@@ -7,15 +7,15 @@ use Rattle.cli_scripts.specs.Rows.{request_line_of}
 use Rattle.cli_scripts.specs.Views.{ScriptRequestView}
 use Rattle.cli_scripts.specs.declared.fault.ScriptFault.{ScriptFault}
 use Rattle.cli_scripts.specs.Script.{IsRefused}
-use Rattle.shells.specs.declared.caller.Caller.{Caller}
-use Rattle.loops.specs.declared.loops.Pair.{Pair}
+use Rattle.cli_sessions.specs.declared.caller.Caller.{Caller}
+use Rattle.cli_sessions.specs.declared.loops.Pair.{Pair}
 use Rattle.cli_output.specs.declared.stop.StopReason.{StopReason}
 use Rattle.cli_output.specs.declared.stop.StopReason.TheVariants.{Unreadable, Broken}
 use Rattle.cli_output.specs.Stopping.{Gets, IsStopOf, stop_text}
-use Rattle.shells.specs.Talking.{Place, IsAt, text_of, place_after}
-use Rattle.loops.specs.Turns.{Turns, no_turns, AreQuiet, all_sent, given, talk_for, turns_of}
-use Rattle.loops.specs.Ways.{Way, Ways}
-use Rattle.loops.specs.Passing.{FailsToRead, FailsToWrite, Passes}
+use Rattle.cli_sessions.specs.Talking.{Place, IsAt, text_of, place_after}
+use Rattle.cli_sessions.specs.Turns.{Turns, no_turns, AreQuiet, all_sent, given, talk_for, turns_of}
+use Rattle.cli_sessions.specs.Ways.{Way, Ways}
+use Rattle.cli_sessions.specs.Passing.{FailsToRead, FailsToWrite, Passes}
 use Rattle.server.specs.Serving.{Rest, find, opened}
 use Rattle.streams.specs.declared.fault.StreamFault.{StreamFault}
 use Rattle.server_blocking.specs.declared.liveness.Liveness.{Liveness}

@@ -1,7 +1,7 @@
 -- How bytes pass over the ways of a loop.
 use Rattle.std.specs.Prelude.{◌≡◌, ◌⊎◌, ◌≤◌, ℕ, ◌+◌, Bool, true, List, length, Option}
 use Rattle.std.specs.Io.KnownBytes.{Appends, Consumes, IsAtEnd}
-use Rattle.loops.specs.Ways.{Way, Ways}
+use Rattle.cli_sessions.specs.Ways.{Way, Ways}
 
 -- a source gives no more: it has failed, or nothing is left of it
 abbrev pub GivesNoMore : Bool → Option (List ℕ) → Type 0

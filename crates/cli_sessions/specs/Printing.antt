@@ -1,8 +1,8 @@
 -- What is printed of notes, at a shell and at a loop.
 use Rattle.std.specs.Prelude.{◌≡◌, ℕ, Option, Some, None, List, [], ◌∷◌, ◌++◌}
 use Rattle.std.specs.List.{flat_map}
-use Rattle.shells.specs.Words.{Tree, Version, Note, Nothing, Chose, Row, Summary, StreamFault, WriteFailed, Memory, outcome_name, phase_name, failure_line}
-use Rattle.shells.specs.Words.{heard_line, note_text}
+use Rattle.cli_sessions.specs.Words.{Tree, Version, Note, Nothing, Chose, Row, Summary, StreamFault, WriteFailed, Memory, outcome_name, phase_name, failure_line}
+use Rattle.cli_sessions.specs.Words.{heard_line, note_text}
 
 -- the version that rows are printed at: the one that was heard, once one was
 abbrev pub version_after : Version → Note → Version

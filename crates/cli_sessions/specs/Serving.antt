@@ -11,8 +11,8 @@ use Rattle.streams.specs.declared.fault.StreamFault.{StreamFault}
 use Rattle.streams.specs.Moving.{Grows}
 use Rattle.server_blocking.specs.Settling.{IsDueTo}
 use Rattle.server_blocking.specs.Serving.{Serves}
-use Rattle.one_by_one.specs.declared.connections.ServedOne.{ServedOne}
-use Rattle.one_by_one.specs.Streams.{Connection, source_of, sink_of}
+use Rattle.cli_sessions.specs.declared.connections.ServedOne.{ServedOne}
+use Rattle.cli_sessions.specs.ServerStreams.{Connection, source_of, sink_of}
 
 -- no session lives
 abbrev pub IsVacant : {E G : Type 0} → (E → List EntryView) → Server E G → Type 0

@@ -1,15 +1,15 @@
 -- What the parts of a shell do, with or without a fault, and how a shell ends.
 use Rattle.std.specs.Prelude.{◌≡◌, ◌⊎◌, ℕ, Bool, true, false, if◌then◌else◌, List, [], ◌∷◌, ◌++◌, ◌==◌, drop, Option, Some, None, IfSome, IfOk, Result, Ok, Err}
 use Rattle.std.specs.List.{All}
-use Rattle.shells.specs.Words.{result_err, Appends, Consumes, IsAtEnd, Version, RequestView, SubmitFault, Fits, Note, awaits, refuses, taken_out, StreamFault}
-use Rattle.shells.specs.Words.{WriteFailed, StaysSound, AppendsFront, LetsRead, IsTurn, Text, is_empty, lines, filled_from, filled_lines, request_line_of}
-use Rattle.shells.specs.Words.{StopReason, Unreadable, Broken, refusal_code, Gets, IsStopOf, ends_with, said_of, refused_line}
-use Rattle.shells.specs.declared.caller.Caller.{Caller}
-use Rattle.shells.specs.declared.shells.Conversation.{Conversation}
-use Rattle.shells.specs.Printing.{Prints, versions_after}
-use Rattle.shells.specs.Talking.{FailsToPut, Place, IsAt, submitted, sent_out, heard_log, heard_place, HeardUpTo, Exchanges, IsServersTurn, Moves, parted}
-use Rattle.shells.specs.Talking.{Talked}
-use Rattle.shells.specs.Streams.{Streams}
+use Rattle.cli_sessions.specs.Words.{result_err, Appends, Consumes, IsAtEnd, Version, RequestView, SubmitFault, Fits, Note, awaits, refuses, taken_out, StreamFault}
+use Rattle.cli_sessions.specs.Words.{WriteFailed, StaysSound, AppendsFront, LetsRead, IsTurn, Text, is_empty, lines, filled_from, filled_lines, request_line_of}
+use Rattle.cli_sessions.specs.Words.{StopReason, Unreadable, Broken, refusal_code, Gets, IsStopOf, ends_with, said_of, refused_line}
+use Rattle.cli_sessions.specs.declared.caller.Caller.{Caller}
+use Rattle.cli_sessions.specs.declared.shells.Conversation.{Conversation}
+use Rattle.cli_sessions.specs.Printing.{Prints, versions_after}
+use Rattle.cli_sessions.specs.Talking.{FailsToPut, Place, IsAt, submitted, sent_out, heard_log, heard_place, HeardUpTo, Exchanges, IsServersTurn, Moves, parted}
+use Rattle.cli_sessions.specs.Talking.{Talked}
+use Rattle.cli_sessions.specs.ShellStreams.{Streams}
 
 -- What standard output and standard error took, and whether they have failed.
 pub record Sinks : Type 0 where

@@ -1,13 +1,13 @@
 -- What a client at a shell does with numbered lines: what it sends and reads, what is printed and told, and where it stands then.
 use Rattle.std.specs.Prelude.{◌≡◌, ◌⊎◌, ℕ, Bool, true, false, not, ◌&&◌, if◌then◌else◌, List, [], ◌∷◌, ◌++◌, drop, codes, Option, Some, None}
 use Rattle.std.specs.List.{flat_map}
-use Rattle.shells.specs.Words.{Appends, Consumes, IsAtEnd, Version, V51, Newest, Phase, is_defunct, RequestView, Outcome, SubmitFault, Knows, Note, Rest}
-use Rattle.shells.specs.Words.{begun as begun_rest, refuses, after_submit, taken_out, awaits, Fits, StreamFault, ReadFailed, WriteFailed, Memory, StaysSound}
-use Rattle.shells.specs.Words.{AppendsFront, hears_all, after_all, IsNeeded, IsTurn, given_up, losses_then, Text, ScriptRequestView, meant, request_line_of}
-use Rattle.shells.specs.Words.{refusal_code, version_name, Gets, lost_line, refused_line}
-use Rattle.shells.specs.declared.caller.Caller.{Caller}
-use Rattle.shells.specs.Printing.{IsFront, Prints, versions_after, notes_text}
-use Rattle.shells.specs.Streams.{Streams}
+use Rattle.cli_sessions.specs.Words.{Appends, Consumes, IsAtEnd, Version, V51, Newest, Phase, is_defunct, RequestView, Outcome, SubmitFault, Knows, Note, Rest}
+use Rattle.cli_sessions.specs.Words.{begun as begun_rest, refuses, after_submit, taken_out, awaits, Fits, StreamFault, ReadFailed, WriteFailed, Memory, StaysSound}
+use Rattle.cli_sessions.specs.Words.{AppendsFront, hears_all, after_all, IsNeeded, IsTurn, given_up, losses_then, Text, ScriptRequestView, meant, request_line_of}
+use Rattle.cli_sessions.specs.Words.{refusal_code, version_name, Gets, lost_line, refused_line}
+use Rattle.cli_sessions.specs.declared.caller.Caller.{Caller}
+use Rattle.cli_sessions.specs.Printing.{IsFront, Prints, versions_after, notes_text}
+use Rattle.cli_sessions.specs.ShellStreams.{Streams}
 
 -- where a client stands, and the version at which rows are printed and requests are made
 pub record Place : Type 0 where

@@ -13,7 +13,7 @@ use Rattle.cli_scripts.specs.Views.{ScriptRequestView}
 use Rattle.cli_scripts.specs.Meant.{meant}
 use Rattle.cli_output.specs.Names.{refusal_code}
 use Rattle.cli_output.specs.Telling.{refused_line}
-use Rattle.shells.specs.Talking.{Place, first_place, submitted, place_after, text_of}
+use Rattle.cli_sessions.specs.Talking.{Place, first_place, submitted, place_after, text_of}
 
 -- where a client stands once a request is submitted: it is accepted, or refused
 abbrev pub place_by : Option SubmitFault → Place → RequestView → Place

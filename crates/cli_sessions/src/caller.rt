@@ -9,9 +9,9 @@ ghost use Rattle.streams.specs.Failing.{StaysSound, UnlessTold};
 ghost use Rattle.cli_scripts.specs.Meant.{meant};
 ghost use Rattle.cli_scripts.specs.Views.{script_request_view};
 ghost use Rattle.cli_output.specs.Telling.{PutsLine, note_text};
-ghost use Rattle.shells.specs.Printing.{version_after};
-ghost use Rattle.shells.specs.Talking.{IsAt, Place, first_place};
-ghost use Rattle.shells.specs.Shelling.{PutsNotes, Submits, sinks_by};
+ghost use Rattle.cli_sessions.specs.Printing.{version_after};
+ghost use Rattle.cli_sessions.specs.Talking.{IsAt, Place, first_place};
+ghost use Rattle.cli_sessions.specs.Shelling.{PutsNotes, Submits, sinks_by};
 
 use cli_output::{
     heard_line, put, put_failure, put_heard, put_refused, put_row, refusal_code, tell,

@@ -5,7 +5,7 @@ ghost use Rattle.server.specs.Serving.{Rest, opened, setting};
 ghost use Rattle.server.specs.Views.{Fits};
 ghost use Rattle.server_blocking.specs.Settling.{IsLive};
 ghost use Rattle.cli_output.specs.Telling.{conn_line};
-ghost use Rattle.one_by_one.specs.Serving.{Drains, IsVacant, HasOpened, HasServed, MayHaveServed, ServesSo, told_of};
+ghost use Rattle.cli_sessions.specs.Serving.{Drains, IsVacant, HasOpened, HasServed, MayHaveServed, ServesSo, told_of};
 
 use cli_output::put_end;
 use engine::{Engine, Gate};
@@ -24,7 +24,7 @@ pub struct ServerStreams<I: Source, O: Sink> {
 
 impl<I: Source, O: Sink> Model for ServerStreams<I, O> {
     ghost use Rattle.cli_output.specs.Seen.{Seen};
-    ghost use Rattle.one_by_one.specs.Streams.{Connection};
+    ghost use Rattle.cli_sessions.specs.ServerStreams.{Connection};
 
     ghost Value = { Seen (I × O) Connection };
 

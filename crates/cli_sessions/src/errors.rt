@@ -2,8 +2,8 @@
 ghost use Rattle.client.specs.Notes.{note};
 ghost use Rattle.cli_output.specs.Stopping.{Gets};
 ghost use Rattle.cli_output.specs.Telling.{lost_line};
-ghost use Rattle.shells.specs.Printing.{summary_line};
-ghost use Rattle.shells.specs.Talking.{greeting_of, losses_text};
+ghost use Rattle.cli_sessions.specs.Printing.{summary_line};
+ghost use Rattle.cli_sessions.specs.Talking.{greeting_of, losses_text};
 
 use cli_output::{heard_line, outcome_name, tell, version_name};
 use client::{Heard, Outcome};

@@ -2,13 +2,13 @@
 ghost use Rattle.std.specs.Prelude.{◌≡◌, ◌⊎◌, ◌<◌, ◌++◌, ℕ, List, [], drop, None, IsSome, IfErr, OnOk, MatchResult};
 ghost use Rattle.server.specs.Serving.{Rest, find, setting};
 ghost use Rattle.server.specs.Views.{Fits};
-ghost use Rattle.loops.specs.Passing.{FailsToRead, FailsToWrite, LetBothRead, LetsReadWaiting};
-ghost use Rattle.loops.specs.Looping.{Comes, Goes, HasCause, HasLooped, IsOpened, Loops, Meets, Numbers, RunsNothing, TellsLine};
-ghost use Rattle.loops.specs.Breaking.{Breaks, BreaksIn, EndsAt, Exchanges, RunsLines};
-ghost use Rattle.one_by_one.specs.Serving.{IsVacant};
-ghost use Rattle.loops.specs.Turns.{Turns, no_turns, with_line};
+ghost use Rattle.cli_sessions.specs.Passing.{FailsToRead, FailsToWrite, LetBothRead, LetsReadWaiting};
+ghost use Rattle.cli_sessions.specs.Looping.{Comes, Goes, HasCause, HasLooped, IsOpened, Loops, Meets, Numbers, RunsNothing, TellsLine};
+ghost use Rattle.cli_sessions.specs.Breaking.{Breaks, BreaksIn, EndsAt, Exchanges, RunsLines};
+ghost use Rattle.cli_sessions.specs.Serving.{IsVacant};
+ghost use Rattle.cli_sessions.specs.Turns.{Turns, no_turns, with_line};
 ghost use Rattle.server_blocking.specs.Settling.{IsLive};
-ghost use Rattle.loops.specs.Ways.{Ways};
+ghost use Rattle.cli_sessions.specs.Ways.{Ways};
 ghost use Rattle.cli_scripts.specs.Rows.{request_line_of};
 ghost use Rattle.cli_scripts.specs.Script.{filled_lines, lines_read, said_requests, unreadable};
 ghost use Rattle.cli_scripts.specs.Views.{script_request_view};
@@ -16,13 +16,12 @@ ghost use Rattle.cli_output.specs.Stopping.{Ends, stop_status};
 
 use crate::passing::{give, hand_over, next_part, pass};
 use crate::ways::BothWays;
+use crate::{Caller, open_session};
 use cli_output::{StopReason, put_entries, put_stop};
 use cli_scripts::{Numbered, ScriptFault, ScriptRequest, read_requests};
 use engine::{Engine, Gate};
-use one_by_one::open_session;
 use server::Server;
 use server_blocking::Liveness;
-use shells::Caller;
 use std::alloc::Global;
 use streams::{Buffer, PeerSource, Sink, StreamFault};
 

@@ -4,16 +4,16 @@ ghost use Rattle.std.specs.Io.KnownBytes.{Consumes};
 ghost use Rattle.server.specs.Serving.{Rest, find, setting};
 ghost use Rattle.server.specs.Views.{Fits};
 ghost use Rattle.server_blocking.specs.Settling.{IsLive, LivesOn};
-ghost use Rattle.loops.specs.Passing.{BreaksAtSource, GivesNoMore, GivesSome, LetsReadWaiting, Passes};
-ghost use Rattle.loops.specs.Looping.{HandsOver, HasHeard, HearsFront, IsHeardAll, Outset, Sits, StandsAt};
-ghost use Rattle.shells.specs.Talking.{Place};
+ghost use Rattle.cli_sessions.specs.Passing.{BreaksAtSource, GivesNoMore, GivesSome, LetsReadWaiting, Passes};
+ghost use Rattle.cli_sessions.specs.Looping.{HandsOver, HasHeard, HearsFront, IsHeardAll, Outset, Sits, StandsAt};
+ghost use Rattle.cli_sessions.specs.Talking.{Place};
 
+use crate::Caller;
 use crate::ways::OneWay;
 use client_blocking::feed_piece;
 use engine::{Engine, Gate};
 use server::Server;
 use server_blocking::{Liveness, take_piece};
-use shells::Caller;
 use std::alloc::Global;
 use streams::{Buffer, MAX_PIECE, PeerSource, Sink, StreamFault, write_all};
 

@@ -13,7 +13,7 @@ pub struct ShellStreams<S: PeerSource, T: Sink, O: Sink, E: Sink> {
 
 impl<S: PeerSource, T: Sink, O: Sink, E: Sink> Model for ShellStreams<S, T, O, E> {
     ghost use Rattle.cli_output.specs.Seen.{Seen};
-    ghost use Rattle.shells.specs.Streams.{Streams};
+    ghost use Rattle.cli_sessions.specs.ShellStreams.{Streams};
 
     ghost Value = { Seen (S × T × O × E) Streams };
 

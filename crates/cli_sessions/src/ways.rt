@@ -11,7 +11,7 @@ pub struct OneWay<T: Sink, S: PeerSource> {
 
 impl<T: Sink, S: PeerSource> Model for OneWay<T, S> {
     ghost use Rattle.cli_output.specs.Seen.{Seen};
-    ghost use Rattle.loops.specs.Ways.{Way};
+    ghost use Rattle.cli_sessions.specs.Ways.{Way};
 
     ghost Value = { Seen (T × S) Way };
 
@@ -38,7 +38,7 @@ pub struct BothWays<A: PeerSource, B: Sink, C: PeerSource, D: Sink, O: Sink> {
 
 impl<A: PeerSource, B: Sink, C: PeerSource, D: Sink, O: Sink> Model for BothWays<A, B, C, D, O> {
     ghost use Rattle.cli_output.specs.Seen.{Seen};
-    ghost use Rattle.loops.specs.Ways.{Ways};
+    ghost use Rattle.cli_sessions.specs.Ways.{Ways};
 
     ghost Value = { Seen ((B × C) × (D × A) × O) Ways };
 

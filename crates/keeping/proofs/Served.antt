@@ -8,8 +8,8 @@ use Rattle.server.specs.Serving.{Live, Rest}
 use Rattle.server.specs.Views.{rest_of}
 use Rattle.server.specs.declared.server.Server.{Server}
 use Rattle.cli_output.specs.Prelude.{conn_line}
-use Rattle.one_by_one.specs.Prelude.{HasServed}
-use Rattle.one_by_one.specs.Serving.{IsVacant}
+use Rattle.cli_sessions.specs.ServePrelude.{HasServed}
+use Rattle.cli_sessions.specs.Serving.{IsVacant}
 use Rattle.engine_sqlite.specs.Kept.{Kept, ledger_of}
 use Rattle.engine_sqlite.specs.Ledger.{LeavesLedger}
 use Rattle.sqlite.specs.Held.{state}

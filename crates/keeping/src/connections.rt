@@ -4,14 +4,14 @@ ghost use Rattle.std.specs.Io.KnownBytes.{Appends};
 ghost use Rattle.server.specs.Views.{rest_of};
 ghost use Rattle.engine_sqlite.specs.Kept.{ledger_of};
 ghost use Rattle.cli_output.specs.Telling.{conn_line};
-ghost use Rattle.one_by_one.specs.Serving.{HasServed, IsVacant, MayHaveServed};
+ghost use Rattle.cli_sessions.specs.Serving.{HasServed, IsVacant, MayHaveServed};
 ghost use Rattle.keeping.specs.Serving.{EndsFor, GoesOn, Shows, TellsFault, fault_line, reason_of};
 
 use crate::reasons::Reason;
 use cli_output::tell;
+use cli_sessions::{ServedOne, ServerStreams, drain, serve_next};
 use engine::{Engine, Gate};
 use engine_sqlite::Lasting;
-use one_by_one::{ServedOne, ServerStreams, drain, serve_next};
 use server::Server;
 use sqlite::Alter;
 use std::alloc::Global;

@@ -3,7 +3,7 @@ use Rattle.std.specs.Io.KnownBytes.{Appends}
 use Rattle.engine.specs.Prelude.{ledger_of}
 use Rattle.server.specs.Prelude.{Fits}
 use Rattle.cli_output.specs.Prelude.{conn_line}
-use Rattle.one_by_one.specs.Prelude.{HasServed}
+use Rattle.cli_sessions.specs.ServePrelude.{HasServed}
 use Rattle.bolt.proofs.Served.{served_none, served_one}
 use Rattle.bolt.proofs.sockets.serve_count.Goals as goal
 

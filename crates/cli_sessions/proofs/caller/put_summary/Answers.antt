@@ -1,5 +1,5 @@
-use Rattle.shells.proofs.Followed.{refl, [], WriteFailed, Memory, unless_err, behind_line, cut, in_line, note_line}
-use Rattle.shells.proofs.caller.put_summary.Goals as goal
+use Rattle.cli_sessions.proofs.Followed.{refl, [], WriteFailed, Memory, unless_err, behind_line, cut, in_line, note_line}
+use Rattle.cli_sessions.proofs.caller.put_summary.Goals as goal
 
 pub returns-in-Ok-clause-puts : goal.returns-in-Ok-clause-puts
 returns-in-Ok-clause-puts g c = λ v.

@@ -1,7 +1,7 @@
 use Rattle.std.proofs.Common.{◌++◌, ◌≤◌, length, length-append, take, rules, arith}
 use Rattle.std.proofs.KnownBytes.{Consumes-trans}
 use Rattle.streams.proofs.Moving.{Grows-trans}
-use Rattle.one_by_one.proofs.connections.drain.Goals as goal
+use Rattle.cli_sessions.proofs.connections.drain.Goals as goal
 
 pub loop-preserved : goal.loop-preserved
 loop-preserved g c =

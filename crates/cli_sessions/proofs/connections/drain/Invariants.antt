@@ -1,7 +1,7 @@
 use Rattle.std.proofs.Common.{◌≡◌, ℕ, List, length, ◌≤◌, ◌*◌, ◌+◌}
 use Rattle.std.specs.Io.KnownBytes.{Consumes}
 use Rattle.streams.specs.Prelude.{Grows}
-use Rattle.one_by_one.proofs.connections.drain.Given as goal
+use Rattle.cli_sessions.proofs.connections.drain.Given as goal
 
 -- each read drops 1,024 bytes at most, and leaves one read less
 abbrev pub invariant-loop : goal.invariant-loop

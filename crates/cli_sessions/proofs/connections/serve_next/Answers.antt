@@ -1,6 +1,6 @@
 use Rattle.std.proofs.Common.{refl, inr}
-use Rattle.one_by_one.proofs.Served.{opened_lives}
-use Rattle.one_by_one.proofs.connections.serve_next.Goals as goal
+use Rattle.cli_sessions.proofs.Served.{opened_lives}
+use Rattle.cli_sessions.proofs.connections.serve_next.Goals as goal
 
 pub returns-in-Err-clause-vacant : goal.returns-in-Err-clause-vacant
 returns-in-Err-clause-vacant g c = let v = c.requires in (v.0, c.in-Err.ensures.opens v.0 v.1, v.2)

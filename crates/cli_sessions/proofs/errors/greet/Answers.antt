@@ -1,5 +1,5 @@
-use Rattle.shells.proofs.Followed.{◌∙◌, gets_then}
-use Rattle.shells.proofs.errors.greet.Goals as goal
+use Rattle.cli_sessions.proofs.Followed.{◌∙◌, gets_then}
+use Rattle.cli_sessions.proofs.errors.greet.Goals as goal
 
 pub returns : goal.returns
 returns g c =

@@ -1,5 +1,5 @@
-use Rattle.shells.proofs.Followed.{take, Gets, losses_text}
-use Rattle.shells.proofs.errors.put_losses.Given as goal
+use Rattle.cli_sessions.proofs.Followed.{take, Gets, losses_text}
+use Rattle.cli_sessions.proofs.errors.put_losses.Given as goal
 
 -- those before it are told
 abbrev pub invariant-loop-ordinal : goal.invariant-loop-ordinal

@@ -1,6 +1,6 @@
-use Rattle.loops.proofs.Looped.{ClientRest, StandsAt, [], all_done, all_sent, all_taken, answer_to, ap, append-nil, append_assoc, arith, awaits, breaks_before, breaks_here, drop-length, empty_nil}
-use Rattle.loops.proofs.Looped.{front_whole, refl, rest_of, setting, sym, ◌++◌, ◌∙◌, ◌≡◌}
-use Rattle.loops.proofs.loops.exchange.Goals as goal
+use Rattle.cli_sessions.proofs.Looped.{ClientRest, StandsAt, [], all_done, all_sent, all_taken, answer_to, ap, append-nil, append_assoc, arith, awaits, breaks_before, breaks_here, drop-length, empty_nil}
+use Rattle.cli_sessions.proofs.Looped.{front_whole, refl, rest_of, setting, sym, ◌++◌, ◌∙◌, ◌≡◌}
+use Rattle.cli_sessions.proofs.loops.exchange.Goals as goal
 
 pub returns-in_default-clause-goes : goal.returns-in_default-clause-goes
 returns-in_default-clause-goes g c = λ r start t i h.

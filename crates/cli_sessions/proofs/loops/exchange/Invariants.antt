@@ -1,5 +1,5 @@
-use Rattle.loops.proofs.Looped.{Comes, Fits, IsLive, IsSome, LetBothRead, List, Meets, Rest, Turns, Ways, find, length, setting, ℕ, ◌++◌, ◌≡◌}
-use Rattle.loops.proofs.loops.exchange.Given as goal
+use Rattle.cli_sessions.proofs.Looped.{Comes, Fits, IsLive, IsSome, LetBothRead, List, Meets, Rest, Turns, Ways, find, length, setting, ℕ, ◌++◌, ◌≡◌}
+use Rattle.cli_sessions.proofs.loops.exchange.Given as goal
 
 -- some of what the client has to send was sent, and its answers were heard
 abbrev pub invariant-loop-rest : goal.invariant-loop-rest

@@ -1,6 +1,6 @@
-use Rattle.loops.proofs.Looped.{Appends-nil, Fits, IsSome, List, Live, Passes, Talk, [], ap, first_place, found_by, lives_same, opened, passes_none, refl, replace-itself, rules, setting, subst, sym}
-use Rattle.loops.proofs.Looped.{talk_by_items, ◌≡◌}
-use Rattle.loops.proofs.loops.open_pair.Goals as goal
+use Rattle.cli_sessions.proofs.Looped.{Appends-nil, Fits, IsSome, List, Live, Passes, Talk, [], ap, first_place, found_by, lives_same, opened, passes_none, refl, replace-itself, rules, setting, subst, sym}
+use Rattle.cli_sessions.proofs.Looped.{talk_by_items, ◌≡◌}
+use Rattle.cli_sessions.proofs.loops.open_pair.Goals as goal
 
 pub returns-clause-opens : goal.returns-clause-opens
 returns-clause-opens g c = λ r f none.

@@ -1,5 +1,5 @@
-use Rattle.loops.proofs.Looped.{breaks_none, inl}
-use Rattle.loops.proofs.loops.run.Goals as goal
+use Rattle.cli_sessions.proofs.Looped.{breaks_none, inl}
+use Rattle.cli_sessions.proofs.loops.run.Goals as goal
 
 pub returns-in-Err-Memory-clause-loops : goal.returns-in-Err-Memory-clause-loops
 returns-in-Err-Memory-clause-loops g c = λ r f none. (inl f, (tt, λ n. breaks_none _ _ _))

@@ -1,5 +1,5 @@
-use Rattle.loops.proofs.Looped.{Appends-trans, Err, Ok, ScriptRequestView, asked, breaks_before, broken_off, front_after, inr, line_by, script_request_view, setting, with_item, with_line, ℕ}
-use Rattle.loops.proofs.loops.run_line.Goals as goal
+use Rattle.cli_sessions.proofs.Looped.{Appends-trans, Err, Ok, ScriptRequestView, asked, breaks_before, broken_off, front_after, inr, line_by, script_request_view, setting, with_item, with_line, ℕ}
+use Rattle.cli_sessions.proofs.loops.run_line.Goals as goal
 
 pub returns-clause-goes : goal.returns-clause-goes
 returns-clause-goes g c = λ r start t i h0.

@@ -1,5 +1,5 @@
-use Rattle.loops.proofs.Looped.{BreaksIn, Comes, Fits, Turns, [], all_done, ap, lines_break, lines_more, nil_from_length, no_turns, rules, said_requests, setting, take-nil, turns_of}
-use Rattle.loops.proofs.loops.run_lines.Goals as goal
+use Rattle.cli_sessions.proofs.Looped.{BreaksIn, Comes, Fits, Turns, [], all_done, ap, lines_break, lines_more, nil_from_length, no_turns, rules, said_requests, setting, take-nil, turns_of}
+use Rattle.cli_sessions.proofs.loops.run_lines.Goals as goal
 
 pub returns-in-Err : goal.returns-in-Err
 returns-in-Err g c = λ r start i h. let k = c.in-Err.ensures.goes r start no_turns i h in (k.0, k.1, (0, k.2))

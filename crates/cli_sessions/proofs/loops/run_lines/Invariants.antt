@@ -1,5 +1,5 @@
-use Rattle.loops.proofs.Looped.{AreQuiet, Comes, Fits, IsLive, IsSome, LetBothRead, List, Rest, ScriptRequestView, Ways, find, no_turns, said_requests, setting, turns_of, ℕ, ◌++◌, ◌≡◌}
-use Rattle.loops.proofs.loops.run_lines.Given as goal
+use Rattle.cli_sessions.proofs.Looped.{AreQuiet, Comes, Fits, IsLive, IsSome, LetBothRead, List, Rest, ScriptRequestView, Ways, find, no_turns, said_requests, setting, turns_of, ℕ, ◌++◌, ◌≡◌}
+use Rattle.cli_sessions.proofs.loops.run_lines.Given as goal
 
 -- some lines were run, no answer is still to come, and the others follow
 abbrev pub invariant-loop-line : goal.invariant-loop-line

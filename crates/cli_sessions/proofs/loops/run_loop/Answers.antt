@@ -1,5 +1,5 @@
-use Rattle.loops.proofs.Looped.{Bool, Broken, Gets, List, Numbers, Option, Some, StopReason, TellsLine, Unreadable, arith, stop_status, stop_text, sym, ℕ, ⊎_elim, ◌∙◌, ◌≡◌}
-use Rattle.loops.proofs.loops.run_loop.Goals as goal
+use Rattle.cli_sessions.proofs.Looped.{Bool, Broken, Gets, List, Numbers, Option, Some, StopReason, TellsLine, Unreadable, arith, stop_status, stop_text, sym, ℕ, ⊎_elim, ◌∙◌, ◌≡◌}
+use Rattle.cli_sessions.proofs.loops.run_loop.Goals as goal
 
 -- a status of 0 is that of no stop, and 2 that of a line that can't be read, whose number is told
 stopped : (script : List ℕ) (stop : StopReason) (had has : Bool) (before after : Option (List ℕ)) → Gets had has before after (stop_text stop)

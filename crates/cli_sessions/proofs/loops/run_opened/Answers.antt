@@ -1,5 +1,5 @@
-use Rattle.loops.proofs.Looped.{AreQuiet, Comes, Fits, Rest, ap, breaks_lines, breaks_none, ends_at, entries_view, inl, inr, opened, said_requests, setting, subst, turns_of, ℕ, ◌∙◌}
-use Rattle.loops.proofs.loops.run_opened.Goals as goal
+use Rattle.cli_sessions.proofs.Looped.{AreQuiet, Comes, Fits, Rest, ap, breaks_lines, breaks_none, ends_at, entries_view, inl, inr, opened, said_requests, setting, subst, turns_of, ℕ, ◌∙◌}
+use Rattle.cli_sessions.proofs.loops.run_opened.Goals as goal
 
 pub returns-in-Err : goal.returns-in-Err
 returns-in-Err g c = λ r f none. rw c.in-Err.ensures.fault (inl (c.in-Err.ensures.opens r f none), (tt, breaks_none _ _ _))

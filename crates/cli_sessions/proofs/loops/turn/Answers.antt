@@ -1,5 +1,5 @@
-use Rattle.loops.proofs.Looped.{Fits, answer_to, breaks_here, broken_off, grows_by, hears_so, inl, arith, outset, setting, sits_talk, source_after, turn_goes, ◌++◌, ◌≡◌}
-use Rattle.loops.proofs.loops.turn.Goals as goal
+use Rattle.cli_sessions.proofs.Looped.{Fits, answer_to, breaks_here, broken_off, grows_by, hears_so, inl, arith, outset, setting, sits_talk, source_after, turn_goes, ◌++◌, ◌≡◌}
+use Rattle.cli_sessions.proofs.loops.turn.Goals as goal
 
 pub returns-in-Err-clause-goes : goal.returns-in-Err-clause-goes
 returns-in-Err-clause-goes g c = λ r start t sent after i parts m0.

@@ -1,5 +1,5 @@
-use Rattle.loops.proofs.Looped.{Fits, buffer_of, [], append_assoc, refl, setting, sits_takes, ◌++◌}
-use Rattle.loops.proofs.passing.give.Goals as goal
+use Rattle.cli_sessions.proofs.Looped.{Fits, buffer_of, [], append_assoc, refl, setting, sits_takes, ◌++◌}
+use Rattle.cli_sessions.proofs.passing.give.Goals as goal
 
 pub returns-in-Over-clause-sits : goal.returns-in-Over-clause-sits
 returns-in-Over-clause-sits g c = λ r sent i h.

@@ -1,6 +1,6 @@
-use Rattle.loops.proofs.Looped.{Appends-trans, [], all_done, ap, append-nil, append_assoc, arith, empty_nil, length, length-append, max_piece, passes_none, passes_then, place_after, place_more}
-use Rattle.loops.proofs.Looped.{reads_front, reads_none, refl, source_after, text_more, text_of, ◌++◌, ◌∙◌, ◌≡◌, ◌≤◌}
-use Rattle.loops.proofs.passing.hand_over.Goals as goal
+use Rattle.cli_sessions.proofs.Looped.{Appends-trans, [], all_done, ap, append-nil, append_assoc, arith, empty_nil, length, length-append, max_piece, passes_none, passes_then, place_after, place_more}
+use Rattle.cli_sessions.proofs.Looped.{reads_front, reads_none, refl, source_after, text_more, text_of, ◌++◌, ◌∙◌, ◌≡◌, ◌≤◌}
+use Rattle.cli_sessions.proofs.passing.hand_over.Goals as goal
 
 pub loop-rest-init : goal.loop-rest-init
 loop-rest-init g c = record { done = []; parts = refl; passes = passes_none; lets = c.requires; heard = λ o x h. rw append-nil h }

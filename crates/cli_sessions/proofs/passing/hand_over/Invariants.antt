@@ -1,5 +1,5 @@
-use Rattle.loops.proofs.Looped.{HasHeard, LetsReadWaiting, List, Outset, Passes, length, ℕ, ◌++◌, ◌≡◌}
-use Rattle.loops.proofs.passing.hand_over.Given as goal
+use Rattle.cli_sessions.proofs.Looped.{HasHeard, LetsReadWaiting, List, Outset, Passes, length, ℕ, ◌++◌, ◌≡◌}
+use Rattle.cli_sessions.proofs.passing.hand_over.Given as goal
 
 -- some of it passed, was heard and is printed
 abbrev pub invariant-loop-rest : goal.invariant-loop-rest

@@ -1,5 +1,5 @@
-use Rattle.loops.proofs.Looped.{Appends-nil, Appends-trans, ap, front_after, front_in, heard_as_fed, heard_front, line_front, nil_from_length, refl, rest_of, rules, sym, with_item, ◌∙◌}
-use Rattle.loops.proofs.passing.hear.Goals as goal
+use Rattle.cli_sessions.proofs.Looped.{Appends-nil, Appends-trans, ap, front_after, front_in, heard_as_fed, heard_front, line_front, nil_from_length, refl, rest_of, rules, sym, with_item, ◌∙◌}
+use Rattle.cli_sessions.proofs.passing.hear.Goals as goal
 
 pub loop-one-init : goal.loop-one-init
 loop-one-init g c = record { client = refl; prints = λ z h. h; begins = λ z h. h; version = refl }

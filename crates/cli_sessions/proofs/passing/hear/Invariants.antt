@@ -1,5 +1,5 @@
-use Rattle.loops.proofs.Looped.{Appends, AppendsFront, List, Option, map, note, notes_text, versions_after, ℕ, ◌≡◌}
-use Rattle.loops.proofs.passing.hear.Given as goal
+use Rattle.cli_sessions.proofs.Looped.{Appends, AppendsFront, List, Option, map, note, notes_text, versions_after, ℕ, ◌≡◌}
+use Rattle.cli_sessions.proofs.passing.hear.Given as goal
 
 -- what the rest of what was told adds to what is printed, at the version that is known by then, all of it adds to what was printed before
 abbrev pub invariant-loop-one : goal.invariant-loop-one

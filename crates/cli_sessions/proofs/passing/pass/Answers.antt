@@ -1,5 +1,5 @@
-use Rattle.loops.proofs.Looped.{Appends-trans, Consumes-trans, ap, arith, bytes_are, bytes_eq, bytes_is, inr, length, length-append, not-false, not-true, rules, sym, take_at, true≢false, ◌++◌, ◌+◌, ◌∙◌, ◌≡◌, ◌≤◌}
-use Rattle.loops.proofs.passing.pass.Goals as goal
+use Rattle.cli_sessions.proofs.Looped.{Appends-trans, Consumes-trans, ap, arith, bytes_are, bytes_eq, bytes_is, inr, length, length-append, not-false, not-true, rules, sym, take_at, true≢false, ◌++◌, ◌+◌, ◌∙◌, ◌≡◌, ◌≤◌}
+use Rattle.cli_sessions.proofs.passing.pass.Goals as goal
 
 pub returns-clause-passes : goal.returns-clause-passes
 returns-clause-passes g c =

@@ -1,5 +1,5 @@
-use Rattle.loops.proofs.Looped.{Consumes, Consumes-trans, List, length, length-take-le, post_of, put_mid, rules, subst, sym, take, take-append-add, take-append-le, ℕ, ◌++◌, ◌+◌, ◌-◌, ◌≡◌, ◌≤◌}
-use Rattle.loops.proofs.passing.read_known.Goals as goal
+use Rattle.cli_sessions.proofs.Looped.{Consumes, Consumes-trans, List, length, length-take-le, post_of, put_mid, rules, subst, sym, take, take-append-add, take-append-le, ℕ, ◌++◌, ◌+◌, ◌-◌, ◌≡◌, ◌≤◌}
+use Rattle.cli_sessions.proofs.passing.read_known.Goals as goal
 
 -- bytes that were read into the rest of a buffer
 taken_more : (a k n : ℕ) (xs ys : List ℕ) → a ≤ length xs → n ≤ length ys → take (a + n) (put_mid a k xs ys) ≡ take a xs ++ take n ys

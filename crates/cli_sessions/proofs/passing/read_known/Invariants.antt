@@ -1,5 +1,5 @@
-use Rattle.loops.proofs.Looped.{Consumes, length, take, ◌-◌, ◌≡◌, ◌≤◌}
-use Rattle.loops.proofs.passing.read_known.Given as goal
+use Rattle.cli_sessions.proofs.Looped.{Consumes, length, take, ◌-◌, ◌≡◌, ◌≤◌}
+use Rattle.cli_sessions.proofs.passing.read_known.Given as goal
 
 -- so many were read
 abbrev pub invariant-loop-at : goal.invariant-loop-at

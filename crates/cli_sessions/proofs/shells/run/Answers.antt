@@ -1,6 +1,6 @@
-use Rattle.shells.proofs.Followed.{◌∙◌, [], ap, refl, append-nil, rules, false≢true, Consumes-kept, Consumes-nil, Consumes-trans, Memory, ReadFailed, Broken, Rest, result_err}
-use Rattle.shells.proofs.Followed.{asks_version, fails_first, first_place, greeting, opens, parted, at_end, does_all, not-suc-le-zero, does_last, does_none, heard_none, moves_none, moves_unsent, moves_told}
-use Rattle.shells.proofs.shells.run.Goals as goal
+use Rattle.cli_sessions.proofs.Followed.{◌∙◌, [], ap, refl, append-nil, rules, false≢true, Consumes-kept, Consumes-nil, Consumes-trans, Memory, ReadFailed, Broken, Rest, result_err}
+use Rattle.cli_sessions.proofs.Followed.{asks_version, fails_first, first_place, greeting, opens, parted, at_end, does_all, not-suc-le-zero, does_last, does_none, heard_none, moves_none, moves_unsent, moves_told}
+use Rattle.cli_sessions.proofs.shells.run.Goals as goal
 
 pub ask-requires : goal.ask-requires
 ask-requires g c =

@@ -1,5 +1,5 @@
-use Rattle.shells.proofs.Followed.{List, ℕ, Consumes, Progress}
-use Rattle.shells.proofs.shells.run.Given as goal
+use Rattle.cli_sessions.proofs.Followed.{List, ℕ, Consumes, Progress}
+use Rattle.cli_sessions.proofs.shells.run.Given as goal
 
 -- what was read of the input is done
 abbrev pub invariant-loop-len : goal.invariant-loop-len

@@ -1,5 +1,5 @@
-use Rattle.shells.proofs.Followed.{◌≡◌, [], ap, refl, ◌∙◌, Broken, ReadFailed, None, Some, Err, stop_text, fault_in, gets_none, accounts, so_far, stop_of, told_so}
-use Rattle.shells.proofs.shells.shell.Goals as goal
+use Rattle.cli_sessions.proofs.Followed.{◌≡◌, [], ap, refl, ◌∙◌, Broken, ReadFailed, None, Some, Err, stop_text, fault_in, gets_none, accounts, so_far, stop_of, told_so}
+use Rattle.cli_sessions.proofs.shells.shell.Goals as goal
 
 pub returns-in-Ok : goal.returns-in-Ok
 returns-in-Ok g c =

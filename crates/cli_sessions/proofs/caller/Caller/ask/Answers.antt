@@ -1,5 +1,5 @@
-use Rattle.shells.proofs.Followed.{◌∙◌, heard_place, moves_told, parting}
-use Rattle.shells.proofs.caller.Caller.ask.Goals as goal
+use Rattle.cli_sessions.proofs.Followed.{◌∙◌, heard_place, moves_told, parting}
+use Rattle.cli_sessions.proofs.caller.Caller.ask.Goals as goal
 
 pub returns-clause-asks : goal.returns-clause-asks
 returns-clause-asks g c = λ p at.

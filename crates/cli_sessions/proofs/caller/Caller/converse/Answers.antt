@@ -1,5 +1,5 @@
-use Rattle.shells.proofs.Followed.{[], ◌∙◌, ap, append-nil, Appends-trans, all_heard, awaits, inl, inr, None, refl, Rest, Some, sym, written}
-use Rattle.shells.proofs.caller.Caller.converse.Goals as goal
+use Rattle.cli_sessions.proofs.Followed.{[], ◌∙◌, ap, append-nil, Appends-trans, all_heard, awaits, inl, inr, None, refl, Rest, Some, sym, written}
+use Rattle.cli_sessions.proofs.caller.Caller.converse.Goals as goal
 
 pub loop-self-init : goal.loop-self-init
 loop-self-init g c = λ p at. rw (← c.streams.view_is) (written _ _ None _ _ (c.in-Ok.ensures.out p.rest at.fits) at.version (λ _. c.in-Ok.ensures.sound))

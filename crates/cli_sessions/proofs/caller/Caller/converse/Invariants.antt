@@ -1,5 +1,5 @@
-use Rattle.shells.proofs.Followed.{Hears, IsAt, None, Place}
-use Rattle.shells.proofs.caller.Caller.converse.Given as goal
+use Rattle.cli_sessions.proofs.Followed.{Hears, IsAt, None, Place}
+use Rattle.cli_sessions.proofs.caller.Caller.converse.Given as goal
 
 -- what was heard so far is printed
 abbrev pub invariant-loop-self : goal.invariant-loop-self

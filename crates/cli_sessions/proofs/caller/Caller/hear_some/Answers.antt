@@ -1,5 +1,5 @@
-use Rattle.shells.proofs.Followed.{refl, Appends-nil, more_heard}
-use Rattle.shells.proofs.caller.Caller.hear_some.Goals as goal
+use Rattle.cli_sessions.proofs.Followed.{refl, Appends-nil, more_heard}
+use Rattle.cli_sessions.proofs.caller.Caller.hear_some.Goals as goal
 
 pub hear_piece-done-requires : goal.hear_piece-done-requires
 hear_piece-done-requires g c = λ n few. c.requires.turn c.streams.inside.source (g.T.Sink.taken c.streams.inside.sink) n few

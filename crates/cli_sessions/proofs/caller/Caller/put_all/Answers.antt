@@ -1,5 +1,5 @@
-use Rattle.shells.proofs.Followed.{all_done, ◌∙◌, ◌++◌, ◌∷◌, [], append_assoc, rules, refl, sym, ap, map, map-append, nil_from_length, note, notes_none, versions_more}
-use Rattle.shells.proofs.caller.Caller.put_all.Goals as goal
+use Rattle.cli_sessions.proofs.Followed.{all_done, ◌∙◌, ◌++◌, ◌∷◌, [], append_assoc, rules, refl, sym, ap, map, map-append, nil_from_length, note, notes_none, versions_more}
+use Rattle.cli_sessions.proofs.caller.Caller.put_all.Goals as goal
 
 pub loop-one-init : goal.loop-one-init
 loop-one-init g c =

@@ -1,5 +1,5 @@
-use Rattle.shells.proofs.Followed.{IsErrOf, ◌≡◌, ◌++◌, true, map, result_err, note, ReadFailed, WriteFailed, versions_after, PutsNotes, sinks_by}
-use Rattle.shells.proofs.caller.Caller.put_all.Given as goal
+use Rattle.cli_sessions.proofs.Followed.{IsErrOf, ◌≡◌, ◌++◌, true, map, result_err, note, ReadFailed, WriteFailed, versions_after, PutsNotes, sinks_by}
+use Rattle.cli_sessions.proofs.caller.Caller.put_all.Given as goal
 
 -- those that were yielded are printed, or told from a fault on
 abbrev pub invariant-loop-one : goal.invariant-loop-one

@@ -1,6 +1,6 @@
 use Rattle.structures_cells.specs.Prelude.{shapes}
-use Rattle.shells.proofs.Followed.{refl, sym, ap, [], append-nil, ◌∙◌, Appends-nil, ⊎_elim, WriteFailed, unless_err, row_text, in_line, unmade, note_line, whole}
-use Rattle.shells.proofs.caller.Caller.put_explained.Goals as goal
+use Rattle.cli_sessions.proofs.Followed.{refl, sym, ap, [], append-nil, ◌∙◌, Appends-nil, ⊎_elim, WriteFailed, unless_err, row_text, in_line, unmade, note_line, whole}
+use Rattle.cli_sessions.proofs.caller.Caller.put_explained.Goals as goal
 
 pub returns-in-Nothing-clause-puts : goal.returns-in-Nothing-clause-puts
 returns-in-Nothing-clause-puts g c = λ v e.

@@ -1,5 +1,5 @@
-use Rattle.shells.proofs.Followed.{ap, ◌∙◌, note, version_after, gets_then, notes_then, prints_told}
-use Rattle.shells.proofs.caller.Caller.put_next.Goals as goal
+use Rattle.cli_sessions.proofs.Followed.{ap, ◌∙◌, note, version_after, gets_then, notes_then, prints_told}
+use Rattle.cli_sessions.proofs.caller.Caller.put_next.Goals as goal
 
 pub returns-in-Ok-clause-puts : goal.returns-in-Ok-clause-puts
 returns-in-Ok-clause-puts g c = λ v notes was version h.

@@ -1,6 +1,6 @@
-use Rattle.shells.proofs.Followed.{◌≡◌, ◌++◌, [], false, refl, ap, rules, Err, None, Ok, request_line_of, Memory, Unreadable, Broken, asks_answer, does_none}
-use Rattle.shells.proofs.Followed.{filled_one, submit_over, submit_taken}
-use Rattle.shells.proofs.shells.Conversation.send.Goals as goal
+use Rattle.cli_sessions.proofs.Followed.{◌≡◌, ◌++◌, [], false, refl, ap, rules, Err, None, Ok, request_line_of, Memory, Unreadable, Broken, asks_answer, does_none}
+use Rattle.cli_sessions.proofs.Followed.{filled_one, submit_over, submit_taken}
+use Rattle.cli_sessions.proofs.shells.Conversation.send.Goals as goal
 
 pub returns-in-Err-Unreadable-clause-sends : goal.returns-in-Err-Unreadable-clause-sends
 returns-in-Err-Unreadable-clause-sends g c = λ start done s.

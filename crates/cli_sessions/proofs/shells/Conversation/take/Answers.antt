@@ -1,5 +1,5 @@
-use Rattle.shells.proofs.Followed.{◌≡◌, ◌++◌, ◌+◌, ◌∷◌, append_assoc, arith, common_steps, drop, get_or, take}
-use Rattle.shells.proofs.shells.Conversation.take.Goals as goal
+use Rattle.cli_sessions.proofs.Followed.{◌≡◌, ◌++◌, ◌+◌, ◌∷◌, append_assoc, arith, common_steps, drop, get_or, take}
+use Rattle.cli_sessions.proofs.shells.Conversation.take.Goals as goal
 
 pub returns-in-Err-clause-takes : goal.returns-in-Err-clause-takes
 returns-in-Err-clause-takes g c = λ start script p.

@@ -1,5 +1,5 @@
-use Rattle.shells.proofs.Followed.{List, ℕ, ◌++◌, take, Progress, Streams}
-use Rattle.shells.proofs.shells.Conversation.take.Given as goal
+use Rattle.cli_sessions.proofs.Followed.{List, ℕ, ◌++◌, take, Progress, Streams}
+use Rattle.cli_sessions.proofs.shells.Conversation.take.Given as goal
 
 -- the bytes before it are done
 abbrev pub invariant-loop-byte : goal.invariant-loop-byte

@@ -1,5 +1,5 @@
-use Rattle.shells.proofs.Followed.{All-push, ◌==◌, ◌≡◌, ◌+◌, ◌++◌, ◌∷◌, append_assoc, false, ne_eqb, not-suc-le-zero, rules, Memory, Broken, at_newline, does_none, stops}
-use Rattle.shells.proofs.shells.Conversation.take_byte.Goals as goal
+use Rattle.cli_sessions.proofs.Followed.{All-push, ◌==◌, ◌≡◌, ◌+◌, ◌++◌, ◌∷◌, append_assoc, false, ne_eqb, not-suc-le-zero, rules, Memory, Broken, at_newline, does_none, stops}
+use Rattle.cli_sessions.proofs.shells.Conversation.take_byte.Goals as goal
 
 pub returns-in-Ok-clause-takes : goal.returns-in-Ok-clause-takes
 returns-in-Ok-clause-takes g c = λ start script p.
