@@ -1,12 +1,13 @@
 //! The parts of a stream of chunks, told without keeping any data ("Bolt message chunking").
 
-ghost use Rattle.std.specs.Prelude.{◌≡◌, ◌↔◌, ℕ, ◌≤◌, ◌+◌, IsTrue, List, Some, length};
+ghost use Rattle.std.specs.Prelude.{◌≡◌, ◌↔◌, ℕ, ◌≤◌, ◌+◌, ◌*◌, IsTrue, List, Some, length};
 ghost use Rattle.std.specs.Option.{option_map};
 ghost use Rattle.wire.specs.Place.{Place, start};
 ghost use Rattle.wire.specs.Parts.{cut_at, whole_header, IsData};
 ghost use Rattle.wire.specs.Texts.{BeginsWith};
 
 use crate::MAX_MESSAGE;
+use byteorder::{BigEndian, ByteOrder};
 use std::marker::Model;
 
 /// What the bytes of one answer are.
@@ -118,7 +119,7 @@ impl Chunks {
         ensures cut { result ≡ (whole_header used self.old.sum high low).cut }
         ensures place { self.new ≡ (whole_header used self.old.sum high low).place }
     {
-        let n = high as usize * 256 + low as usize;
+        let n = length_in(high, low);
         let sum = self.sum;
         *self = Chunks::new();
         if n == 0 {
@@ -170,7 +171,7 @@ impl Chunks {
         let [high, low, rest @ ..] = piece else {
             return None;
         };
-        let len = *high as usize * 256 + *low as usize;
+        let len = length_in(*high, *low);
         if len == 0 || rest.len() < len {
             return None;
         }
@@ -198,4 +199,11 @@ impl Chunks {
     {
         self.too_big
     }
+}
+
+/// Returns the length that the two bytes of a header are, in big-endian order ("Bolt message chunking").
+fn length_in(high: u8, low: u8) -> usize
+    ensures { result ≡ high * 256 + low }
+{
+    usize::from(BigEndian::read_u16(&[high, low]))
 }

@@ -6,6 +6,7 @@ ghost use Rattle.wire.specs.Limits.{max_message, max_chunk};
 
 use crate::MAX_MESSAGE;
 use crate::faults::WireFault;
+use byteorder::{BigEndian, ByteOrder};
 use bytes::BytesMut;
 
 /// The most bytes of a chunk.
@@ -92,6 +93,8 @@ fn put_chunk(chunk: &[u8], out: &mut BytesMut)
     ensures items { out.new.items ≡ out.old.items ++ chunk_of chunk.now }
     ensures spare { out.new.spare + (length chunk.now + 2) ≡ out.old.spare }
 {
-    out.extend_reserved(&(chunk.len() as u16).to_be_bytes());
+    let mut header = [0u8; 2];
+    BigEndian::write_u16(&mut header, chunk.len() as u16);
+    out.extend_reserved(&header);
     out.extend_reserved(chunk);
 }
