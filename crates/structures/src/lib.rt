@@ -19,3 +19,4 @@ pub use form::fit;
 pub use structures_cells::{
     Cell, ElementIds, Node, Path, Reason, Relationship, UnboundRelationship, same,
 };
+pub use wire::Version;

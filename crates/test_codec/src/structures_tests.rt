@@ -5,7 +5,6 @@ use packstream::decode;
 use std::alloc::{AllocError, Global};
 use std::test::*;
 use structures::*;
-use wire::Version;
 
 fn cell(alloc: Global, version: Version, input: &[u8]) -> Result<Cell, Fail> {
     let packed = decode(alloc, input)?;
