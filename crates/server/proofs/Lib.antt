@@ -7,4 +7,6 @@ pub mod Runs
 pub mod Ledgers
 pub mod Arriving
 pub mod Following
+pub mod Founds
 pub mod Pasts
+pub mod Spoken

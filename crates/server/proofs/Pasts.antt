@@ -1,7 +1,6 @@
 -- What came of the bytes of each session, over every list of calls.
-use Rattle.std.proofs.Common.{◌≡◌, ◌≢◌, refl, sym, ◌∙◌, ap, subst, ℕ, ◌≤◌, Bool, true, false, cond, eqb, ◌⊎◌, inl, inr, Option, Some, None, Result, Ok, Err, List, [], ◌∷◌, ◌++◌, arith, append-nil, append_assoc, IsSome, option_map}
+use Rattle.std.proofs.Common.{◌≡◌, refl, sym, ◌∙◌, ap, subst, ℕ, ◌≤◌, Bool, true, false, cond, eqb, ◌⊎◌, inl, inr, Option, Some, None, Result, Ok, Err, List, [], ◌∷◌, ◌++◌, arith, append-nil, append_assoc, option_map}
 use Rattle.std.proofs.lemmas.Bool.{cond-true, cond-false}
-use Rattle.std.proofs.lemmas.Bool.Decides.{nat_tests}
 use Rattle.wire.specs.declared.Version.{Version}
 use Rattle.wire.specs.Prelude.{fresh as unread, items_of, whole}
 use Rattle.messages.specs.Prelude.{RequestView, request_of, Arrival, Asked, Unread, TooLong, arrivals, requests_of, then_request, without_idle}
@@ -11,47 +10,11 @@ use Rattle.engine.specs.declared.answer.Mode.{Mode as QueryMode}
 use Rattle.engine.specs.Prelude.{WriteView, ParameterView, EntryView, AnswerView, QueryFault, Welcome}
 use Rattle.server_session.specs.Prelude.{Step, take_kept, work_kept}
 use Rattle.server.specs.declared.kinds.Took.{Took}
-use Rattle.server.specs.Prelude.{Live, Rest, after_step, empty, fed_live, find, fresh, is_full, noop_put, opened, replace, setting, taken_from, with_kept, with_session, without, AreBelow, Event, opens, feeds, works, takes, noops, loses, after_call, after_event, after_events, Asks, Follows, bytes_taken, call_answered, places_of, requests_answered, step_answered, took_by, used_of}
+use Rattle.server.specs.Prelude.{Live, Rest, after_step, empty, fed_live, find, fresh, is_full, noop_put, opened, replace, setting, taken_from, with_kept, with_session, AreBelow, Event, opens, feeds, works, takes, noops, loses, after_call, after_event, after_events, Asks, Follows, bytes_taken, call_answered, places_of, requests_answered, step_answered, took_by, used_of}
 use Rattle.server.proofs.Bounds.{FewRows}
 use Rattle.server.proofs.Following.{follows_begun, follows_feed, follows_noop, follows_same, follows_unsent, follows_work}
-use Rattle.server.proofs.Runs.{Held, find-conn, find_other-replace, find_replaced, held_empty, held_event}
-
--- Who is found after a call.
-
-find_below : (n conn : ℕ) (ss : List Live) → AreBelow n ss → n ≤ conn → find conn ss ≡ None
-find_below n conn [] h l = refl
-find_below n conn (s ∷ ss) h l = grind (arith, nat_tests, find_below n conn ss)
-
-find_kept : (n c conn : ℕ) (ss : List Live) (s : Live) → AreBelow n ss → find conn (without c ss) ≡ Some s → find conn ss ≡ Some s
-find_kept n c conn [] s h f = cc
-find_kept n c conn (r ∷ ss) s h f = grind (arith, nat_tests, find_kept n c conn ss s)
-
-find_pushed : (conn n : ℕ) (ss : List Live) (s : Live) → find conn (ss ++ fresh n ∷ []) ≡ Some s → (find conn ss ≡ Some s) ⊎ ((conn ≡ n) × (s ≡ fresh n))
-find_pushed conn n [] s f = grind (arith, nat_tests)
-find_pushed conn n (r ∷ ss) s f = grind (arith, nat_tests, find_pushed conn n ss s)
-
--- after a call on one session: it, or another
-record Its (c conn : ℕ) (s t : Live) : Type 0 where
-  test : eqb c conn ≡ true
-  same : conn ≡ c
-  is : s ≡ t
-
-record Others (c conn : ℕ) (s : Live) (ss : List Live) : Type 0 where
-  test : eqb c conn ≡ false
-  found : find conn ss ≡ Some s
-
-whose : (c conn : ℕ) (before t s : Live) (ss : List Live) → find c ss ≡ Some before → t.conn ≡ c → find conn (replace t.conn t ss) ≡ Some s → Its c conn s t ⊎ Others c conn s ss
-whose c conn before t s ss f e g = elim (eqb c conn) as (λ b. eqb c conn ≡ b → Its c conn s t ⊎ Others c conn s ss) [
-  | true ↦ λ h.
-      let same : conn ≡ c = grind (arith, nat_tests, h) in
-      let there : find c (replace c t ss) ≡ Some t = find_replaced c t ss (subst IsSome (sym f) refl) e in
-      let here : find c (replace c t ss) ≡ Some s = ap (λ n. find n (replace c t ss)) (sym same) ∙ ap (λ n. find conn (replace n t ss)) (sym e) ∙ g in
-      let is : Some s ≡ Some t = sym here ∙ there in
-      inl (record { test = h; same = same; is = cc })
-  | false ↦ λ h.
-      let differ : c ≢ conn = grind (arith, nat_tests, h) in
-      inr (record { test = h; found = sym (find_other-replace conn c t ss differ e) ∙ ap (λ n. find conn (replace n t ss)) (sym e) ∙ g })
-] refl
+use Rattle.server.proofs.Founds.{Its, Others, find_below, find_kept, find_pushed, if_found, if_none, next_grows, whose}
+use Rattle.server.proofs.Runs.{Held, find-conn, held_empty, held_event}
 
 -- What is known of each live session, and that nothing came of the numbers that aren't given yet.
 record Traced {G : Type 0} (r : Rest G) (taken : ℕ → List ℕ) (answered : ℕ → List RequestView) : Type 0 where
@@ -69,10 +32,6 @@ module _ {G : Type 0} (answer : List EntryView → List WriteView → List ℕ �
     still : (conn : ℕ) (s : Live) (b : List ℕ) (a : List RequestView) → b ≡ [] → a ≡ [] → find conn r.sessions ≡ Some s → Follows (taken conn ++ b) (answered conn ++ a) s
     still conn s b a none_taken none_answered f =
         follows_same (taken conn) (taken conn ++ b) (answered conn) (answered conn ++ a) s (ap (λ z. taken conn ++ z) none_taken ∙ append-nil (taken conn)) (ap (λ z. answered conn ++ z) none_answered ∙ append-nil (answered conn)) (h.live conn s f)
-
-    if_none : {A : Type 0} (b : Bool) → cond {A = List A} b [] [] ≡ []
-    if_none true = refl
-    if_none false = refl
 
     -- a call on one session, where it lives: it takes these bytes, and answers these requests
     on_call : {A : Type 0} (c conn : ℕ) (f : Live → A × Rest G) (g : Live → Live) (took : Option Live → List ℕ) (told : Option Live → List RequestView) (s : Live) (b : List ℕ) (a : List RequestView)
@@ -124,36 +83,17 @@ module _ {G : Type 0} (answer : List EntryView → List WriteView → List ℕ �
     traced_live (noops c) conn s f = kept_call c conn noop_put s (λ t. refl) follows_noop f
     traced_live (loses c) conn s f = still conn s [] [] refl refl (find_kept r.next c conn r.sessions s numbers f)
 
-    next_call : {A : Type 0} (f : Live → A × Rest G) → ((t : Live) → (f t).1.next ≡ r.next) → (o : Option Live) → (after_call (option_map f o) r).next ≡ r.next
-    next_call f e None = refl
-    next_call f e (Some t) = e t
-
-    next_open : (b : Bool) → r.next ≤ (cond b r (opened r)).next
-    next_open true = omega arith
-    next_open false = omega arith
-
-    next_grows : (e : Event) → r.next ≤ (after_event answer welcomes e r).next
-    next_grows opens = next_open (is_full r)
-    next_grows (feeds c piece) = let n = next_call (λ t. ((fed_live t piece).0, with_session (fed_live t piece).1 r)) (λ t. refl) (find c r.sessions) in omega (arith, n)
-    next_grows (works c) = let n = next_call (λ t. after_step t (work_kept (setting answer welcomes r) t.conn r.ledger t.kept t.kept.ended) r) (λ t. refl) (find c r.sessions) in omega (arith, n)
-    next_grows (takes c max) = let n = next_call (λ t. ((taken_from max t).0, with_session (taken_from max t).1 r)) (λ t. refl) (find c r.sessions) in omega (arith, n)
-    next_grows (noops c) = let n = next_call (λ t. ((noop_put t).0, with_session (noop_put t).1 r)) (λ t. refl) (find c r.sessions) in omega (arith, n)
-    next_grows (loses c) = omega arith
-
     -- nothing comes of a number that isn't given
-    if_found : {A : Type 0} (c conn : ℕ) (f : Option Live → List A) → f None ≡ [] → find conn r.sessions ≡ None → cond (eqb c conn) (f (find c r.sessions)) [] ≡ []
-    if_found c conn f e none = grind (arith, nat_tests)
-
     nothing : (e : Event) (conn : ℕ) → find conn r.sessions ≡ None → (took_by conn e r ≡ []) × (call_answered answer welcomes conn e r ≡ [])
-    nothing (feeds c piece) conn f = (if_found c conn (λ o. used_of piece (option_map (λ t. ((fed_live t piece).0, with_session (fed_live t piece).1 r)) o)) refl f, refl)
-    nothing (works c) conn f = (refl, if_found c conn (λ o. step_answered answer welcomes o r) refl f)
+    nothing (feeds c piece) conn f = (if_found r c conn (λ o. used_of piece (option_map (λ t. ((fed_live t piece).0, with_session (fed_live t piece).1 r)) o)) refl f, refl)
+    nothing (works c) conn f = (refl, if_found r c conn (λ o. step_answered answer welcomes o r) refl f)
     nothing _ conn f = (refl, refl)
 
     traced_event : (e : Event) → Traced (after_event answer welcomes e r) (λ n. taken n ++ took_by n e r) (λ n. answered n ++ call_answered answer welcomes n e r)
     traced_event e = record {
       live = traced_live e;
       none = λ conn l.
-          let below : r.next ≤ conn = let g = next_grows e in omega arith in
+          let below : r.next ≤ conn = let g = next_grows answer welcomes r e in omega arith in
           let before = h.none conn below in
           let none = nothing e conn (find_below r.next conn r.sessions numbers below) in
           (ap (λ z. z ++ took_by conn e r) before.0 ∙ none.0, ap (λ z. z ++ call_answered answer welcomes conn e r) before.1 ∙ none.1);

@@ -6,4 +6,5 @@ pub mod Views
 pub mod Places
 pub mod Running
 pub mod Past
+pub mod Spoken
 pub mod Prelude

@@ -6,3 +6,4 @@ pub use Rattle.server.specs.Views.{live_of, rest_of, Fits}
 pub use Rattle.server.specs.Places.{Place, PlacesAt}
 pub use Rattle.server.specs.Running.{one, nothing, Event, opens, feeds, works, takes, noops, loses, unfinished_bytes, Bounded, AllBounded, AreBelow, IsKept, after_call, after_event, after_events, conn_of, Adds, Grows}
 pub use Rattle.server.specs.Past.{used_of, answers_by, took_by, step_answered, call_answered, bytes_taken, requests_answered, places_of, IsLater, Agrees, Follows, Asks}
+pub use Rattle.server.specs.Spoken.{Saying, saying_bytes, text_of, says_at_feed, says_at_step, feed_says, noop_says, out_of, out_by, step_says, call_says, bytes_out, sayings, IsSpoken}

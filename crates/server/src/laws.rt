@@ -4,6 +4,7 @@ ghost use Rattle.messages.specs.View.{RequestView};
 ghost use Rattle.engine.specs.Views.{EntryView};
 ghost use Rattle.server.specs.Past.{Asks, Follows, bytes_taken, requests_answered};
 ghost use Rattle.server.specs.Serving.{Live, Rest, empty, find};
+ghost use Rattle.server.specs.Spoken.{IsSpoken, bytes_out, sayings};
 ghost use Rattle.server.specs.Running.{Event, IsKept, conn_of, after_event, after_events, Grows};
 
 use engine::{Engine, Gate};
@@ -39,4 +40,13 @@ pub fn places_follow_bytes<E: Engine, G: Gate>()
         (requests_answered E.answer G.welcomes conn events (empty ledger gate)) s }
     ensures asks { (bytes : List ℕ) (answered : List RequestView) (s : Live)
         → Follows bytes answered s → Asks bytes answered s }
+{}
+
+/// Over every list of calls, the bytes taken out of a session and then those that wait to go are the text of what it said.
+/// It says the answer to an offer, the row or the summary of a step, and a no-op.
+pub fn says_by_steps<E: Engine, G: Gate>()
+    ensures { (ledger : List EntryView) (gate : G) (events : List Event) (conn : ℕ) (s : Live)
+        → find conn (after_events E.answer G.welcomes events (empty ledger gate)).sessions ≡ Some s
+        → IsSpoken (bytes_out E.answer G.welcomes conn events (empty ledger gate))
+        (sayings E.answer G.welcomes conn events (empty ledger gate)) s }
 {}
