@@ -272,6 +272,30 @@ fn names_of_columns(rt: HostRuntime) -> Result<(), Fail> {
     Ok(())
 }
 
+/// An answer of plain lists has their names and their cells, in order.
+#[test]
+fn answer_of_plain_lists(rt: HostRuntime) -> Result<(), Fail> {
+    let alloc = rt.alloc();
+    let mut fields = Vec::new(alloc);
+    let mut rows = Vec::new(alloc);
+    for (name, first) in [("name", 1), ("age", 3)] {
+        fields.push(String::from_str(alloc, name)?)?;
+        rows.push(vec![in alloc; Cell::Int(first), Cell::Int(first + 1)]?)?;
+    }
+    let answer = Answer::from_lists(alloc, fields, rows, None, Mode::Read)?;
+    assert!(rt; lends(&answer.fields, &["name", "age"]));
+    assert!(rt; answer.rows.width == 2 && answer.rows.count == 2);
+    let cells = answer.rows.cells.as_slice();
+    assert!(rt; cells.len() == 4);
+    for (place, number) in [1, 2, 3, 4].iter().enumerate() {
+        assert!(rt;
+            matches!(&cells[place], Cell::Int(n) if n == number),
+            "{place}"
+        );
+    }
+    Ok(())
+}
+
 /// What is given to a gate of `user` and `pass`, and whether it is accepted.
 const GIVEN: &[(&str, &str, bool)] = &[
     ("user", "pass", true),
