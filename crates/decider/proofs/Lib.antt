@@ -1,0 +1,9 @@
+pub mod Bools
+pub mod Appending
+pub mod Fates
+pub mod Facts
+pub mod Attempts
+pub mod Ending
+pub mod Sending
+pub mod Servers
+pub mod Markers
