@@ -23,3 +23,12 @@ pub record Describes (d : Decider) (p : Policy) (ts : List StepResult) (b : Bool
   pub last : d.last ≡ last_of ts
   pub commit : d.commit ≡ commit_of ts
   pub fault : d.fault ≡ fault_of ts
+
+-- the answer is this function of the policy, of the results, and of whether an attempt is under way
+abbrev pub Answers : {A : Type 0} → Decider → A → (Policy → List StepResult → Bool → A) → Type 0
+Answers d a f = (p : Policy) (ts : List StepResult) (b : Bool) → Describes d p ts b → a ≡ f p ts b
+
+-- the old decider becomes the new one, with these results, and an attempt under way or not
+abbrev pub Becomes :
+    Decider → Decider → (List StepResult → Bool → List StepResult) → (Policy → List StepResult → Bool → Bool) → Type 0
+Becomes d e f g = (p : Policy) (ts : List StepResult) (b : Bool) → Describes d p ts b → Describes e p (f ts b) (g p ts b)

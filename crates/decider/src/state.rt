@@ -34,9 +34,7 @@ pub struct Decider {
 }
 
 impl Decider {
-    ghost use Rattle.decider.specs.declared.policy.Policy.{Policy as AnyPolicy};
-    ghost use Rattle.decider.specs.declared.steps.StepResult.{StepResult as AnyResult};
-    ghost use Rattle.std.specs.Prelude.{List, [], ◌∷◌, ◌++◌, Bool, false, ◌&&◌, ◌||◌, not};
+    ghost use Rattle.std.specs.Prelude.{[], ◌∷◌, ◌++◌, false, ◌&&◌, ◌||◌, not};
     ghost use Rattle.decider.specs.Rules.{
       is_attempt,
       sends,
@@ -50,7 +48,7 @@ impl Decider {
       fault_of,
       in_doubt,
     };
-    ghost use Rattle.decider.specs.State.{Describes};
+    ghost use Rattle.decider.specs.State.{Describes, Answers, Becomes};
 
     /// Makes a decider without results.
     pub fn new(policy: Policy) -> Decider
@@ -80,9 +78,8 @@ impl Decider {
     /// If the step is `Attempt`, the fate is `Unknown` until the result of the attempt is reported. An attempt without
     /// a reported result counts as in doubt, at a server of unknown kind. So call it once for each step.
     pub fn begin(&mut self) -> Next
-        ensures next { (p : AnyPolicy) (ts : List AnyResult) (b : Bool) → Describes self.old p ts b → result ≡ next_at p ts b }
-        ensures state { (p : AnyPolicy) (ts : List AnyResult) (b : Bool) → Describes self.old p ts b
-            → Describes self.new p (all_results ts b) (sends (next_at p ts b)) }
+        ensures next { Answers self.old result next_at }
+        ensures state { Becomes self.old self.new all_results (λ p ts b. sends (next_at p ts b)) }
     {
         self.report_unfinished();
         let next = self.next_step();
@@ -92,8 +89,7 @@ impl Decider {
 
     /// Records what a step came to.
     pub fn report(&mut self, step: StepResult)
-        ensures { (p : AnyPolicy) (ts : List AnyResult) (b : Bool) → Describes self.old p ts b
-            → Describes self.new p (ts ++ step ∷ []) (b && not (is_attempt step)) }
+        ensures { Becomes self.old self.new (λ ts b. ts ++ step ∷ []) (λ p ts b. b && not (is_attempt step)) }
     {
         let retry = self.policy.retry;
         self.committed = either(self.committed, is_commit(step));
@@ -114,7 +110,7 @@ impl Decider {
 
     /// Records an attempt without a reported result as in doubt.
     fn report_unfinished(&mut self)
-        ensures { (p : AnyPolicy) (ts : List AnyResult) (b : Bool) → Describes self.old p ts b → Describes self.new p (all_results ts b) false }
+        ensures { Becomes self.old self.new all_results (λ p ts b. false) }
     {
         if self.pending {
             self.report(StepResult::InDoubt(TokenSupport::Unknown));
@@ -123,7 +119,7 @@ impl Decider {
 
     /// Returns the next step by the results alone.
     fn next_step(&self) -> Next
-        ensures { (p : AnyPolicy) (ts : List AnyResult) (b : Bool) → Describes self.now p ts b → result ≡ next_of p ts }
+        ensures { Answers self.now result (λ p ts b. next_of p ts) }
     {
         if self.committed || self.conflict || self.tombstone || self.stopped {
             return Next::End;
@@ -176,7 +172,7 @@ impl Decider {
 
     /// Returns what is known of the transaction. It is true at any moment, also while an attempt is under way.
     pub fn fate(&self) -> Fate
-        ensures { (p : AnyPolicy) (ts : List AnyResult) (b : Bool) → Describes self.now p ts b → result ≡ fate_of p ts b }
+        ensures { Answers self.now result fate_of }
     {
         if self.committed {
             return Fate::Committed;
@@ -199,7 +195,7 @@ impl Decider {
     /// An attempt that commits after a doubt may have read what an earlier one wrote, and may conflict with that one's
     /// writes.
     pub fn is_in_doubt(&self) -> bool
-        ensures { (p : AnyPolicy) (ts : List AnyResult) (b : Bool) → Describes self.now p ts b → result ≡ (in_doubt p ts || b) }
+        ensures { Answers self.now result (λ p ts b. in_doubt p ts || b) }
     {
         self.doubt || self.pending
     }
@@ -208,14 +204,14 @@ impl Decider {
     ///
     /// None if there is none. If the fate is `Committed` then, the marker was read.
     pub fn commit(&self) -> Option<u64>
-        ensures { (p : AnyPolicy) (ts : List AnyResult) (b : Bool) → Describes self.now p ts b → result ≡ commit_of ts }
+        ensures { Answers self.now result (λ p ts b. commit_of ts) }
     {
         self.commit
     }
 
     /// Returns the ordinal of the last request that was refused for good or can't be encoded. None if there is none.
     pub fn fault(&self) -> Option<u64>
-        ensures { (p : AnyPolicy) (ts : List AnyResult) (b : Bool) → Describes self.now p ts b → result ≡ fault_of ts }
+        ensures { Answers self.now result (λ p ts b. fault_of ts) }
     {
         self.fault
     }
@@ -223,14 +219,14 @@ impl Decider {
     /// Returns how many results of attempts were reported, at most the policy's `tries`. An attempt without a
     /// connection counts.
     pub fn attempts(&self) -> u32
-        ensures { (p : AnyPolicy) (ts : List AnyResult) (b : Bool) → Describes self.now p ts b → result ≡ attempts_made p ts }
+        ensures { Answers self.now result (λ p ts b. attempts_made p ts) }
     {
         self.policy.tries.saturating_sub(self.attempts_left)
     }
 
     /// Returns why no further step is made, by the reported results. None if one is.
     pub fn end_reason(&self) -> Option<EndReason>
-        ensures { (p : AnyPolicy) (ts : List AnyResult) (b : Bool) → Describes self.now p ts b → result ≡ end_reason p ts }
+        ensures { Answers self.now result (λ p ts b. end_reason p ts) }
     {
         if !is_end(self.next_step()) {
             return None;

@@ -1,5 +1,5 @@
-//! Tests of the engine, a server and a client by themselves, by their public calls. A crate of their own, so that none of those
-//! libraries is proved twice.
+//! Tests of the engine, a server, a client and a decider by themselves, by their public calls. A separate crate, so
+//! those libraries are proved only once.
 #![tactic(auto)]
 
 #[cfg(test)]
@@ -8,6 +8,8 @@ mod answers;
 mod calls;
 #[cfg(test)]
 mod conversation;
+#[cfg(test)]
+mod decider_tests;
 #[cfg(test)]
 mod limit_tests;
 #[cfg(test)]
