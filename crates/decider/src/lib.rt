@@ -17,13 +17,17 @@
 //! # States
 //!
 //! ```text
-//!              begin: Attempt                       begin: End
-//!  +-------+ ------------------> +-----------+    +-------+ -----> +-------+
-//!  | ready |                     | attempt   |    | ready |        | ended |
-//!  +-------+ <------------------ | under way |    +-------+        +-------+
-//!    |   ^     report            +-----------+
-//!    |   |                         fate: Unknown
-//!    +---+  begin: Greet, ReadMarker or WriteTombstone, then report
+//!            begin: Attempt
+//! +-------+ ----------------> +-------------------+
+//! | ready |                   | attempt under way |  fate: Unknown
+//! +-------+ <---------------- +-------------------+
+//!  |  |  ^    report its result
+//!  |  |  |
+//!  |  +--+    begin: Greet, ReadMarker or WriteTombstone; then report its result
+//!  |
+//!  +-----> +-------+
+//!          | ended |  begin: End
+//!          +-------+
 //! ```
 //!
 //! The step that `begin` returns depends on all results. The first row that applies decides.
@@ -54,7 +58,7 @@
 //!
 //! With `Detect`, a doubt is followed by another attempt only if the connection's greeting was answered before.
 //! A caller that sends HELLO to COMMIT as one pipeline saves a round trip.
-//! If its connection breaks before the greeting is answered, the fate stays `Unknown`.
+//! If its connection breaks after a byte of COMMIT was sent and before the greeting is answered, the fate stays `Unknown`.
 //! A caller that waits for the greeting's answer before it sends COMMIT doesn't have this case.
 //! A connection that breaks before a byte of COMMIT was sent leaves no doubt, so it never ends the attempts.
 //!
