@@ -31,4 +31,5 @@ Answers d a f = (p : Policy) (ts : List StepResult) (b : Bool) → Describes d p
 -- the old decider becomes the new one, with these results, and an attempt under way or not
 abbrev pub Becomes :
     Decider → Decider → (List StepResult → Bool → List StepResult) → (Policy → List StepResult → Bool → Bool) → Type 0
-Becomes d e f g = (p : Policy) (ts : List StepResult) (b : Bool) → Describes d p ts b → Describes e p (f ts b) (g p ts b)
+Becomes d e f g =
+    (p : Policy) (ts : List StepResult) (b : Bool) → Describes d p ts b → Describes e p (f ts b) (g p ts b)

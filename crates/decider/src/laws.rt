@@ -101,11 +101,11 @@ pub fn marker_examples()
     ensures { MarkerExamples }
 {}
 
-/// States that the fate is true at any moment, at servers that keep tokens, at servers that keep none, and if one address
-/// leads to both kinds.
+/// States that the fate is true at any moment, at servers that keep tokens, at servers that keep none, and if one
+/// address leads to both kinds.
 ///
-/// For `Detect`, `Tokens` and `Never`, and a caller that makes each next step. At most one attempt commits, at all servers
-/// together. Others may use the token, and COMMITs may be processed late.
+/// For `Detect`, `Tokens` and `Never`, and a caller that makes each next step. At most one attempt commits, at all
+/// servers together. Others may use the token, and COMMITs may be processed late.
 pub fn fate_at_servers()
     ensures { FateAtServers }
 {}

@@ -58,7 +58,8 @@
 //!
 //! With `Detect`, a doubt is followed by another attempt only if the connection's greeting was answered before.
 //! A caller that sends HELLO to COMMIT as one pipeline saves a round trip.
-//! If its connection breaks after a byte of COMMIT was sent and before the greeting is answered, the fate stays `Unknown`.
+//! If its connection breaks after a byte of COMMIT was sent and before the greeting is answered, the fate stays
+//! `Unknown`.
 //! A caller that waits for the greeting's answer before it sends COMMIT doesn't have this case.
 //! A connection that breaks before a byte of COMMIT was sent leaves no doubt, so it never ends the attempts.
 //!
@@ -69,8 +70,8 @@
 //! | attempt | one sending of the transaction, from BEGIN to COMMIT |
 //! | result | what a step came to, as the caller reports it |
 //! | in doubt | it may have committed, or may yet commit |
-//! | protected | a doubt left by a server that keeps tokens: sending again under the token can't commit twice |
-//! | token | a text that a transaction carries; at a server that keeps tokens, at most one transaction under it commits |
+//! | protected | left by a server that keeps tokens: sending again under the token can't commit twice |
+//! | token | a text that a transaction carries; at a server that keeps tokens, at most one of those with it commits |
 //! | marker | a row that each attempt writes under a unique constraint |
 //! | tombstone | a marker row that excludes all attempts |
 //! | under way | an attempt that `begin` returned, and whose result is not reported |

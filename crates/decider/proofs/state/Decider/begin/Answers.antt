@@ -1,3 +1,4 @@
+-- The next step is that of all results, and only the mark of an attempt under way is set after it.
 use Rattle.std.proofs.Common.{◌∙◌, ap, false}
 use Rattle.decider.specs.Rules.{sends, all_results, next_at}
 use Rattle.decider.proofs.Appending.{set_pending}
