@@ -52,7 +52,7 @@ has_tombstone r t = false
 
 -- an attempt may have committed, or may yet commit
 abbrev pub is_doubt : Retry → StepResult → Bool
-is_doubt r (result.InDoubt support) = true
+is_doubt r (result.InDoubt s) = true
 is_doubt retry.Marker result.Conflict = true
 is_doubt r t = false
 
@@ -86,7 +86,7 @@ is_attempt (result.PermanentFailure ordinal) = true
 is_attempt result.TransientFailure = true
 is_attempt (result.InvalidRequest ordinal) = true
 is_attempt result.NoCommitSent = true
-is_attempt (result.InDoubt support) = true
+is_attempt (result.InDoubt s) = true
 is_attempt t = false
 
 -- it is the result of writing a tombstone
@@ -183,7 +183,7 @@ fate_of p ts pending =
 
 -- the support in the greeting, if it was the last result
 abbrev pub greeted : Option StepResult → Option TokenSupport
-greeted (Some (result.Greeted support)) = Some support
+greeted (Some (result.Greeted s)) = Some s
 greeted t = None
 
 -- The transaction may be sent: always if nothing is in doubt, else only if sending it again can't commit twice.
@@ -205,7 +205,7 @@ needs_greeting r unprotected s = false
 abbrev pub needs_read : Bool → Option StepResult → Bool
 needs_read doubt (Some result.TransientFailure) = true
 needs_read doubt (Some (result.PermanentFailure ordinal)) = true
-needs_read doubt (Some (result.InDoubt support)) = true
+needs_read doubt (Some (result.InDoubt s)) = true
 needs_read doubt (Some result.Conflict) = true
 needs_read doubt (Some result.TombstoneUnconfirmed) = true
 needs_read doubt (Some result.NoCommitSent) = doubt
