@@ -1,5 +1,6 @@
 -- Requests that are asked in turn.
 use Rattle.std.proofs.Common.{◌≡◌, refl, sym, ◌∙◌, ap, subst, ℕ, suc, ◌+◌, ◌<◌, ◌^◌, Bool, true, false, ◌||◌, ◌&&◌, nat_lt, Option, Some, None, Result, Ok, Err, List, [], ◌∷◌, ◌++◌, length, append-nil, arith}
+use Rattle.std.specs.Result.{result_err}
 use Rattle.messages.specs.Prelude.{RequestView}
 use Rattle.messages.specs.View.{AuthView}
 use Rattle.std.proofs.lemmas.Bool.Decides.{nat_tests}
@@ -8,11 +9,12 @@ use Rattle.client.specs.declared.SubmitFault.{SubmitFault}
 use Rattle.client.specs.Prelude.{Knows, Rest, refuses, after_submit, submits, has_room}
 use Rattle.client.specs.Rest.{next_ordinal}
 use Rattle.client.proofs.Refusing.{accepted_facts}
+use Rattle.client_tracking.specs.Account.{Account}
 use Rattle.client_tracking.specs.Runs.{Asks, TrackedRun, tracked_call}
 use Rattle.driver.specs.declared.breaks.Break.{Break}
 use Rattle.driver.specs.declared.faults.Fault.{Fault}
 use Rattle.driver.specs.declared.faults.Fault.TheVariants as fault
-use Rattle.driver.specs.Prelude.{Stand, stand_in, GoesOn, Leads, Place, place, Exchanges, or_undone, first_undone, Told, fresh, given_up, Sent, IsNotSent, Says, asked_stand, asked_all, AcceptsEach, StopsAt, AsksAll, greeting}
+use Rattle.driver.specs.Prelude.{Stand, stand_in, GoesOn, Leads, Place, place, Health, IsSeen, Exchanges, or_undone, first_undone, Told, fresh, given_up, Sent, IsNotSent, Says, Blames, asked_stand, asked_all, AcceptsEach, StopsAt, AsksAll, greeting}
 use Rattle.driver.proofs.Reading.{stand_is}
 
 pub asked_more : (s : Stand) (qs : List RequestView) (q : RequestView) → asked_all s (qs ++ q ∷ []) ≡ asked_stand (asked_all s qs) q
@@ -117,3 +119,20 @@ unasked_said A from to q qs all f e g h =
 pub greeting_some : (b : Bool) (agent : List ℕ) (auth : AuthView) → (q : RequestView) × (qs : List RequestView) × (q ∷ qs ≡ greeting b agent auth)
 greeting_some true agent auth = (RequestView.Hello agent (Some auth), [], refl)
 greeting_some false agent auth = (RequestView.Hello agent None, RequestView.Logon auth ∷ [], refl)
+
+-- a fault that names a broken exchange blames what the exchange blamed
+pub blames_told : {A : Type 0} (a : Account) (first count : ℕ) (broken : Result (Unit {0}) Break) (h : Health) (result : Result A Fault) → Told a first count broken result → IsSeen broken h → Blames result h
+blames_told a first count broken h (Ok x) t s = tt
+blames_told a first count broken h (Err (fault.Refused i code message)) t s = tt
+blames_told a first count broken h (Err (fault.Broken None)) t s = tt
+blames_told a first count broken h (Err (fault.Broken (Some why))) t s = go broken t.3 s
+  where
+    go : (r : Result (Unit {0}) Break) → Some why ≡ result_err r → IsSeen r h → IsSeen (Err why) h
+    go (Ok u) e s = cc
+    go (Err e) same s = subst (λ (z : Option Break). blamed z) (sym same) s
+      where
+        blamed : Option Break → Type 0
+        blamed None = Unit {0}
+        blamed (Some w) = IsSeen (Err w) h
+blames_told a first count broken h (Err fault.Memory) t s = tt
+blames_told a first count broken h (Err (fault.NotSent rule)) t s = tt

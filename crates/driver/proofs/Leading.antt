@@ -1,16 +1,17 @@
 -- How calls lead on, one after the other.
-use Rattle.std.proofs.Common.{◌≡◌, refl, sym, ◌∙◌, ap, subst, ℕ, Bool, true, false, ◌||◌, if◌then◌else◌, Option, Some, None, Ok, Err, List, [], ◌∷◌, ◌++◌, length, map, take, append_assoc, append-nil, arith}
+use Rattle.std.proofs.Common.{◌≡◌, refl, sym, ◌∙◌, ap, subst, ℕ, Bool, true, false, ◌||◌, if◌then◌else◌, Option, Some, None, Result, Ok, Err, is_ok, true≢false, List, [], ◌∷◌, ◌++◌, length, map, take, append_assoc, append-nil, arith}
 use Rattle.std.proofs.lemmas.List.{map-append, take_all}
 use Rattle.wire.specs.Prelude.{takes, at_client, Item}
 use Rattle.messages.specs.Prelude.{RequestView}
+use Rattle.client.specs.declared.ClientFault.{ClientFault}
 use Rattle.client.specs.declared.ClientFault.TheVariants as client_fault
-use Rattle.client.specs.Prelude.{Rest, Fed, used_of, feed_of, fed_item, fed_open, note_of, heard_as, hears_item, Feeds as FeedsPiece, call}
+use Rattle.client.specs.Prelude.{Rest, Fed, Note, used_of, feed_of, fed_item, fed_open, note_of, heard_as, hears_item, Feeds as FeedsPiece, call}
 use Rattle.client.proofs.Makes.{makes, spoiled_over}
 use Rattle.client_tracking.specs.declared.faults.FeedFault.{FeedFault}
 use Rattle.client_tracking.specs.declared.faults.FeedFault.TheVariants as feed_fault
 use Rattle.client_tracking.specs.Feeding.{is_full, Tracked, with_answer, used_by, tracked_feed}
 use Rattle.client_tracking.specs.Runs.{TrackedCall, Hears as HearsPiece, Sends, IsLost, TrackedRun, tracked_call, tracked_calls}
-use Rattle.driver.specs.Prelude.{Stand, stand_in, GoesOn, Leads, heard_count, heard_stand, lost_stand, taken_stand, emptied_stand, Hears}
+use Rattle.driver.specs.Prelude.{Stand, stand_in, GoesOn, Leads, heard_count, heard_stand, lost_stand, taken_stand, emptied_stand, Hears, Accepted, Accepts}
 
 or_assoc : (a b c : Bool) → ((a || b) || c) ≡ (a || (b || c))
 or_assoc true b c = refl
@@ -117,6 +118,45 @@ refused_over s piece f e not_full = go (is_full s.rest.knows s.account) e
     go true h = absurd (not_full cc)
     go false h = opened s.rest.knows.over refl h
 
+-- an open client doesn't say that it has ended
+pub refused_closed : (s : Stand) (piece : List ℕ) → Err feed_fault.Closed ≡ (tracked_feed s.rest s.account piece).answer → s.rest.knows.over ≡ false → ⊥
+refused_closed s piece e is_open = go (is_full s.rest.knows s.account) e
+  where
+    by_item : (r : Rest) (n : ℕ) (o : Option Item) → Err feed_fault.Closed ≡ used_by (fed_item r n o).answer → ⊥
+    by_item r n None h = cc
+    by_item r n (Some y) h = by_bad (hears_item r.wish r.knows (heard_as r.knows.version y)).bad h
+      where
+        by_bad : (b : Bool) → Err feed_fault.Closed ≡ used_by (if b then Err client_fault.BadPeer else Ok (n, note_of (heard_as r.knows.version y) (hears_item r.wish r.knows (heard_as r.knows.version y)))) → ⊥
+        by_bad true k = cc
+        by_bad false k = cc
+
+    opened : (b : Bool) → b ≡ false → Err feed_fault.Closed ≡ used_by (let g : Fed = (if b then record { rest = s.rest; answer = Err client_fault.Closed } else fed_open s.rest (takes at_client s.rest.item piece)) in g.answer) → ⊥
+    opened true o h = true≢false o
+    opened false o h = by_item (record s.rest { item = (takes at_client s.rest.item piece).rest }) (takes at_client s.rest.item piece).used (takes at_client s.rest.item piece).item h
+
+    go : (b : Bool) → Err feed_fault.Closed ≡ (let t : Tracked = (if b then record { rest = s.rest; account = s.account; answer = Err feed_fault.Full } else record { rest = (feed_of s.rest piece).rest; account = with_answer s.account (feed_of s.rest piece).answer; answer = used_by (feed_of s.rest piece).answer }) in t.answer) → ⊥
+    go true h = cc
+    go false h = opened s.rest.knows.over is_open h
+
+-- the client itself has no limit of rows
+unlimited : (x : Result (ℕ × Note) ClientFault) → used_by x ≡ Err feed_fault.Full → ⊥
+unlimited (Ok used) e = cc
+unlimited (Err client_fault.Closed) e = cc
+unlimited (Err client_fault.Memory) e = cc
+unlimited (Err client_fault.BadPeer) e = cc
+
+-- if rows have to be taken first, nothing has changed
+pub refused_full : (s : Stand) (piece : List ℕ) → (tracked_feed s.rest s.account piece).answer ≡ Err feed_fault.Full → (is_full s.rest.knows s.account ≡ true) × (heard_stand s piece ≡ s) × (heard_count s piece ≡ 0)
+refused_full s piece e = go (is_full s.rest.knows s.account) e
+  where
+    go : (b : Bool)
+        → (let t : Tracked = (if b then record { rest = s.rest; account = s.account; answer = Err feed_fault.Full } else record { rest = (feed_of s.rest piece).rest; account = with_answer s.account (feed_of s.rest piece).answer; answer = used_by (feed_of s.rest piece).answer }) in t.answer) ≡ Err feed_fault.Full
+        → (b ≡ true)
+        × ((let t : Tracked = (if b then record { rest = s.rest; account = s.account; answer = Err feed_fault.Full } else record { rest = (feed_of s.rest piece).rest; account = with_answer s.account (feed_of s.rest piece).answer; answer = used_by (feed_of s.rest piece).answer }) in let z : Stand = record { rest = t.rest; account = t.account } in z) ≡ s)
+        × ((if b then 0 else used_of s.rest piece) ≡ 0)
+    go true h = (refl, refl, refl)
+    go false h = absurd (unlimited (feed_of s.rest piece).answer h)
+
 -- by pieces, one after the other
 pub hears_none : (s : Stand) → Hears s s []
 hears_none s = record { pieces = []; leads = leads_nowhere s }
@@ -129,3 +169,29 @@ hears_on {a = a} {b = b} {c = c} {bytes = bytes} {later = later} f g = record {
 
 pub hears_piece : (s : Stand) (piece : List ℕ) → Hears s (heard_stand s piece) (take (heard_count s piece) piece)
 hears_piece s piece = record { pieces = piece ∷ []; leads = leads_hears s piece }
+
+-- pieces that the client accepts, one after the other
+pub accepts_none : (s : Stand) → Accepts s s []
+accepts_none s = record { hears = record { pieces = []; leads = leads_nowhere s }; accepted = refl }
+
+accepted_on : (a b c : Stand) (xs ys : List (List ℕ)) → Accepted a xs b → Accepted b ys c → Accepted a (xs ++ ys) c
+accepted_on a b c [] ys f g = subst (λ (s : Stand). Accepted s ys c) f g
+accepted_on a b c (x ∷ xs) ys f g = (f.0, accepted_on (heard_stand a x) b c xs ys f.1 g)
+
+pub accepts_on : {a b c : Stand} {bytes later : List ℕ} → Accepts a b bytes → Accepts b c later → Accepts a c (bytes ++ later)
+accepts_on {a = a} {b = b} {c = c} {bytes = bytes} {later = later} f g = record {
+  hears = record {
+    pieces = f.hears.pieces ++ g.hears.pieces;
+    leads = subst (λ cs. Leads a cs c [] (bytes ++ later) [] false) (sym (map-append HearsPiece f.hears.pieces g.hears.pieces)) (leads_on (map HearsPiece f.hears.pieces) (map HearsPiece g.hears.pieces) f.hears.leads g.hears.leads);
+  };
+  accepted = accepted_on a b c f.hears.pieces g.hears.pieces f.accepted g.accepted;
+}
+
+pub accepts_piece : (s : Stand) (piece : List ℕ) (used : ℕ) → Ok used ≡ (tracked_feed s.rest s.account piece).answer → Accepts s (heard_stand s piece) (take used piece)
+accepts_piece s piece used e = record {
+  hears = record {
+    pieces = piece ∷ [];
+    leads = subst (λ n. Leads s (HearsPiece piece ∷ []) (heard_stand s piece) [] (take n piece) [] false) (used_is s piece used e) (leads_hears s piece);
+  };
+  accepted = (ap is_ok (sym e), refl);
+}

@@ -10,14 +10,14 @@ use Rattle.messages.specs.Prelude.{RequestView}
 use Rattle.machine.specs.Limits.{max_waiting}
 use Rattle.client.specs.declared.Outcome.{Outcome}
 use Rattle.client.specs.declared.SubmitFault.{SubmitFault}
-use Rattle.client.specs.Prelude.{refuses, after_submit, asking_bytes}
+use Rattle.client.specs.Prelude.{refuses, refuses_at_once, after_submit, asking_bytes}
 use Rattle.client.proofs.Runs.{texts_more}
 use Rattle.client_tracking.specs.Account.{Account, ReplyView, with_losses, reply_in, outcome_of}
-use Rattle.client_tracking.specs.Runs.{TrackedCall, Asks}
+use Rattle.client_tracking.specs.Runs.{TrackedCall, Asks, Sends}
 use Rattle.driver.specs.declared.breaks.Break.{Break}
 use Rattle.driver.specs.declared.breaks.Break.TheVariants as break
-use Rattle.driver.specs.Prelude.{Stand, Leads, EndsBy, Place, place, Health, IsWhole, is_short, IsSeen, Exchanges, asked_stand, is_done, or_undone, first_undone, is_whole, is_answered, IsQuiet, IsUndone, WhyLeft, SendsPart, MakesRoom, SendsInParts}
-use Rattle.driver.proofs.Leading.{leads_nowhere, leads_on}
+use Rattle.driver.specs.Prelude.{Stand, Leads, EndsBy, Place, place, Health, StopsBy, emptied_stand, IsWhole, is_short, IsSeen, Exchanges, asked_stand, is_done, or_undone, first_undone, is_whole, is_answered, IsQuiet, IsUndone, short_of, WhyLeft, SendsPart, MakesRoom, SendsInParts}
+use Rattle.driver.proofs.Leading.{leads_nowhere, leads_on, leads_out}
 use Rattle.driver.proofs.Reading.{stand_is, none_unheard, writes_or, write_seen, Led, exchange_led}
 use Rattle.driver.proofs.Keeping.{hears_keeps, exchange_empties}
 use Rattle.driver.proofs.Asking.{leads_ask, accepted_open}
@@ -169,6 +169,10 @@ pub found_undone : (broken : Result (Unit {0}) Break) (to : Stand) (first count 
 found_undone broken to first count None done e d f = absurd (true≢false (sym d ∙ f))
 found_undone broken to first count (Some i) done e d f = inr (i, sym e)
 
+not_true : (b : Bool) → (b ≡ true → ⊥) → b ≡ false
+not_true true never = absurd (never refl)
+not_true false never = refl
+
 -- the last part is sent
 module _ (from now to : Place) (before last : List RequestView) (s : SoSent from now before last) (some : 0 < length last) where
   none_unread : s.unheard ≡ []
@@ -203,6 +207,27 @@ module _ (from now to : Place) (before last : List RequestView) (s : SoSent from
         ))
         (led.ends k)
 
+    -- the calls up to the start of the reading
+    led_out : Leads from.stand (s.calls ++ Sends (length now.stand.rest.unsent) ∷ []) (emptied_stand now.stand) (before ++ last) s.heard (s.out ++ now.stand.rest.unsent) false
+    led_out =
+        subst (λ qs. Leads from.stand (s.calls ++ Sends (length now.stand.rest.unsent) ∷ []) (emptied_stand now.stand) qs s.heard (s.out ++ now.stand.rest.unsent) false) (append-nil (before ++ last))
+        (subst (λ bs. Leads from.stand (s.calls ++ Sends (length now.stand.rest.unsent) ∷ []) (emptied_stand now.stand) ((before ++ last) ++ []) bs (s.out ++ now.stand.rest.unsent) false) (append-nil s.heard)
+        (leads_on s.calls (Sends (length now.stand.rest.unsent) ∷ []) s.leads (leads_out now.stand)))
+
+    stops : StopsBy from.stand (before ++ last) (s.heard ++ led.heard) (s.out ++ now.stand.rest.unsent) led.unheard r
+    stops = record {
+      start = emptied_stand now.stand;
+      calls = s.calls ++ Sends (length now.stand.rest.unsent) ∷ [];
+      earlier = s.heard;
+      leads = led_out;
+      is_open = not_true now.stand.rest.knows.over (s.is_open some);
+      at = led.at;
+      last = led.heard;
+      hears = led.hears;
+      parts = refl;
+      stops = led.stops;
+    }
+
     pub part_ended : (health : Health) → IsSeen r health → (later all : List RequestView) (n : ℕ) → is_whole last later ≡ true → all ≡ before ++ (last ++ later) → n ≡ length (before ++ last) → WhyLeft to.stand before last later r → SendsInParts from to health all n r
     part_ended health seen later all n w asks count why = record {
       why = why;
@@ -224,6 +249,7 @@ module _ (from now to : Place) (before last : List RequestView) (s : SoSent from
       leads = leads;
       input = input;
       ends = ends;
+      stops = inr stops;
       written =
           ⊎_elim (λ a. inl (Grows-trans from.written now.written to.written s.out now.stand.rest.unsent s.written a))
           (λ f. inr (write_seen r health seen f.0, (s.out ++ f.1.0, f.1.1, append_assoc s.out f.1.0 f.1.1 ∙ ap (λ l. s.out ++ l) f.1.2, Grows-trans from.written now.written to.written s.out f.1.0 s.written f.1.3)))
@@ -263,7 +289,7 @@ module _ (from now to : Place) (before last : List RequestView) (s : SoSent from
       }
     where
       ends : (x : Exchanges now to (Ok tt)) → x.answered.rest.knows.waiting ≡ []
-      ends x = x.converses.ends.1
+      ends x = x.converses.stops.0.1
 
       lt_or_le : (i n : ℕ) → (i < n) ⊎ (n ≤ i)
       lt_or_le i zero = inr (omega arith)
@@ -271,10 +297,11 @@ module _ (from now to : Place) (before last : List RequestView) (s : SoSent from
       lt_or_le (suc i) (suc n) = ⊎_elim (λ (m : i < n). inl (omega (arith, m))) (λ (m : n ≤ i). inr (omega (arith, m))) (lt_or_le i n)
 
 -- a request isn't accepted, and the last part never goes out
-pub stopped : (from now : Place) (before last : List RequestView) → SoSent from now before last → (health : Health) (q : RequestView) (behind all : List RequestView) (n : ℕ) → length last < max_waiting → all ≡ before ++ (last ++ q ∷ behind) → n ≡ length (before ++ last) → (rule : SubmitFault) → ((rule ≡ SubmitFault.Memory → ⊥) → refuses now.stand.rest.knows q ≡ Some rule) → (broken : Result (Unit {0}) Break) → (rule ≡ SubmitFault.Memory → broken ≡ Err break.Memory) → IsSeen broken health → SendsInParts from now health all n broken
-stopped from now before last s health q behind all n room asks count rule first broken short seen = record {
+pub stopped : (from now : Place) (before last : List RequestView) → SoSent from now before last → (health : Health) (q : RequestView) (behind all : List RequestView) (n : ℕ) → length last < max_waiting → all ≡ before ++ (last ++ q ∷ behind) → n ≡ length (before ++ last) → (rule : SubmitFault) → ((rule ≡ SubmitFault.Memory → ⊥) → refuses now.stand.rest.knows q ≡ Some rule) → (rule ≡ SubmitFault.Memory → refuses_at_once now.stand.rest.knows q ≡ None) → (broken : Result (Unit {0}) Break) → broken ≡ short_of rule → IsSeen broken health → SendsInParts from now health all n broken
+stopped from now before last s health q behind all n room asks count rule first needed broken told seen = record {
   seen = seen;
-  why = inr (inl (record { request = q; behind = behind; parts = refl; rule = rule; first = first; short = short }));
+  why = inr (inl (record { request = q; behind = behind; parts = refl; rule = rule; first = first; needed = needed; told = told }));
+  stops = inl (record { request = q; behind = behind; parts = refl; rule = rule; first = first; needed = needed; told = told });
   before = before;
   last = last;
   later = q ∷ behind;
@@ -390,10 +417,10 @@ one_more from now qs n h c q new accepted r a = record {
   some = λ _. let k = longer h.last q in omega (arith, k);
 }
 
-pub none_more : (from now : Place) (qs : List RequestView) (n : ℕ) (health : Health) → HasRoom from now qs → n ≡ length qs → (q : RequestView) (behind all : List RequestView) → all ≡ qs ++ q ∷ behind → (new : Stand) → new ≡ now.stand → (rule : SubmitFault) → ((rule ≡ SubmitFault.Memory → ⊥) → refuses now.stand.rest.knows q ≡ Some rule) → (broken : Result (Unit {0}) Break) → (rule ≡ SubmitFault.Memory → broken ≡ Err break.Memory) → IsSeen broken health → SendsInParts from (place new now.given now.written) health all n broken
-none_more from now qs n health h c q behind all e new same rule first broken short seen =
+pub none_more : (from now : Place) (qs : List RequestView) (n : ℕ) (health : Health) → HasRoom from now qs → n ≡ length qs → (q : RequestView) (behind all : List RequestView) → all ≡ qs ++ q ∷ behind → (new : Stand) → new ≡ now.stand → (rule : SubmitFault) → ((rule ≡ SubmitFault.Memory → ⊥) → refuses now.stand.rest.knows q ≡ Some rule) → (rule ≡ SubmitFault.Memory → refuses_at_once now.stand.rest.knows q ≡ None) → (broken : Result (Unit {0}) Break) → broken ≡ short_of rule → IsSeen broken health → SendsInParts from (place new now.given now.written) health all n broken
+none_more from now qs n health h c q behind all e new same rule first needed broken told seen =
     subst (λ (z : Stand). SendsInParts from (place z now.given now.written) health all n broken) (sym same)
-    (stopped from now h.before h.last h.sent health q behind all n h.room (behind_parts all qs h.before h.last (q ∷ behind) e h.parts) (c ∙ ap length h.parts) rule first broken short seen)
+    (stopped from now h.before h.last h.sent health q behind all n h.room (behind_parts all qs h.before h.last (q ∷ behind) e h.parts) (c ∙ ap length h.parts) rule first needed broken told seen)
 
 pub all_sent : (from now to : Place) (qs : List RequestView) (n : ℕ) (health : Health) → SoAsked from now qs n → 0 < length qs → (r : Result (Unit {0}) Break) → Exchanges now to r → IsSeen r health → SendsInParts from to health qs n r
 all_sent from now to qs n health s l r x seen =

@@ -1,5 +1,5 @@
 -- Attempts so far, each over a connection of its own.
-use Rattle.std.proofs.Common.{◌≡◌, ◌<◌, ◌≤◌, ◌+◌, refl, sym, ◌∙◌, ap, subst, ℕ, suc, Bool, false, Option, Some, None, Result, List, [], ◌∷◌, ◌++◌, length, map, length-append, append_assoc, append-nil, inl, inr, ⊎_elim, Err, true≢false, arith}
+use Rattle.std.proofs.Common.{◌≡◌, ◌<◌, ◌≤◌, ◌+◌, refl, sym, ◌∙◌, ap, subst, ℕ, suc, Bool, false, Option, Some, None, Result, List, [], ◌∷◌, ◌++◌, length, map, length-append, append_assoc, append-nil, inl, inr, ⊎_elim, Ok, Err, true≢false, arith}
 use Rattle.std.proofs.lemmas.List.{map-append}
 use Rattle.client_tracking.specs.declared.attempts.Tells.{Tells}
 use Rattle.client_tracking.specs.declared.attempts.Retry.{Retry}
@@ -7,7 +7,7 @@ use Rattle.client_tracking.specs.declared.attempts.Fate.{Fate}
 use Rattle.client_tracking.specs.Attempts.{Made}
 use Rattle.client_tracking.specs.Fates.{fate_of}
 use Rattle.client_tracking.proofs.Fates.{SoFar, none_yet, one_more, known_by, used_up}
-use Rattle.streams.specs.Moving.{Grows, MovesFront}
+use Rattle.streams.specs.Moving.{Grows}
 use Rattle.wire.specs.declared.Wish.{Wish}
 use Rattle.wire.specs.declared.Wish.TheVariants.{Newest, Only}
 use Rattle.wire.specs.Prelude.{offer_of}
@@ -16,12 +16,12 @@ use Rattle.client_tracking.specs.Attempts.{read}
 use Rattle.driver.specs.declared.breaks.Break.{Break}
 use Rattle.driver.specs.declared.breaks.Break.TheVariants as break
 use Rattle.driver.proofs.Reading.{writes_or, write_seen}
-use Rattle.driver.specs.Prelude.{place, Exchanges, AskedView, Streams, Ending, at_first, IsWritten, gone, IsAttempt, NoneAsked, Attempts, Calls, made_at, tells_at, made_from, unmoved, IsTry, Tries, AreTries, IsKnown}
+use Rattle.driver.specs.Prelude.{place, Exchanges, AskedView, Streams, Ending, at_first, IsWritten, gone, IsAttempt, IsShort, NoneAsked, Attempts, Calls, made_at, tells_at, made_from, unmoved, IsTry, Tries, AreTries, IsKnown}
 
 -- an attempt over streams of which nothing was moved yet
 pub from_first : (a : AskedView) (conn : ℕ) (from to : Streams) (broken : Result (Unit {0}) Break) (m : Option Made) → from.given ≡ [] → from.written ≡ [] → Attempts a conn from to broken m → Attempts a conn unmoved to broken m
 from_first a conn from to broken None given written h =
-    ⊎_elim (λ p. inl (p.0, subst (λ (l : List ℕ). MovesFront l to.written (offer_of a.wish)) written p.1))
+    ⊎_elim (λ p. inl (p.0, short p.1))
     (λ p. inr (record {
       heard = p.heard;
       exchanged = subst (λ (l : List ℕ). Exchanges (place (at_first a.wish 0) [] l) (place p.heard to.given to.written) broken) written
@@ -30,6 +30,17 @@ from_first a conn from to broken None given written h =
       ends = p.ends;
     }))
     h
+  where
+    short : IsShort a from to → IsShort a unmoved to
+    short s =
+        ⊎_elim (λ m. inl (m.0 ∙ given, m.1 ∙ written))
+        (λ g. inr (record {
+          heard = g.heard;
+          exchanged = subst (λ (l : List ℕ). Exchanges (place (at_first a.wish 0) [] l) (place g.heard to.given to.written) (Ok tt)) written
+              (subst (λ (l : List ℕ). Exchanges (place (at_first a.wish 0) l from.written) (place g.heard to.given to.written) (Ok tt)) given g.exchanged);
+          is_open = g.is_open;
+        }))
+        s
 from_first a conn from to broken (Some m) given written h = record {
   sent = h.sent;
   seen = h.seen;
@@ -38,6 +49,7 @@ from_first a conn from to broken (Some m) given written h = record {
   unheard = h.unheard;
   took = subst (λ (l : List ℕ). Grows l to.given (m.attempt.took ++ h.unheard)) given h.took;
   ends = h.ends;
+  stops = h.stops;
 }
 
 offer_some : (wish : Wish) → offer_of wish ≡ [] → ⊥

@@ -22,15 +22,26 @@ use Rattle.client_tracking.proofs.Accounts.{accounts_by_bytes, run_by_bytes}
 use Rattle.client_tracking.proofs.Joined.{account_tells}
 use Rattle.driver.specs.declared.breaks.Break.{Break}
 use Rattle.driver.specs.declared.breaks.Break.TheVariants as break
-use Rattle.driver.specs.Prelude.{Stand, GoesOn, Leads, EndsBy, lost_stand, Place, place, Health, is_short, IsSeen, Exchanges, is_done, IsWritten, is_whole, gone, is_answered, IsQuiet, SendsInParts, WhyLeft, AskedView, requests_of, asks_of, greeting, Streams, streams, at_first, has_ended, TellsOf}
+use Rattle.driver.specs.Prelude.{Stand, stand_in, GoesOn, Leads, EndsBy, lost_stand, Place, place, Health, Hears, Stops, is_short, IsSeen, Exchanges, is_done, IsWritten, is_whole, gone, is_answered, IsQuiet, IsRefused, SendsInParts, WhyLeft, AskedView, requests_of, asks_of, greeting, Streams, streams, at_first, has_ended, AttemptStops, IsShort, TellsOf}
 use Rattle.driver.proofs.Leading.{leads_on, leads_lost}
-use Rattle.driver.proofs.Reading.{none_unheard, writes_front, Led, exchange_led}
+use Rattle.driver.proofs.Stopping.{stops_by_bytes}
+use Rattle.driver.proofs.Reading.{none_unheard, Led, exchange_led}
 use Rattle.driver.proofs.Parting.{answered_done, losses_replies, exchanged_told}
 use Rattle.driver.proofs.Keeping.{exchange_empties}
 
--- memory was short, and nothing went out but the offer
-pub none_short : (a : AskedView) (from to : Streams) → MovesFront from.written to.written (offer_of a.wish) → TellsOf a from to tells_variant.Nothing (Err break.Memory)
-none_short a from to front = (None, refl, λ conn. inl (refl, front))
+-- memory ran out before the first request
+pub none_short : (a : AskedView) (from to : Streams) → IsShort a from to → TellsOf a from to tells_variant.Nothing (Err break.Memory)
+none_short a from to short = (None, refl, λ conn. inl (refl, short))
+
+-- the exchange of the offer led to a version
+pub agreed : (a : AskedView) (from to : Place) (health health_then : Health) (broken : Result (Unit {0}) Break) → from.stand ≡ at_first a.wish 0 → Exchanges from to broken → broken ≡ Ok tt → to.stand.rest.knows.over ≡ false → IsShort a (streams from.given from.written health) (streams to.given to.written health_then)
+agreed a from to health health_then broken start x ok is_open =
+    inr (record {
+      heard = to.stand;
+      exchanged = subst (λ (r : Result (Unit {0}) Break). Exchanges (place (at_first a.wish 0) from.given from.written) (place to.stand to.given to.written) r) ok
+          (subst (λ (s : Stand). Exchanges (place s from.given from.written) (place to.stand to.given to.written) broken) start x);
+      is_open = is_open;
+    })
 
 -- the exchange of the offer led to no version
 pub none_begun : (a : AskedView) (from to : Place) (health health_then : Health) (broken : Result (Unit {0}) Break) → from.stand ≡ at_first a.wish 0 → Exchanges from to broken → IsSeen broken health_then → (broken ≡ Ok tt → to.stand.rest.knows.over ≡ true)
@@ -45,9 +56,6 @@ none_begun a from to health health_then broken start x seen ends = (
     ends = ends;
   }),
 )
-
-pub offer_front : (wish : Wish) (from to : Place) (r : Result (Unit {0}) Break) → Exchanges from to r → from.stand ≡ at_first wish 0 → MovesFront from.written to.written (offer_of wish)
-offer_front wish from to r x e = subst (λ (s : Stand). MovesFront from.written to.written s.rest.unsent) e (writes_front from.stand.rest.unsent r from.written to.written x.converses.writes)
 
 last_of : (xs : List RequestView) (y : RequestView) → slice_get (xs ++ y ∷ []) (length xs) ≡ Some y
 last_of [] y = refl
@@ -70,7 +78,7 @@ pub heard_quiet : (wish : Wish) (from heard : Place) (r : Result (Unit {0}) Brea
 heard_quiet wish from heard r y e start =
     let x : Exchanges from heard (Ok tt) = subst (λ (z : Result (Unit {0}) Break). Exchanges from heard z) e y in
     record {
-      waits = ap (λ (s : Stand). s.rest.knows.waiting) x.settles ∙ x.converses.ends.1;
+      waits = ap (λ (s : Stand). s.rest.knows.waiting) x.settles ∙ x.converses.stops.0.1;
       unsent = exchange_empties from heard (Ok tt) x;
       lost = exchanged_told from heard x ∙ ap (λ (s : Stand). s.account.lost) start;
     }
@@ -201,6 +209,23 @@ module _ (a : AskedView) (login : Bool) (from heard done : Place) (start : from.
       inr (sym (ap (λ (z : Knows). z.over) (by ∙ same)) ∙ over))
       (s.ends k)
 
+  -- why the last exchange stopped, by the bytes
+  stopped : IsRefused (stand_in (tracked_calls (tracking a.wish 0) (one.calls ++ s.calls))) s.later broken ⊎ AttemptStops broken (attempt_of a.wish run.run) s.unheard
+  stopped =
+      ⊎_elim
+      (λ q. inl (subst (λ (z : Stand). IsRefused z s.later broken) (sym ((leads_on one.calls s.calls one.leads s.leads) (tracking a.wish 0) (sym start)).stands) q))
+      (λ p.
+      let cs = one.calls ++ p.calls in
+      let y : TrackedRun = tracked_calls (tracking a.wish 0) cs in
+      let h : GoesOn (tracking a.wish 0) y p.start ([] ++ sent) (one.heard ++ p.earlier) (offer ++ s.out) (one.lost || false) = leads_on one.calls p.calls one.leads p.leads (tracking a.wish 0) (sym start) in
+      let unlost : y.run.lost ≡ false = h.lose ∙ ap (λ b. b || false) one.unlost in
+      let took_then : y.run.took ++ p.last ≡ run.run.took = ap (λ l. l ++ p.last) h.took ∙ append_assoc one.heard p.earlier p.last ∙ ap (λ l. one.heard ++ l) (sym p.parts) ∙ sym took in
+      let stops = stops_by_bytes a.wish cs unlost (ap (λ (z : Stand). z.rest.knows.over) h.stands ∙ p.is_open) p.at p.last s.unheard (subst (λ (z : Stand). Hears z p.at p.last) (sym h.stands) p.hears) run.run.lost broken
+      (subst (λ (z : Stand). Stops broken z p.at p.last s.unheard) (sym h.stands) p.stops) in
+      inr (subst (λ bytes. AttemptStops broken (record { wish = a.wish; sent = run.run.sent; took = bytes; lost = run.run.lost }) s.unheard) took_then
+      (subst (λ qs. AttemptStops broken (record { wish = a.wish; sent = qs; took = y.run.took ++ p.last; lost = run.run.lost }) s.unheard) (h.sent ∙ sym sent_is) stops)))
+      s.stops
+
   pub attempted : TellsOf a (streams from.given from.written had) (streams done.given done.written health) told broken
   attempted = (
     Some (calls, commit),
@@ -233,6 +258,7 @@ module _ (a : AskedView) (login : Bool) (from heard done : Place) (start : from.
       unheard = s.unheard;
       took = subst (λ l. Grows from.given done.given (l ++ s.unheard)) (sym took) input;
       ends = ended;
+      stops = stopped;
     },
   )
 

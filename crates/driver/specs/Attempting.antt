@@ -2,14 +2,15 @@
 use Rattle.std.specs.Prelude.{◌≡◌, ◌⊎◌, ℕ, ◌*◌, ◌<◌, ◌≤◌, Bool, true, false, ◌||◌, Option, Some, None, Result, Ok, Err, List, [], ◌∷◌, ◌++◌, length, map, slice_get, string_bytes}
 use Rattle.streams.specs.Moving.{Grows}
 use Rattle.wire.specs.declared.Wish.{Wish}
-use Rattle.wire.specs.Offers.{offer_of}
+use Rattle.wire.specs.Framing.{at_client}
+use Rattle.wire.specs.Reader.{state}
 use Rattle.messages.specs.declared.Mode.{Mode}
 use Rattle.messages.specs.declared.Count.TheVariants as count
 use Rattle.messages.specs.View.{AuthView, auth_view, RequestView}
 use Rattle.machine.specs.Limits.{max_waiting}
-use Rattle.client.specs.Rest.{begun}
+use Rattle.client.specs.Client.{knows_of}
+use Rattle.client.specs.Rest.{Knows, begun, awaits}
 use Rattle.client.specs.Moments.{put_out}
-use Rattle.streams.specs.Moving.{MovesFront}
 use Rattle.client_tracking.specs.declared.attempts.Tells.{Tells}
 use Rattle.client_tracking.specs.Account.{failure_of, untold}
 use Rattle.client_tracking.specs.Attempts.{Attempt, Made, read, told_of, tells_in}
@@ -20,8 +21,9 @@ use Rattle.driver.specs.declared.breaks.Break.{Break}
 use Rattle.driver.specs.declared.breaks.Break.TheVariants as break
 use Rattle.driver.specs.Pipelines.{is_done}
 use Rattle.driver.specs.Stands.{Stand, stand_in, place, Health}
+use Rattle.driver.specs.Reasons.{NeedsMemory}
 use Rattle.driver.specs.Exchanges.{is_short, IsSeen, Exchanges}
-use Rattle.driver.specs.Parts.{IsWritten, WhyLeft, gone}
+use Rattle.driver.specs.Parts.{IsWritten, IsRefused, WhyLeft, gone}
 use Rattle.driver.specs.Requests.{QueryView, query_view, within, greeting}
 
 -- the versions, the login, the transaction and the token of each attempt
@@ -120,6 +122,32 @@ at_first wish limit = record { rest = begun wish; account = untold limit }
 abbrev pub has_ended : Attempt → Bool
 has_ended t = (read t).ended || (read t).bad
 
+-- the knowledge of an attempt's client when the last exchange stopped: by the bytes that it took, before it was lost
+abbrev pub known_at_end : Attempt → Knows
+known_at_end t = knows_of (read t) t.sent false
+
+-- Why the last exchange of an attempt stopped, by the bytes that its client took. unheard: the bytes that were read and that it didn't take.
+abbrev pub AttemptStops : Result (Unit {0}) Break → Attempt → List ℕ → Type 0
+-- all was answered: no answer is awaited, and no request is pending; no message was bad
+AttemptStops (Ok u) t unheard =
+    (awaits (known_at_end t) ≡ false) × (((known_at_end t).waiting ≡ []) × ((read t).bad ≡ false))
+-- an answer is awaited, and the client took all bytes; `IsSeen` says that the source failed
+AttemptStops (Err break.ReadFailed) t unheard = (awaits (known_at_end t) ≡ true) × (unheard ≡ [])
+-- the client took all bytes and hasn't ended; `IsSeen` says that the sink failed
+AttemptStops (Err break.WriteFailed) t unheard = ((known_at_end t).over ≡ false) × (unheard ≡ [])
+-- bytes are left for which the client needs memory
+AttemptStops (Err break.Memory) t unheard =
+    NeedsMemory (known_at_end t) (state at_client at_client.start t.took) unheard
+-- the bytes end with a message that the client refuses
+AttemptStops (Err break.BadAnswer) t unheard = (read t).bad ≡ true
+-- an answer is awaited, and the client took all bytes; `IsSeen` says that the source reached its end
+AttemptStops (Err break.AtEnd) t unheard = (awaits (known_at_end t) ≡ true) × (unheard ≡ [])
+-- a request is pending, but no answer is awaited: the client has ended; no message was bad
+AttemptStops (Err break.Ended) t unheard =
+    (awaits (known_at_end t) ≡ false) × ((0 < length (known_at_end t).waiting) × ((read t).bad ≡ false))
+-- an attempt keeps no rows, so it has no limit of rows
+AttemptStops (Err break.TooManyRows) t unheard = ⊥
+
 -- The bytes of the offer were written, and those of the requests that went out: all that were accepted, unless the last part is incomplete. They
 -- are what the client put out. The bytes that the client took and those that it didn't are all that the source gave meanwhile. It took all, up to
 -- its end, unless memory ran out or there are more rows than the limit.
@@ -132,6 +160,8 @@ pub record IsAttempt (a : AskedView) (conn : ℕ) (from to : Streams) (broken : 
   pub unheard : List ℕ
   pub took : Grows from.given to.given (m.attempt.took ++ unheard)
   pub ends : is_short broken ≡ false → (unheard ≡ []) ⊎ (has_ended m.attempt ≡ true)
+  -- the first request that is left isn't accepted, or the last exchange stopped
+  pub stops : IsRefused (stand_in (run_by a.wish sent.asked)) sent.later broken ⊎ AttemptStops broken m.attempt unheard
 
 -- The exchange of the offer was broken off, or no version was agreed on.
 pub record IsTurnedAway (a : AskedView) (from to : Streams) (broken : Result (Unit {0}) Break) : Type 0 where
@@ -140,10 +170,20 @@ pub record IsTurnedAway (a : AskedView) (from to : Streams) (broken : Result (Un
   pub seen : IsSeen broken to.health
   pub ends : broken ≡ Ok tt → heard.rest.knows.over ≡ true
 
--- Why no request was submitted: memory ran out, and only the offer went out; or the exchange of the offer allowed none.
+-- The exchange of the offer led to a version, and the client hasn't ended.
+pub record IsAgreed (a : AskedView) (from to : Streams) : Type 0 where
+  pub heard : Stand
+  pub exchanged : Exchanges (place (at_first a.wish 0) from.given from.written) (place heard to.given to.written) (Ok tt)
+  pub is_open : heard.rest.knows.over ≡ false
+
+-- Memory ran out before the first request: for the client, and nothing was moved; or for the requests, after a version was agreed on.
+abbrev pub IsShort : AskedView → Streams → Streams → Type 0
+IsShort a from to = ((to.given ≡ from.given) × (to.written ≡ from.written)) ⊎ IsAgreed a from to
+
+-- Why no request was submitted: memory ran out; or the exchange of the offer allowed none.
 abbrev pub NoneAsked : AskedView → Streams → Streams → Result (Unit {0}) Break → Type 0
 NoneAsked a from to broken =
-    ((broken ≡ Err break.Memory) × MovesFront from.written to.written (offer_of a.wish)) ⊎ IsTurnedAway a from to broken
+    ((broken ≡ Err break.Memory) × IsShort a from to) ⊎ IsTurnedAway a from to broken
 
 -- An attempt was made; or none was, for this reason.
 abbrev pub Attempts : AskedView → ℕ → Streams → Streams → Result (Unit {0}) Break → Option Made → Type 0

@@ -1,19 +1,13 @@
 -- The bytes of a tracking client that are written, and the bytes that it is fed.
 use Rattle.std.specs.Prelude.{◌≡◌, ◌⊎◌, ℕ, Bool, true, false, Result, Ok, Err, List, [], ◌++◌, map}
 use Rattle.streams.specs.Moving.{Grows}
-use Rattle.client.specs.Rest.{awaits}
 use Rattle.streams.specs.Moving.{MovesFront}
 use Rattle.client_tracking.specs.declared.faults.FeedFault.{FeedFault}
 use Rattle.client_tracking.specs.declared.faults.FeedFault.TheVariants as feed_fault
-use Rattle.client_tracking.specs.Runs.{Hears as HearsPiece}
 use Rattle.driver.specs.declared.breaks.Break.{Break}
 use Rattle.driver.specs.declared.breaks.Break.TheVariants as break
-use Rattle.driver.specs.Stands.{Stand, Leads, lost_stand, emptied_stand, Place, place, Health}
-
--- Pieces were fed, and the client took these bytes of them.
-pub record Hears (from to : Stand) (bytes : List ℕ) : Type 0 where
-  pub pieces : List (List ℕ)
-  pub leads : Leads from (map HearsPiece pieces) to [] bytes [] false
+use Rattle.driver.specs.Stands.{Stand, lost_stand, emptied_stand, Place, place, Health}
+use Rattle.driver.specs.Reasons.{Hears, WhyUnfed, Stops}
 
 -- the client took all bytes, or it has ended
 abbrev pub IsWhole : List ℕ → Stand → Type 0
@@ -52,6 +46,7 @@ pub record Feeds (from to : Stand) (piece : List ℕ) (result : Result (Unit {0}
   pub parts : piece ≡ heard ++ unheard
   pub hears : Hears from to heard
   pub whole : is_short result ≡ false → IsWhole unheard to
+  pub why : WhyUnfed result from to heard unheard
 
 -- Bytes were read. All were fed, or those up to the client's end; or less, if memory ran out or there are more rows than the limit.
 pub record ReadsOn (from to : Stand) (given given_now : List ℕ)
@@ -61,6 +56,7 @@ pub record ReadsOn (from to : Stand) (given given_now : List ℕ)
   pub input : Grows given given_now (heard ++ unheard)
   pub hears : Hears from to heard
   pub whole : is_short result ≡ false → IsWhole unheard to
+  pub why : WhyUnfed result from to heard unheard
 
 -- All output was written, or a prefix of it if the sink failed.
 abbrev pub Writes : List ℕ → Result (Unit {0}) Break → List ℕ → List ℕ → Type 0
@@ -72,11 +68,6 @@ abbrev pub PutsOut : Stand → Stand → List ℕ → List ℕ → Result (Unit 
 PutsOut from to before after result =
     Writes from.rest.unsent result before after × (to ≡ emptied_stand from)
 
--- Without a break all was answered: no answer is awaited, and no request is pending.
-abbrev pub Ends : Result (Unit {0}) Break → Stand → Type 0
-Ends (Ok u) to = (awaits to.rest.knows ≡ false) × (to.rest.knows.waiting ≡ [])
-Ends (Err e) to = Unit {0}
-
 -- if it broke off, the client is lost
 abbrev pub after_exchange : Result (Unit {0}) Break → Stand → Stand
 after_exchange (Ok u) s = s
@@ -87,7 +78,7 @@ after_exchange (Err e) s = lost_stand s
 pub record Converses (from to : Place) (result : Result (Unit {0}) Break) : Type 0 where
   pub writes : Writes from.stand.rest.unsent result from.written to.written
   pub reads : ReadsOn (emptied_stand from.stand) to.stand from.given to.given result
-  pub ends : Ends result to.stand
+  pub stops : Stops result (emptied_stand from.stand) to.stand reads.heard reads.unheard
 
 -- An exchange as `Converses` has it, after which the client is lost if it broke off.
 pub record Exchanges (from to : Place) (result : Result (Unit {0}) Break) : Type 0 where

@@ -1,4 +1,5 @@
 pub mod Stands
+pub mod Reasons
 pub mod Exchanges
 pub mod Pipelines
 pub mod Parts

@@ -5,13 +5,15 @@ use Rattle.wire.specs.Framing.{bytes_in_order}
 use Rattle.messages.specs.View.{RequestView}
 use Rattle.machine.specs.Limits.{max_waiting}
 use Rattle.client.specs.declared.SubmitFault.{SubmitFault}
-use Rattle.client.specs.Rest.{refuses, asking_bytes}
+use Rattle.client.specs.declared.SubmitFault.TheVariants as submit_fault
+use Rattle.client.specs.Rest.{refuses, refuses_at_once, asking_bytes}
 use Rattle.streams.specs.Moving.{MovesFront}
 use Rattle.client_tracking.specs.Account.{Account, reply_in, outcome_of}
 use Rattle.client_tracking.specs.Runs.{TrackedCall}
 use Rattle.driver.specs.declared.breaks.Break.{Break}
 use Rattle.driver.specs.declared.breaks.Break.TheVariants as break
 use Rattle.driver.specs.Stands.{Stand, Leads, EndsBy, lost_stand, Place, Health}
+use Rattle.driver.specs.Reasons.{StopsBy}
 use Rattle.driver.specs.Exchanges.{is_short, IsSeen, Exchanges}
 use Rattle.driver.specs.Pipelines.{is_done, first_undone}
 
@@ -59,14 +61,21 @@ MakesRoom from to health asked room broken =
     ⊎ ((max_waiting ≤ length from.stand.rest.knows.waiting)
     × SendsPart from to health (asked - max_waiting) max_waiting room broken)
 
--- Why the first of these requests wasn't accepted. If memory ran out, that is reported.
+-- the reason that is reported if a request isn't accepted by this rule: only a lack of memory breaks off the attempt
+abbrev pub short_of : SubmitFault → Result (Unit {0}) Break
+short_of submit_fault.Memory = Err break.Memory
+short_of rule = Ok tt
+
+-- Why the first of these requests wasn't accepted, and what is reported of it.
 pub record IsRefused (s : Stand) (later : List RequestView) (broken : Result (Unit {0}) Break) : Type 0 where
   pub request : RequestView
   pub behind : List RequestView
   pub parts : later ≡ request ∷ behind
   pub rule : SubmitFault
   pub first : (rule ≡ SubmitFault.Memory → ⊥) → refuses s.rest.knows request ≡ Some rule
-  pub short : rule ≡ SubmitFault.Memory → broken ≡ Err break.Memory
+  -- memory is needed only for a request that the client would write
+  pub needed : rule ≡ SubmitFault.Memory → refuses_at_once s.rest.knows request ≡ None
+  pub told : broken ≡ short_of rule
 
 -- Why requests are left that weren't submitted: the first of them isn't accepted; or the part before them was sent and isn't done. broken: the
 -- reported reason.
@@ -74,9 +83,9 @@ abbrev pub WhyLeft : Stand → List RequestView → List RequestView → List Re
 WhyLeft to before last later broken = (later ≡ []) ⊎ (IsRefused to later broken
     ⊎ ((length last ≡ max_waiting) × IsUndone broken to (length before) max_waiting))
 
--- So many of the requests were accepted. Those of whole parts were done before the part behind them was asked; what is left wasn't asked.
--- broken: why the last exchange was broken off, or want of memory for a request. All that was read was heard, up to the client's end, unless
--- memory or room for rows was short.
+-- So many of the requests were accepted. Those of complete parts were done before the next part was submitted; the others weren't submitted.
+-- broken: why the last exchange was broken off, or that memory ran out for a request. The client took all that was read, up to its end, unless
+-- memory ran out or there are more rows than the limit.
 pub record SendsInParts (from to : Place) (health : Health) (all : List RequestView) (n : ℕ) (broken : Result (Unit {0}) Break) : Type 0 where
   pub before : List RequestView
   pub last : List RequestView
@@ -97,6 +106,8 @@ pub record SendsInParts (from to : Place) (health : Health) (all : List RequestV
   pub leads : Leads from.stand calls to.stand (before ++ last) heard out lost
   pub input : Grows from.given to.given (heard ++ unheard)
   pub ends : is_short broken ≡ false → (unheard ≡ []) ⊎ EndsBy from.stand (before ++ last) heard out
+  -- the first request that is left isn't accepted, or the last exchange stopped
+  pub stops : IsRefused to.stand later broken ⊎ StopsBy from.stand (before ++ last) heard out unheard broken
   pub written : IsWritten from.written to.written health.write_failed out
   pub unsent : to.stand.rest.unsent ≡ (if is_whole last later then []
       else bytes_in_order (asking_bytes to.stand.rest.knows.version) last)

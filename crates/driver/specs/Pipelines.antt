@@ -11,8 +11,8 @@ use Rattle.client_tracking.specs.Feeding.{is_idle}
 use Rattle.driver.specs.declared.breaks.Break.{Break}
 use Rattle.driver.specs.declared.faults.Fault.{Fault}
 use Rattle.driver.specs.declared.faults.Fault.TheVariants as fault
-use Rattle.driver.specs.Stands.{Stand, lost_stand, Place, place}
-use Rattle.driver.specs.Exchanges.{Exchanges}
+use Rattle.driver.specs.Stands.{Stand, lost_stand, Place, place, Health}
+use Rattle.driver.specs.Exchanges.{IsSeen, Exchanges}
 
 -- once a request is accepted
 abbrev pub asked_stand : Stand → RequestView → Stand
@@ -104,3 +104,8 @@ Says from to qs result = Sent from to qs result
 abbrev pub WhenNotSent : {A : Type 0} → Result A Fault → Type 0 → Type 0
 WhenNotSent (Err (fault.NotSent rule)) So = So
 WhenNotSent result So = Unit {0}
+
+-- a fault that blames a stream is true of that stream
+abbrev pub Blames : {A : Type 0} → Result A Fault → Health → Type 0
+Blames (Err (fault.Broken (Some why))) h = IsSeen (Err why) h
+Blames result h = Unit {0}

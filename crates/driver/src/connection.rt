@@ -4,9 +4,9 @@ ghost use Rattle.messages.specs.View.{RequestView, request_view, auth_view, toke
 ghost use Rattle.client.specs.Rest.{begun, next_ordinal};
 ghost use Rattle.client_tracking.specs.Account.{untold};
 ghost use Rattle.client_tracking.specs.Asking.{rows_view, is_login_in_hello};
-ghost use Rattle.driver.specs.Stands.{stand_of, place};
+ghost use Rattle.driver.specs.Stands.{stand_of, place, health};
 ghost use Rattle.driver.specs.Opening.{Opens};
-ghost use Rattle.driver.specs.Pipelines.{Says, WhenNotSent};
+ghost use Rattle.driver.specs.Pipelines.{Says, WhenNotSent, Blames};
 ghost use Rattle.driver.specs.Requests.{query_view, query_run, within, greeting};
 
 use crate::exchanging::exchange;
@@ -62,10 +62,12 @@ impl<S: Source + Drop, T: Sink + Drop> Connection<S, T> {
 
     /// Offers the versions, hears which is taken, and logs in by its greeting: HELLO, with the login below 5.1, and LOGON behind it at 5.1.
     pub fn open(&mut self, agent: String, auth: Auth) -> Result<(), Fault>
-        ensures { Opens
+        ensures opens { Opens
             (place (stand_of self.old.tracking) (S.given self.old.source) (T.put self.old.sink))
             (place (stand_of self.new.tracking) (S.given self.new.source) (T.put self.new.sink))
             (string_bytes agent) (auth_view auth) result }
+        ensures blames { Blames result (health (S.has_ended self.new.source)
+            (S.has_failed self.new.source) (T.has_failed self.new.sink)) }
     {
         match exchange(&mut self.tracking, &mut self.source, &mut self.sink) {
             Ok(()) => self.greet(agent, auth),
@@ -75,11 +77,13 @@ impl<S: Source + Drop, T: Sink + Drop> Connection<S, T> {
 
     /// Greets by the version that is known.
     fn greet(&mut self, agent: String, auth: Auth) -> Result<(), Fault>
-        ensures { Says
+        ensures says { Says
             (place (stand_of self.old.tracking) (S.given self.old.source) (T.put self.old.sink))
             (place (stand_of self.new.tracking) (S.given self.new.source) (T.put self.new.sink))
             (greeting (is_login_in_hello (stand_of self.old.tracking).rest.knows.version)
             (string_bytes agent) (auth_view auth)) result }
+        ensures blames { Blames result (health (S.has_ended self.new.source)
+            (S.has_failed self.new.source) (T.has_failed self.new.sink)) }
     {
         let has_login = is_login_in_hello(self.tracking.version());
         let Ok((hello, others)) = greeting(self.alloc, has_login, agent, auth) else {
@@ -102,6 +106,8 @@ impl<S: Source + Drop, T: Sink + Drop> Connection<S, T> {
         ensures short { IfOk result (λ n. n < 2 ^ 63) }
         ensures unsent { WhenNotSent result
             ((self.new.sink ≡ self.old.sink) × (self.new.source ≡ self.old.source)) }
+        ensures blames { Blames result (health (S.has_ended self.new.source)
+            (S.has_failed self.new.source) (T.has_failed self.new.sink)) }
     {
         say(
             &mut self.tracking,
@@ -120,6 +126,8 @@ impl<S: Source + Drop, T: Sink + Drop> Connection<S, T> {
             (place (stand_of self.new.tracking) (S.given self.new.source) (T.put self.new.sink))
             (request_view request ∷ []) result }
         ensures ordinal { IfOk result (λ n. n ≡ next_ordinal (stand_of self.old.tracking).rest) }
+        ensures blames { Blames result (health (S.has_ended self.new.source)
+            (S.has_failed self.new.source) (T.has_failed self.new.sink)) }
     {
         self.ask(request, Vec::new(self.alloc))
     }
@@ -132,6 +140,8 @@ impl<S: Source + Drop, T: Sink + Drop> Connection<S, T> {
             (query_run mode (query_view query.now) ∷ rows_view rows ∷ []) result }
         ensures answer { IfOk result (λ a. (a.run ≡ next_ordinal (stand_of self.old.tracking).rest)
             × (a.rows ≡ next_ordinal (stand_of self.old.tracking).rest + 1)) }
+        ensures blames { Blames result (health (S.has_ended self.new.source)
+            (S.has_failed self.new.source) (T.has_failed self.new.sink)) }
     {
         let Ok((run, others)) = running(self.alloc, query, mode, rows) else {
             return Err(unasked(&mut self.tracking));
@@ -147,6 +157,8 @@ impl<S: Source + Drop, T: Sink + Drop> Connection<S, T> {
             (place (stand_of self.new.tracking) (S.given self.new.source) (T.put self.new.sink))
             (rows_view rows ∷ []) result }
         ensures ordinal { IfOk result (λ n. n ≡ next_ordinal (stand_of self.old.tracking).rest) }
+        ensures blames { Blames result (health (S.has_ended self.new.source)
+            (S.has_failed self.new.source) (T.has_failed self.new.sink)) }
     {
         self.ask_one(rows_request(rows))
     }
@@ -158,6 +170,8 @@ impl<S: Source + Drop, T: Sink + Drop> Connection<S, T> {
             (place (stand_of self.new.tracking) (S.given self.new.source) (T.put self.new.sink))
             (RequestView.Begin mode (token_view token) ∷ []) result }
         ensures ordinal { IfOk result (λ n. n ≡ next_ordinal (stand_of self.old.tracking).rest) }
+        ensures blames { Blames result (health (S.has_ended self.new.source)
+            (S.has_failed self.new.source) (T.has_failed self.new.sink)) }
     {
         self.ask_one(Request::Begin { mode, token })
     }
@@ -169,6 +183,8 @@ impl<S: Source + Drop, T: Sink + Drop> Connection<S, T> {
             (place (stand_of self.new.tracking) (S.given self.new.source) (T.put self.new.sink))
             (RequestView.Commit ∷ []) result }
         ensures ordinal { IfOk result (λ n. n ≡ next_ordinal (stand_of self.old.tracking).rest) }
+        ensures blames { Blames result (health (S.has_ended self.new.source)
+            (S.has_failed self.new.source) (T.has_failed self.new.sink)) }
     {
         self.ask_one(Request::Commit)
     }
@@ -180,6 +196,8 @@ impl<S: Source + Drop, T: Sink + Drop> Connection<S, T> {
             (place (stand_of self.new.tracking) (S.given self.new.source) (T.put self.new.sink))
             (RequestView.Rollback ∷ []) result }
         ensures ordinal { IfOk result (λ n. n ≡ next_ordinal (stand_of self.old.tracking).rest) }
+        ensures blames { Blames result (health (S.has_ended self.new.source)
+            (S.has_failed self.new.source) (T.has_failed self.new.sink)) }
     {
         self.ask_one(Request::Rollback)
     }
@@ -191,6 +209,8 @@ impl<S: Source + Drop, T: Sink + Drop> Connection<S, T> {
             (place (stand_of self.new.tracking) (S.given self.new.source) (T.put self.new.sink))
             (RequestView.Reset ∷ []) result }
         ensures ordinal { IfOk result (λ n. n ≡ next_ordinal (stand_of self.old.tracking).rest) }
+        ensures blames { Blames result (health (S.has_ended self.new.source)
+            (S.has_failed self.new.source) (T.has_failed self.new.sink)) }
     {
         self.ask_one(Request::Reset)
     }
@@ -210,6 +230,8 @@ impl<S: Source + Drop, T: Sink + Drop> Connection<S, T> {
             (RequestView.Begin mode (token_view token)
             ∷ within mode (rows_view rows) (map query_view queries.now)) result }
         ensures ordinal { IfOk result (λ n. n ≡ next_ordinal (stand_of self.old.tracking).rest) }
+        ensures blames { Blames result (health (S.has_ended self.new.source)
+            (S.has_failed self.new.source) (T.has_failed self.new.sink)) }
     {
         let Ok((begin, others)) = transaction(self.alloc, mode, token, queries, rows) else {
             return Err(unasked(&mut self.tracking));

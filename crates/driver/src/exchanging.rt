@@ -1,9 +1,10 @@
 //! Writes all pending bytes, and reads all answers.
-ghost use Rattle.std.specs.Prelude.{◌≡◌, ◌<◌, true, IsErrOf, OnOk, length};
+ghost use Rattle.std.specs.Prelude.{◌≡◌, ◌<◌, true, IfErr, IsErrOf, OnOk, length};
 ghost use Rattle.std.specs.Io.KnownBytes.{IsAtEnd};
 ghost use Rattle.streams.specs.Failing.{StaysSound, UnlessTold};
 ghost use Rattle.driver.specs.Stands.{stand_of, place};
-ghost use Rattle.driver.specs.Exchanges.{break_by, Feeds, ReadsOn, PutsOut, Ends, Converses, Exchanges};
+ghost use Rattle.driver.specs.Reasons.{Ends};
+ghost use Rattle.driver.specs.Exchanges.{break_by, Feeds, ReadsOn, PutsOut, Converses, Exchanges};
 
 use crate::breaks::Break;
 use client_tracking::{FeedFault, TrackingClient};
@@ -28,6 +29,7 @@ fn feed_piece(tracking: &mut TrackingClient, piece: &[u8]) -> Result<(), Break>
     ensures read { IsErrOf result Break.ReadFailed → ⊥ }
     ensures written { IsErrOf result Break.WriteFailed → ⊥ }
     ensures end { IsErrOf result Break.AtEnd → ⊥ }
+    ensures open { IsErrOf result Break.Ended → ⊥ }
 {
     let mut rest = piece;
     while !rest.is_empty() {
@@ -61,6 +63,10 @@ fn read_piece<I: Source>(
         (StaysSound (I.has_failed source.old) (I.has_failed source.new)) }
     ensures stays { I.has_failed source.old ≡ true → I.has_failed source.new ≡ true }
     ensures written { IsErrOf result Break.WriteFailed → ⊥ }
+    ensures open { IsErrOf result Break.Ended → ⊥ }
+    // Without a piece nothing was fed.
+    ensures unread { IsErrOf result Break.ReadFailed → stand_of tracking.new ≡ stand_of tracking.old }
+    ensures unfed { IsErrOf result Break.AtEnd → stand_of tracking.new ≡ stand_of tracking.old }
     ensures lowers { OnOk result (I.reads source.new < I.reads source.old) }
 {
     let Ok(len) = source.read(buffer) else {
@@ -99,6 +105,7 @@ fn read_on<I: Source>(tracking: &mut TrackingClient, source: &mut I) -> Result<(
 fn write_out<O: Sink>(tracking: &mut TrackingClient, sink: &mut O) -> Result<(), Break>
     ensures out { PutsOut (stand_of tracking.old) (stand_of tracking.new) (O.put sink.old)
         (O.put sink.new) result }
+    ensures only { IfErr result (λ e. e ≡ Break.WriteFailed) }
     ensures written { IsErrOf result Break.WriteFailed → O.has_failed sink.new ≡ true }
     ensures sound { UnlessTold result Break.WriteFailed
         (StaysSound (O.has_failed sink.old) (O.has_failed sink.new)) }

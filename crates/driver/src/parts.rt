@@ -1,9 +1,9 @@
 //! Sends requests in parts, each part as one pipeline.
-ghost use Rattle.std.specs.Prelude.{◌≡◌, ◌<◌, ◌≤◌, ◌^◌, ◌+◌, Err, length, map};
+ghost use Rattle.std.specs.Prelude.{◌≡◌, ◌<◌, ◌≤◌, ◌^◌, ◌+◌, length, map};
 ghost use Rattle.messages.specs.View.{request_view};
 ghost use Rattle.driver.specs.Stands.{stand_of, place, Health, health};
 ghost use Rattle.driver.specs.Exchanges.{IsSeen};
-ghost use Rattle.driver.specs.Parts.{IsQuiet, SendsPart, MakesRoom, SendsInParts};
+ghost use Rattle.driver.specs.Parts.{IsQuiet, SendsPart, MakesRoom, short_of, SendsInParts};
 
 use crate::breaks::Break;
 use crate::exchanging::exchange;
@@ -77,7 +77,7 @@ fn makes_room<I: Source, O: Sink>(
 
 /// Returns `Memory` if a request was refused because memory ran out.
 fn short_by(rule: SubmitFault) -> Result<(), Break>
-    ensures memory { rule ≡ SubmitFault.Memory → result ≡ Err Break.Memory }
+    ensures short { result ≡ short_of rule }
     ensures blameless { (h : Health) → IsSeen result h }
 {
     match rule {

@@ -5,8 +5,8 @@ ghost use Rattle.messages.specs.View.{request_view};
 ghost use Rattle.client.specs.Rest.{next_ordinal};
 ghost use Rattle.client_tracking.specs.Account.{outcome_of};
 ghost use Rattle.client_tracking.specs.Holding.{account_of};
-ghost use Rattle.driver.specs.Stands.{stand_of, place};
-ghost use Rattle.driver.specs.Pipelines.{AsksAll, is_done, or_undone, first_undone, Told, fresh, given_up, Says, WhenNotSent};
+ghost use Rattle.driver.specs.Stands.{stand_of, place, health};
+ghost use Rattle.driver.specs.Pipelines.{AsksAll, is_done, or_undone, first_undone, Told, fresh, given_up, Says, WhenNotSent, Blames};
 
 use crate::breaks::Break;
 use crate::exchanging::exchange;
@@ -151,6 +151,8 @@ pub(crate) fn say<I: Source, O: Sink>(
     ensures ordinal { IfOk result (λ n. n ≡ next_ordinal (stand_of tracking.old).rest) }
     ensures short { IfOk result (λ n. n < 2 ^ 63) }
     ensures unsent { WhenNotSent result ((sink.new ≡ sink.old) × (source.new ≡ source.old)) }
+    ensures blames { Blames result
+        (health (I.has_ended source.new) (I.has_failed source.new) (O.has_failed sink.new)) }
 {
     refresh(tracking);
     let count = others.len() as u64 + 1;

@@ -1,13 +1,12 @@
-use Rattle.std.proofs.Common.{◌≡◌, ◌∙◌, refl, sym, ap, subst, rules, arith, suc, ◌-◌, List, [], Ok, Result, map, length, append-nil, true≢false}
+use Rattle.std.proofs.Common.{◌≡◌, ◌∙◌, refl, sym, ap, subst, rules, arith, suc, ◌-◌, List, [], Ok, Result, map, length, inl}
 use Rattle.std.proofs.lemmas.List.{length-map}
 use Rattle.messages.specs.Prelude.{RequestView, request_view}
 use Rattle.client_tracking.specs.Account.{Account}
 use Rattle.client_tracking.specs.Telling.{tells_of}
-use Rattle.wire.specs.Prelude.{offer_of}
 use Rattle.driver.specs.declared.breaks.Break.{Break}
 use Rattle.driver.specs.Prelude.{stand_of, place, health, Exchanges, SendsInParts, asked_view, requests_of, streams, at_first}
 use Rattle.driver.proofs.Reading.{stand_is, seen_by}
-use Rattle.driver.proofs.Trying.{none_short, none_begun, offer_front, heard_quiet, some_requests, attempted, ok_of, none_over}
+use Rattle.driver.proofs.Trying.{none_short, agreed, none_begun, heard_quiet, some_requests, attempted, ok_of, none_over}
 use Rattle.driver.proofs.attempting.attempt_over.Goals as goal
 
 -- no memory for a client: nothing was moved
@@ -16,7 +15,7 @@ returns-in_default g c =
     let a = asked_view c.args.asked.now in
     let written = g.O.Sink.put c.args.sink.now in
     let s = streams (g.I.Source.given c.args.source.now) written (health (g.I.Source.has_ended c.args.source.now) (g.I.Source.has_failed c.args.source.now) (g.O.Sink.has_failed c.args.sink.now)) in
-    none_short a s s ([], offer_of a.wish, refl, sym (append-nil written))
+    none_short a s s (inl (refl, refl))
 
 pub returns-then-is_err : goal.returns-then-is_err
 returns-then-is_err g c =
@@ -42,8 +41,10 @@ returns-in_default-requests_of g c =
     let from = place (stand_of c.in-Ok.tracking) (g.I.Source.given c.args.source.now) (g.O.Sink.put c.args.sink.now) in
     let heard = place (stand_of c.exchange-broken.new.tracking) (g.I.Source.given c.exchange-broken.new.source) (g.O.Sink.put c.exchange-broken.new.sink) in
     let start = stand_is (stand_of c.in-Ok.tracking) (at_first a.wish 0) c.in-Ok.ensures.client c.in-Ok.ensures.account in
-    none_short a (streams from.given from.written (health (g.I.Source.has_ended c.args.source.now) (g.I.Source.has_failed c.args.source.now) (g.O.Sink.has_failed c.args.sink.now))) (streams heard.given heard.written (health (g.I.Source.has_ended c.exchange-broken.new.source) (g.I.Source.has_failed c.exchange-broken.new.source) (g.O.Sink.has_failed c.exchange-broken.new.sink)))
-    (offer_front a.wish from heard c.exchange-broken.result c.exchange-broken.ensures.exchanges start)
+    let had = health (g.I.Source.has_ended c.args.source.now) (g.I.Source.has_failed c.args.source.now) (g.O.Sink.has_failed c.args.sink.now) in
+    let has = health (g.I.Source.has_ended c.exchange-broken.new.source) (g.I.Source.has_failed c.exchange-broken.new.source) (g.O.Sink.has_failed c.exchange-broken.new.sink) in
+    none_short a (streams from.given from.written had) (streams heard.given heard.written has)
+    (agreed a from heard had has c.exchange-broken.result start c.exchange-broken.ensures.exchanges (ok_of c.exchange-broken.result (sym c.is_err.ensures.value ∙ c.if-is_err.false)) (sym c.has_ended.ensures ∙ c.if-has_ended.false))
 
 pub send_in_parts-sent-requires-clause-quiet : goal.send_in_parts-sent-requires-clause-quiet
 send_in_parts-sent-requires-clause-quiet g c =

@@ -6,11 +6,11 @@ use Rattle.driver.proofs.Reading.{reads_piece, reads_kept, reads_empty}
 use Rattle.driver.proofs.exchanging.read_piece.Goals as goal
 
 pub returns-in_default-clause-reads : goal.returns-in_default-clause-reads
-returns-in_default-clause-reads g c = reads_kept (stand_of c.args.tracking.now) (g.I.Source.given c.args.source.now) (g.I.Source.given c.read.new.self) break.ReadFailed c.in_default.ensures.moves
+returns-in_default-clause-reads g c = reads_kept (stand_of c.args.tracking.now) (g.I.Source.given c.args.source.now) (g.I.Source.given c.read.new.self) c.in_default.ensures.moves
 
 pub returns-then-len-eq0-clause-reads : goal.returns-then-len-eq0-clause-reads
 returns-then-len-eq0-clause-reads g c =
-    reads_empty (stand_of c.args.tracking.now) (g.I.Source.given c.args.source.now) (g.I.Source.given c.read.new.self) break.AtEnd
+    reads_empty (stand_of c.args.tracking.now) (g.I.Source.given c.args.source.now) (g.I.Source.given c.read.new.self)
     (subst (λ (n : ℕ). Grows (g.I.Source.given c.args.source.now) (g.I.Source.given c.read.new.self) (take n c.read.new.buffer)) c.if-len-eq0.true c.in-Ok.ensures.moves)
 
 pub returns-clause-reads : goal.returns-clause-reads

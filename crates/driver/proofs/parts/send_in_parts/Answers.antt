@@ -1,4 +1,4 @@
-use Rattle.std.proofs.Common.{◌≡◌, ◌∙◌, ◌++◌, ◌∷◌, ◌+◌, [], append_assoc, rules, sym, ap, subst, map, length, List, true, false, arith}
+use Rattle.std.proofs.Common.{◌≡◌, ◌∙◌, Err, ◌++◌, ◌∷◌, ◌+◌, [], append_assoc, rules, sym, ap, subst, map, length, List, true, false, arith}
 use Rattle.std.proofs.lemmas.List.{map-append, nil_from_length, length-map}
 use Rattle.streams.proofs.Parts.{all_done}
 use Rattle.messages.specs.declared.Request.{Request}
@@ -38,7 +38,7 @@ returns-in-Err g c =
     none_more from mid qs c.loop-request.asked (health (g.I.Source.has_ended c.makes_room-room.new.source) (g.I.Source.has_failed c.makes_room-room.new.source) (g.O.Sink.has_failed c.makes_room-room.new.sink)) (room_made from now mid qs c.loop-request.asked (health (g.I.Source.has_ended c.makes_room-room.new.source) (g.I.Source.has_failed c.makes_room-room.new.source) (g.O.Sink.has_failed c.makes_room-room.new.sink)) c.makes_room-room.result.done c.makes_room-room.result.broken so.asked c.makes_room-room.ensures has) so.asked.count q behind (map request_view c.args.requests.items)
     (ap (map request_view) (sym all) ∙ map-append request_view c.loop-request.yielded (c.in-Some.request ∷ c.next.new.self.rest.items))
     (stand_of c.ask.new.self) (stand_is (stand_of c.ask.new.self) (stand_of c.makes_room-room.new.tracking) c.in-Err.ensures.err c.ask.ensures.account)
-    c.in-Err.rule c.in-Err.ensures.fault c.short_by.result c.short_by.ensures.memory (c.short_by.ensures.blameless (health (g.I.Source.has_ended c.makes_room-room.new.source) (g.I.Source.has_failed c.makes_room-room.new.source) (g.O.Sink.has_failed c.makes_room-room.new.sink)))
+    c.in-Err.rule c.in-Err.ensures.fault (λ e. c.in-Err.ensures.memory (ap Err e)) c.short_by.result c.short_by.ensures.short (c.short_by.ensures.blameless (health (g.I.Source.has_ended c.makes_room-room.new.source) (g.I.Source.has_failed c.makes_room-room.new.source) (g.O.Sink.has_failed c.makes_room-room.new.sink)))
 
 pub loop-request-preserved : goal.loop-request-preserved
 loop-request-preserved g c =

@@ -5,8 +5,8 @@ use Rattle.driver.specs.Prelude.{Stand, stand_of, place, greeting}
 use Rattle.driver.proofs.Asking.{unasked_said, greeting_some}
 use Rattle.driver.proofs.connection.Connection.greet.Goals as goal
 
-pub returns-in_default : goal.returns-in_default
-returns-in_default g c =
+pub returns-in_default-clause-says : goal.returns-in_default-clause-says
+returns-in_default-clause-says g c =
     let left = g.S.Source.given c.args.self.now.source in
     let written = g.T.Sink.put c.args.self.now.sink in
     let login = is_login_in_hello (stand_of c.args.self.now.tracking).rest.knows.version in
