@@ -25,7 +25,7 @@ pub accepts_more : (s : Stand) (qs : List RequestView) (q : RequestView) → Acc
 accepts_more s [] q h e = (e, tt)
 accepts_more s (p ∷ qs) q h e = (h.0, accepts_more (asked_stand s p) qs q h.1 e)
 
--- behind a first
+-- after a first request
 pub asks_behind : (from to : Stand) (q : RequestView) (qs : List RequestView) (o : Option SubmitFault) → refuses from.rest.knows q ≡ None → AsksAll (asked_stand from q) to qs o → AsksAll from to (q ∷ qs) o
 asks_behind from to q qs None e h = ((e, h.0), h.1)
 asks_behind from to q qs (Some rule) e h = record { before = q ∷ h.before; request = h.request; behind = h.behind; parts = ap (λ l. q ∷ l) h.parts; accepted = (e, h.accepted); stays = h.stays; first = h.first }
@@ -40,7 +40,7 @@ ask_run x q e = subst (λ o. GoesOn x (record x { run = submits x.run q o }) (as
 pub leads_ask : (s : Stand) (q : RequestView) → refuses s.rest.knows q ≡ None → Leads s (Asks q ∷ []) (asked_stand s q) (q ∷ []) [] [] false
 leads_ask s q e x f = subst (λ (z : Stand). GoesOn x (tracked_call x (Asks q)) (asked_stand z q) (q ∷ []) [] [] false) f (ask_run x q (ap (λ (z : Stand). refuses z.rest.knows q) f ∙ e))
 
--- what is accepted has room, so its ordinal is below 2^63
+-- a request that is accepted has an ordinal below 2^63
 pub accepted_open : (k : Knows) (q : RequestView) → refuses k q ≡ None → k.over ≡ true → ⊥
 accepted_open k q e o = let f = (accepted_facts k q e).0 in cc
 
@@ -106,7 +106,7 @@ all_said from to qs mid asked broken result first count m h x f n t =
 pub none_said : (from to : Place) (qs : List RequestView) (mid stopped : Stand) (rule : SubmitFault) → mid ≡ fresh from.stand → StopsAt mid stopped qs rule → to ≡ place (given_up stopped) from.given from.written → IsNotSent from to qs rule
 none_said from to qs mid stopped rule m h e = record { stopped = stopped; stops = subst (λ (z : Stand). StopsAt z stopped qs rule) m h; unsent = e }
 
--- those behind one that was accepted
+-- the others after one that was accepted
 pub asks_then : (from mid to : Stand) (q : RequestView) (qs : List RequestView) (o : Option SubmitFault) → refuses from.rest.knows q ≡ None → mid.rest ≡ after_submit from.rest q → mid.account ≡ from.account → AsksAll mid to qs o → AsksAll from to (q ∷ qs) o
 asks_then from mid to q qs o e r a h = asks_behind from to q qs o e (subst (λ (z : Stand). AsksAll z to qs o) (stand_is mid (asked_stand from q) r a) h)
 

@@ -96,7 +96,7 @@ module _ (from now : Place) (before last : List RequestView) (s : SoSent from no
   pub one_sent : (new : Stand) → new.rest ≡ after_submit now.stand.rest q → new.account ≡ now.stand.account → SoSent from (place new now.given now.written) before (last ++ q ∷ [])
   one_sent new r a = subst (λ (z : Stand). SoSent from (place z now.given now.written) before (last ++ q ∷ [])) (sym (stand_is new (asked_stand now.stand q) r a)) one_asked
 
--- a reply stays, whatever is told behind it
+-- a reply stays, whatever replies follow it
 reply_stays : (i : ℕ) (rs more : List ReplyView) → is_done (option_map (λ (r : ReplyView). r.outcome) (reply_in i rs)) ≡ true → is_done (option_map (λ (r : ReplyView). r.outcome) (reply_in i (rs ++ more))) ≡ true
 reply_stays i [] more e = cc
 reply_stays i (r ∷ rs) more e = go (r.ordinal == i) (reply_stays i rs more) e
@@ -112,13 +112,13 @@ or_nothing : (o : Option Outcome) → option_or o None ≡ o
 or_nothing None = refl
 or_nothing (Some x) = refl
 
--- where nothing was lost, what is done was answered
+-- if nothing was lost, each request that is done was answered
 done_answered : (a : Account) (i : ℕ) → a.lost ≡ [] → is_done (outcome_of a i) ≡ true → is_answered a i ≡ true
 done_answered a i e h =
     let same : outcome_of a i ≡ option_map (λ (r : ReplyView). r.outcome) (reply_in i a.replies) = ap (λ ls. outcome_of (record a { lost = ls }) i) e ∙ or_nothing (option_map (λ (r : ReplyView). r.outcome) (reply_in i a.replies)) in
     ap is_done (sym same) ∙ h
 
--- what was answered is done, whatever was lost
+-- an answered request is done, whatever was lost
 done_or : (o l : Option Outcome) → is_done o ≡ true → is_done (option_or o l) ≡ true
 done_or None l e = cc
 done_or (Some x) l e = e
@@ -151,7 +151,7 @@ pub losses_replies : (a : Account) (ls : List (ℕ × Outcome)) → (with_losses
 losses_replies a [] = refl
 losses_replies a (x ∷ xs) = refl
 
--- what an exchange leaves of the account
+-- the account after an exchange
 exchanged_longer : (from to : Place) (r : Result (Unit {0}) Break) → Exchanges from to r → (more : List ReplyView) × (to.stand.account.replies ≡ from.stand.account.replies ++ more)
 exchanged_longer from to (Ok u) x = let k = hears_keeps x.converses.reads.hears in (k.more, ap (λ (s : Stand). s.account.replies) x.settles ∙ k.replies)
 exchanged_longer from to (Err e) x = let k = hears_keeps x.converses.reads.hears in (k.more, ap (λ (s : Stand). s.account.replies) x.settles ∙ losses_replies x.answered.account _ ∙ k.replies)
@@ -332,7 +332,7 @@ pub record SoAsked (from now : Place) (qs : List RequestView) (n : ℕ) : Type 0
   pub sent : SoSent from now before last
   pub some : 0 < length qs → 0 < length last
 
--- what holds of what was answered, by a test of it
+-- a fact about a result, by a test of the result
 pub ok_part : {T E : Type 0} (x : Result T E) (P : T → Type 0) → is_err x ≡ false → IfOk x P → (y : T) × P y
 ok_part (Ok y) P e h = (y, h)
 ok_part (Err f) P e h = cc
@@ -344,7 +344,7 @@ err_part (Err f) P e h = (f, h)
 pub none_asked : (from : Place) → IsQuiet from.stand → SoAsked from from [] 0
 none_asked from q = record { before = []; last = []; parts = refl; count = refl; sent = none_sent from q; some = λ l. absurd (omega (arith, l)) }
 
--- So they were, and there is room for one more.
+-- They were accepted, and one more may be submitted.
 pub record HasRoom (from now : Place) (qs : List RequestView) : Type 0 where
   pub before : List RequestView
   pub last : List RequestView

@@ -1,4 +1,4 @@
--- What comes of an exchange, part by part.
+-- The result of an exchange, step by step.
 use Rattle.std.proofs.Common.{◌≡◌, ◌<◌, refl, sym, ◌∙◌, ap, ap₂, subst, ℕ, Bool, true, false, Result, Ok, Err, List, [], ◌∷◌, ◌++◌, length, map, take, drop, append_assoc, append-nil, true≢false, inl, inr, ◌⊎◌, ⊎_elim, is_err, OnErr, IsErrOf}
 use Rattle.streams.specs.Moving.{Grows}
 use Rattle.messages.specs.Prelude.{RequestView}
@@ -145,12 +145,12 @@ reads_on {a = a} {b = b} {c = c} {l = l} {m = m} {n = n} {result = result} f sti
       why = why_on a b c f.heard g.heard g.unheard result f.why g.why;
     }
 
--- what was answered, by a test of it
+-- an error's fact, by a test of the result
 pub on_err : {T E : Type 0} (x : Result T E) (P : Type 0) → is_err x ≡ true → OnErr x P → P
 on_err (Ok t) P e h = absurd (true≢false (sym e))
 on_err (Err f) P e h = h
 
--- what was written whole stays so, whatever comes of the reading
+-- output that was written whole stays so, whatever is read
 pub written_then : (out : List ℕ) (r : Result (Unit {0}) Break) (a b : List ℕ) → (IsErrOf r break.WriteFailed → ⊥) → Grows a b out → Writes out r a b
 written_then out (Ok u) a b sound h = h
 written_then out (Err break.ReadFailed) a b sound h = h
@@ -191,7 +191,7 @@ write_seen r h s e = subst (λ (z : Result (Unit {0}) Break). IsSeen z h) e s
 pub writes_front : (out : List ℕ) (r : Result (Unit {0}) Break) (a b : List ℕ) → Writes out r a b → MovesFront a b out
 writes_front out r a b h = ⊎_elim (λ w. (out, [], append-nil out, w)) (λ f. f.1) (writes_or out r a b h)
 
--- all was heard, or calls lead to where the client has ended
+-- the client took all bytes, or calls lead to its end
 ends_or : {from to : Stand} {asked : List RequestView} {bytes out : List ℕ} (unheard : List ℕ) (cs : List TrackedCall) → Leads from cs to asked bytes out false → IsWhole unheard to → (unheard ≡ []) ⊎ EndsBy from asked bytes out
 ends_or {to = to} unheard cs l w = ⊎_elim (λ e. inl e) (λ o. inr (cs, to, l, o)) w
 

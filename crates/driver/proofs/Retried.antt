@@ -18,7 +18,7 @@ use Rattle.driver.specs.declared.breaks.Break.TheVariants as break
 use Rattle.driver.proofs.Reading.{writes_or, write_seen}
 use Rattle.driver.specs.Prelude.{place, Exchanges, AskedView, Streams, Ending, at_first, IsWritten, gone, IsAttempt, IsShort, NoneAsked, Attempts, Calls, made_at, tells_at, made_from, unmoved, IsTry, Tries, AreTries, IsKnown}
 
--- an attempt over streams of which nothing was moved yet
+-- an attempt over streams that have moved nothing yet
 pub from_first : (a : AskedView) (conn : ℕ) (from to : Streams) (broken : Result (Unit {0}) Break) (m : Option Made) → from.given ≡ [] → from.written ≡ [] → Attempts a conn from to broken m → Attempts a conn unmoved to broken m
 from_first a conn from to broken None given written h =
     ⊎_elim (λ p. inl (p.0, short p.1))
@@ -56,7 +56,7 @@ offer_some : (wish : Wish) → offer_of wish ≡ [] → ⊥
 offer_some Newest e = cc
 offer_some (Only v) e = cc
 
--- Where nothing was written and the sink hasn't failed, that no request was asked has one reason alone, which is told.
+-- If nothing was written and the sink hasn't failed, no request was submitted only because memory ran out.
 pub untouched : (a : AskedView) (to : Streams) (broken : Result (Unit {0}) Break) → to.written ≡ [] → to.health.write_failed ≡ false → NoneAsked a unmoved to broken → broken ≡ Err break.Memory
 untouched a to broken none sound h =
     ⊎_elim (λ p. p.0)
@@ -82,7 +82,7 @@ module _ (a : AskedView) (r : Retry) where
   pub not_tried : (old : Log) (tries : ℕ) → SoTried old old tries 0 false
   not_tried old tries = record { used = []; logs = sym (append-nil old); count = refl; calls = []; called = refl; tried = λ conns. tt; so = none_yet r tries }
 
-  -- with one more behind them
+  -- with one more after them
   tries_more : (conns : ℕ → ℕ) (n : ℕ) (os : Log) (ms : List (Option Made)) (o : Option Ending) (m : Option Made) → AreTries a conns n os ms → IsTry a (conns (n + length os)) o m → AreTries a conns n (os ++ o ∷ []) (ms ++ m ∷ [])
   tries_more conns n [] [] o m h is = (subst (λ k. IsTry a (conns k) o m) (omega arith) is, tt)
   tries_more conns n [] (y ∷ ms) o m h is = absurd h

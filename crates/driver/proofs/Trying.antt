@@ -1,4 +1,4 @@
--- What an attempt over streams tells.
+-- The result of an attempt over streams.
 use Rattle.std.proofs.Common.{◌≡◌, refl, sym, ◌∙◌, ap, ap₂, subst, ℕ, suc, Bool, true, false, ◌||◌, Option, Some, None, Result, Ok, Err, List, [], ◌∷◌, ◌++◌, ◌<◌, if◌then◌else◌, length, slice_get, option_map, append_assoc, append-nil, is_err, true≢false, inl, inr, ◌⊎◌, ⊎_elim, IsErrOf, arith}
 use Rattle.std.proofs.lemmas.List.{append_cancel_right}
 use Rattle.streams.specs.Moving.{Grows}
@@ -73,7 +73,7 @@ or_lost true b = refl
 or_lost false true = refl
 or_lost false false = refl
 
--- where the version was heard nothing waits
+-- after the version was read, no request is pending
 pub heard_quiet : (wish : Wish) (from heard : Place) (r : Result (Unit {0}) Break) → Exchanges from heard r → r ≡ Ok tt → from.stand ≡ at_first wish 0 → IsQuiet heard.stand
 heard_quiet wish from heard r y e start =
     let x : Exchanges from heard (Ok tt) = subst (λ (z : Result (Unit {0}) Break). Exchanges from heard z) e y in
@@ -83,7 +83,7 @@ heard_quiet wish from heard r y e start =
       lost = exchanged_told from heard x ∙ ap (λ (s : Stand). s.account.lost) start;
     }
 
--- the bytes of requests behind others
+-- the bytes of requests after others
 bytes_append : (f : RequestView → List ℕ) (xs ys : List RequestView) → bytes_in_order f (xs ++ ys) ≡ bytes_in_order f xs ++ bytes_in_order f ys
 bytes_append f [] ys = refl
 bytes_append f (x ∷ xs) ys = ap (λ l. f x ++ l) (bytes_append f xs ys) ∙ sym (append_assoc (f x) (bytes_in_order f xs) (bytes_in_order f ys))
@@ -148,7 +148,7 @@ module _ (a : AskedView) (login : Bool) (from heard done : Place) (start : from.
   abbrev version : Option Version
   version = (read (attempt_of a.wish run.run)).version
 
-  -- what went out is the offer and the requests of each part that was asked whole
+  -- the client put out the offer and the requests of each complete part
   came : run.run.out ≡ offer ++ s.out
   came = goes.put ∙ ap (λ l. offer ++ l) (append-nil s.out)
 
@@ -266,7 +266,7 @@ pub ok_of : (x : Result (Unit {0}) Break) → is_err x ≡ false → x ≡ Ok tt
 ok_of (Ok u) e = refl
 ok_of (Err e) h = cc
 
--- where it broke off, it isn't that it didn't
+-- an exchange that broke off isn't one that didn't
 pub none_over : {P : Type 0} (x : Result (Unit {0}) Break) → is_err x ≡ true → x ≡ Ok tt → P
 none_over (Ok u) e h = absurd (true≢false (sym e))
 none_over (Err f) e h = absurd cc

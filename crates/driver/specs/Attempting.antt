@@ -92,7 +92,7 @@ pub record IsSent (a : AskedView) (conn : ℕ) (broken : Result (Unit {0}) Break
   pub asked : List TrackedCall
   pub calls : List TrackedCall
   pub at_last : calls ≡ asked ++ IsLost ∷ []
-  -- why requests are left, by where its client stood before it was lost
+  -- why requests are left, by the state of its client before it was lost
   pub why : WhyLeft (stand_in (run_by a.wish asked)) before last later broken
   pub is : m ≡ made_by a.wish calls m.commit conn
   pub parts : ℕ
@@ -126,7 +126,8 @@ has_ended t = (read t).ended || (read t).bad
 abbrev pub known_at_end : Attempt → Knows
 known_at_end t = knows_of (read t) t.sent false
 
--- Why the last exchange of an attempt stopped, by the bytes that its client took. unheard: the bytes that were read and that it didn't take.
+-- Why the last exchange of an attempt stopped, by the bytes that its client took.
+-- unheard: the bytes that were read and that it didn't take.
 abbrev pub AttemptStops : Result (Unit {0}) Break → Attempt → List ℕ → Type 0
 -- all was answered: no answer is awaited, and no request is pending; no message was bad
 AttemptStops (Ok u) t unheard =
@@ -176,7 +177,8 @@ pub record IsAgreed (a : AskedView) (from to : Streams) : Type 0 where
   pub exchanged : Exchanges (place (at_first a.wish 0) from.given from.written) (place heard to.given to.written) (Ok tt)
   pub is_open : heard.rest.knows.over ≡ false
 
--- Memory ran out before the first request: for the client, and nothing was moved; or for the requests, after a version was agreed on.
+-- Memory ran out before the first request: for the client, and nothing was moved; or for the requests, after a
+-- version was agreed on.
 abbrev pub IsShort : AskedView → Streams → Streams → Type 0
 IsShort a from to = ((to.given ≡ from.given) × (to.written ≡ from.written)) ⊎ IsAgreed a from to
 

@@ -77,15 +77,15 @@ pub record IsRefused (s : Stand) (later : List RequestView) (broken : Result (Un
   pub needed : rule ≡ SubmitFault.Memory → refuses_at_once s.rest.knows request ≡ None
   pub told : broken ≡ short_of rule
 
--- Why requests are left that weren't submitted: the first of them isn't accepted; or the part before them was sent and isn't done. broken: the
--- reported reason.
+-- Why requests are left that weren't submitted: the first of them isn't accepted; or the part before them was sent
+-- and isn't done. broken: the reported reason.
 abbrev pub WhyLeft : Stand → List RequestView → List RequestView → List RequestView → Result (Unit {0}) Break → Type 0
 WhyLeft to before last later broken = (later ≡ []) ⊎ (IsRefused to later broken
     ⊎ ((length last ≡ max_waiting) × IsUndone broken to (length before) max_waiting))
 
--- So many of the requests were accepted. Those of complete parts were done before the next part was submitted; the others weren't submitted.
--- broken: why the last exchange was broken off, or that memory ran out for a request. The client took all that was read, up to its end, unless
--- memory ran out or there are more rows than the limit.
+-- So many of the requests were accepted; the others weren't submitted. Those of complete parts were done before the
+-- next part was submitted. The client took all that was read, up to its end, unless memory ran out or there are more
+-- rows than the limit. broken: why the last exchange was broken off, or that memory ran out for a request.
 pub record SendsInParts (from to : Place) (health : Health) (all : List RequestView) (n : ℕ) (broken : Result (Unit {0}) Break) : Type 0 where
   pub before : List RequestView
   pub last : List RequestView

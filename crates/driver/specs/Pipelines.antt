@@ -1,4 +1,4 @@
--- Requests that are asked as one pipeline, and what is told of them.
+-- Requests that are sent as one pipeline, and what is reported of them.
 use Rattle.std.specs.Prelude.{◌≡◌, ℕ, zero, suc, ◌+◌, Bool, true, false, if◌then◌else◌, Option, Some, None, Result, Ok, Err, List, [], ◌∷◌, ◌++◌, length, string_bytes}
 use Rattle.std.specs.Result.{result_err}
 use Rattle.messages.specs.View.{RequestView}
@@ -23,12 +23,12 @@ abbrev pub asked_all : Stand → List RequestView → Stand
 asked_all s [] = s
 asked_all s (q ∷ qs) = asked_all (asked_stand s q) qs
 
--- each is accepted behind those before it
+-- each is accepted after those before it
 abbrev pub AcceptsEach : Stand → List RequestView → Type 0
 AcceptsEach s [] = Unit {0}
 AcceptsEach s (q ∷ qs) = (refuses s.rest.knows q ≡ None) × AcceptsEach (asked_stand s q) qs
 
--- One isn't accepted, and none behind it was asked; want of memory aside by its first fault.
+-- One isn't accepted, and none after it was submitted. Unless memory ran out, the rule is its first fault.
 pub record StopsAt (from to : Stand) (qs : List RequestView) (rule : SubmitFault) : Type 0 where
   pub before : List RequestView
   pub request : RequestView
@@ -49,7 +49,7 @@ is_done (Some outcome.Done) = true
 is_done (Some outcome.Committed) = true
 is_done o = false
 
--- of an ordinal that wasn't found: this one, unless it is done
+-- an ordinal that was found, or else this one, unless it is done
 abbrev pub or_undone : Option ℕ → ℕ → Option Outcome → Option ℕ
 or_undone (Some i) n o = Some i
 or_undone None n o = if is_done o then None else Some n
@@ -59,7 +59,7 @@ abbrev pub first_undone : (ℕ → Option Outcome) → ℕ → ℕ → Option �
 first_undone told first zero = None
 first_undone told first (suc n) = or_undone (first_undone told first n) (first + n) (told (first + n))
 
--- What is answered of so many requests from an ordinal on: Ok where each is told to be done; else by the first that isn't, which was
+-- The result of so many requests from an ordinal on: Ok if each is done; else by the first that isn't, which was
 -- refused, or the exchange was broken off. Memory may lack for the text of a refusal alone.
 abbrev pub Told : {A : Type 0} → Account → ℕ → ℕ → Result (Unit {0}) Break → Result A Fault → Type 0
 Told a first count broken (Ok x) = first_undone (outcome_of a) first count ≡ None
@@ -73,11 +73,11 @@ Told a first count broken (Err fault.Memory) =
     (i : ℕ) × (first_undone (outcome_of a) first count ≡ Some i) × (failure : List ℕ × List ℕ) × (failure_of a i ≡ Some failure)
 Told a first count broken (Err (fault.NotSent rule)) = ⊥
 
--- what was told before is forgotten, if nothing waits
+-- the account without earlier replies, if no request is pending
 abbrev pub fresh : Stand → Stand
 fresh s = record s { account = (if is_idle s.rest.knows then settled s.account else s.account) }
 
--- Each was accepted before a byte went out; what came of the exchange is told.
+-- Each was accepted before a byte went out, and the result is that of the exchange.
 pub record Sent {A : Type 0} (from to : Place) (qs : List RequestView) (result : Result A Fault)
     : Type 0 where
   pub broken : Result (Unit {0}) Break

@@ -64,8 +64,8 @@ Ends (Err break.AtEnd) to = awaits to.rest.knows ≡ true
 Ends (Err break.Ended) to = (awaits to.rest.knows ≡ false) × (0 < length to.rest.knows.waiting)
 Ends result to = Unit {0}
 
--- Why an exchange stopped. from, to: the client when it began to read, and when it stopped. heard: the bytes that it took meanwhile.
--- unheard: the bytes that were read and that it didn't take.
+-- Why an exchange stopped. from, to: the client when it began to read, and when it stopped.
+-- heard: the bytes that it took meanwhile. unheard: the bytes that were read and that it didn't take.
 abbrev pub Stops : Result (Unit {0}) Break → Stand → Stand → List ℕ → List ℕ → Type 0
 -- all was answered: no answer is awaited, and no request is pending; no message was bad
 Stops (Ok u) from to heard unheard = Ends (Ok u) to × Accepts from to heard
@@ -84,8 +84,8 @@ Stops (Err break.Ended) from to heard unheard = Ends (Err break.Ended) to × Acc
 -- the account holds as many rows as the limit allows, and more bytes came
 Stops (Err break.TooManyRows) from to heard unheard = WhyUnfed (Err break.TooManyRows) from to heard unheard
 
--- The last of several exchanges stopped for this reason. asked, heard, out: the requests, the bytes taken and the bytes put out since `from`.
--- unheard: the bytes that were read and not taken.
+-- The last of several exchanges stopped for this reason. asked, heard, out: since `from`, the requests, the bytes that
+-- the client took and those that it put out. unheard: the bytes that were read and that it didn't take.
 pub record StopsBy (from : Stand) (asked : List RequestView) (heard out unheard : List ℕ) (broken : Result (Unit {0}) Break) : Type 0 where
   -- the client when the last exchange began to read, and the calls that lead there
   pub start : Stand

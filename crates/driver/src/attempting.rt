@@ -61,6 +61,10 @@ fn requests_of(alloc: Global, asked: &Asked, has_login: bool) -> Result<Vec<Requ
 /// A part is sent when each of its requests is accepted. The next part is sent only if each request so far succeeded, so COMMIT goes out only
 /// then. All bytes of a part are written, unless the sink fails. The client processes all bytes that are read, up to its end, unless memory runs
 /// out.
+///
+/// `broken` is exact, by the bytes that were read and by the streams: `exchange` says when each reason is reported. It
+/// is never `TooManyRows`. `Memory` is also reported if no client or no requests could be made, or if a request needs
+/// memory that the client would write.
 pub fn attempt_over<I: Source, O: Sink>(
     alloc: Global,
     asked: &Asked,

@@ -27,8 +27,8 @@ pub struct Answer {
     pub rows: u64,
 }
 
-/// A connection to a server, over where its bytes come from and where ours go. Each call asks requests, each of them accepted before the first
-/// byte goes out, and reads until all are answered: it answers Ok where each is done. What came of each stands in the account until the next call.
+/// A connection to a server, over a source and a sink. Each call submits requests, writes them after each is accepted,
+/// and reads until all are answered. It returns Ok if each is done. The account has the outcomes until the next call.
 #[derive(Drop)]
 pub struct Connection<S, T> {
     pub(crate) source: S,
@@ -38,7 +38,8 @@ pub struct Connection<S, T> {
 }
 
 impl<S: Source + Drop, T: Sink + Drop> Connection<S, T> {
-    /// Over streams of which nothing was read or written yet. At most `limit` rows of each request are kept. C5 for want of memory.
+    /// Makes a connection over streams on which nothing was read or written yet. At most `limit` rows of each request
+    /// are kept. C5: out of memory.
     pub fn new(
         alloc: Global,
         source: S,
@@ -60,7 +61,8 @@ impl<S: Source + Drop, T: Sink + Drop> Connection<S, T> {
         })
     }
 
-    /// Offers the versions, hears which is taken, and logs in by its greeting: HELLO, with the login below 5.1, and LOGON behind it at 5.1.
+    /// Offers the versions, reads which one the server takes, and logs in: by HELLO below 5.1, and by HELLO and LOGON
+    /// at 5.1.
     pub fn open(&mut self, agent: String, auth: Auth) -> Result<(), Fault>
         ensures opens { Opens
             (place (stand_of self.old.tracking) (S.given self.old.source) (T.put self.old.sink))
@@ -93,10 +95,14 @@ impl<S: Source + Drop, T: Sink + Drop> Connection<S, T> {
         Ok(())
     }
 
-    /// Asks a request and those behind it as one pipeline. Answers the ordinal of the first; those behind it have the next.
+    /// Sends requests as one pipeline. Returns the ordinal of the first; the others have the next ordinals.
     ///
-    /// NotSent where one isn't accepted: nothing was read or written. Else by the first that isn't done: Refused if the server refused it,
-    /// Broken where the exchange was broken off, or Memory for want of memory for the text of a refusal.
+    /// # Errors
+    ///
+    /// - `NotSent`: a request isn't accepted. Nothing was read or written.
+    /// - `Refused`: the server refused the first request that isn't done.
+    /// - `Broken`: the exchange was broken off. If the reason blames a stream, that stream has failed or ended.
+    /// - `Memory`: memory ran out for the text of a refusal.
     pub fn ask(&mut self, first: Request, others: Vec<Request>) -> Result<u64, Fault>
         ensures says { Says
             (place (stand_of self.old.tracking) (S.given self.old.source) (T.put self.old.sink))
@@ -202,7 +208,7 @@ impl<S: Source + Drop, T: Sink + Drop> Connection<S, T> {
         self.ask_one(Request::Rollback)
     }
 
-    /// Brings the connection back behind a refusal, by `ask`: what was open is dropped.
+    /// Sends RESET, as `ask` does, which ends a refusal. An open query or transaction is dropped.
     pub fn reset(&mut self) -> Result<u64, Fault>
         ensures says { Says
             (place (stand_of self.old.tracking) (S.given self.old.source) (T.put self.old.sink))
@@ -216,7 +222,8 @@ impl<S: Source + Drop, T: Sink + Drop> Connection<S, T> {
     }
 
     /// Runs queries in one transaction, under a token if there is one, as one pipeline, by `ask`: BEGIN, each query and the request for its
-    /// rows, and COMMIT. More than 15 queries aren't sent (C2). Answers the ordinal of BEGIN; behind it each query has two.
+    /// rows, and COMMIT. More than 15 queries aren't sent (C2). Returns the ordinal of BEGIN. After it each query has
+    /// two.
     pub fn transact(
         &mut self,
         mode: Mode,

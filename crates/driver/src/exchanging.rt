@@ -151,12 +151,12 @@ fn converse<I: Source, O: Sink>(
 ///
 /// If the exchange is broken off, the client is lost, and each pending request has its outcome in the account.
 ///
-/// - `ReadFailed`, `WriteFailed`: the source or the sink failed.
-/// - `AtEnd`: the source reached its end before all was answered.
-/// - `Memory`: memory ran out.
-/// - `BadAnswer`: the server's bytes are no valid answer.
-/// - `TooManyRows`: more rows came than the limit allows.
-/// - `Ended`: the client ended before all was answered.
+/// - `ReadFailed`, `AtEnd`: the source failed or reached its end, and an answer is awaited. The client took all bytes.
+/// - `WriteFailed`: the sink failed. Nothing was read.
+/// - `Memory`: memory ran out, and bytes are left. It is needed only if a request is pending, or for a message's bytes.
+/// - `BadAnswer`: the bytes that were read end with a message that the client refuses.
+/// - `TooManyRows`: the account holds as many rows as the limit, and more bytes came.
+/// - `Ended`: a request is pending but no answer is awaited. The client has ended, or the request is GOODBYE.
 pub fn exchange<I: Source, O: Sink>(
     tracking: &mut TrackingClient,
     source: &mut I,

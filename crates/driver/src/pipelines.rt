@@ -28,7 +28,7 @@ fn ask_each(tracking: &mut TrackingClient, requests: Vec<Request>) -> Result<(),
     Ok(())
 }
 
-/// Asks a request and then those behind it, up to the first that isn't accepted. Answers the ordinal of the first.
+/// Submits requests in order, up to the first that isn't accepted. Returns the ordinal of the first.
 pub(crate) fn ask_all(
     tracking: &mut TrackingClient,
     first: Request,
@@ -44,7 +44,7 @@ pub(crate) fn ask_all(
     Ok(ordinal)
 }
 
-/// Whether it was answered SUCCESS.
+/// Returns true if the request was answered SUCCESS.
 fn is_done(outcome: Option<Outcome>) -> bool
     ensures { result ≡ is_done outcome }
 {
@@ -79,7 +79,7 @@ pub(crate) fn first_undone(tracking: &TrackingClient, first: u64, count: u64) ->
     found
 }
 
-/// What is told of so many requests from an ordinal on, which it answers where each is done.
+/// Reports on so many requests from an ordinal on. Returns the ordinal if each is done.
 fn told_of(
     tracking: &TrackingClient,
     alloc: Global,
@@ -110,7 +110,7 @@ fn told_of(
     })
 }
 
-/// Gives up a client of which requests wait, so that their bytes never go out.
+/// Gives the client up if requests are pending, so that their bytes never go out.
 fn give_up(tracking: &mut TrackingClient)
     ensures { stand_of tracking.new ≡ given_up (stand_of tracking.old) }
 {
@@ -119,14 +119,14 @@ fn give_up(tracking: &mut TrackingClient)
     }
 }
 
-/// Forgets what was told before, if nothing waits.
+/// Forgets earlier replies, if no request is pending.
 fn refresh(tracking: &mut TrackingClient)
     ensures { stand_of tracking.new ≡ fresh (stand_of tracking.old) }
 {
     let _settled = tracking.settle();
 }
 
-/// That no memory was left for requests: none was asked.
+/// Returns that memory ran out for the requests: none was submitted.
 pub(crate) fn unasked(tracking: &mut TrackingClient) -> Fault
     ensures stand { stand_of tracking.new ≡ given_up (fresh (stand_of tracking.old)) }
     ensures fault { result ≡ Fault.NotSent SubmitFault.Memory }
@@ -136,7 +136,7 @@ pub(crate) fn unasked(tracking: &mut TrackingClient) -> Fault
     Fault::NotSent(SubmitFault::Memory)
 }
 
-/// Asks a request and those behind it as one pipeline: no byte goes out before each is accepted. Answers the ordinal of the first.
+/// Sends requests as one pipeline: no byte goes out before each is accepted. Returns the ordinal of the first.
 pub(crate) fn say<I: Source, O: Sink>(
     tracking: &mut TrackingClient,
     alloc: Global,
