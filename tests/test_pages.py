@@ -15,7 +15,7 @@ MOST_WORDS = {
     "CONTRIBUTING.md": 800,
     "docs/BENCHMARKS.md": 2000,
     "docs/C.md": 1250,
-    "docs/CALLING.md": 1450,
+    "docs/CALLING.md": 1550,
     "docs/CHANGING.md": 1150,
     "docs/CLIENT.md": 3350,
     "docs/DECISIONS.md": 3750,
