@@ -1,5 +1,5 @@
 -- Worked examples of why an exchange stopped.
-use Rattle.std.proofs.Common.{◌≡◌, refl, sym, ◌∙◌, ℕ, Ok, Err, List, [], ◌∷◌, true≢false, arith}
+use Rattle.std.proofs.Common.{refl, sym, ◌∙◌, ℕ, Ok, Err, List, [], ◌∷◌, true≢false, arith}
 use Rattle.wire.specs.declared.Wish.{Wish}
 use Rattle.driver.specs.declared.breaks.Break.TheVariants as break
 use Rattle.driver.specs.Prelude.{Stand, heard_stand, Stops, at_first}

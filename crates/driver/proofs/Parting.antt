@@ -1,5 +1,5 @@
 -- Requests that are sent in parts, step by step.
-use Rattle.std.proofs.Common.{◌≡◌, refl, sym, ◌∙◌, ap, ap₂, subst, ℕ, zero, suc, ◌+◌, ◌-◌, ◌*◌, ◌<◌, ◌≤◌, ◌==◌, Bool, true, false, ◌||◌, if◌then◌else◌, Option, Some, None, Result, Ok, Err, List, [], ◌∷◌, ◌++◌, length, option_map, append_assoc, append-nil, inl, inr, ◌⊎◌, ⊎_elim, IsErrOf, IfOk, IfErr, is_err, is_none, true≢false, arith, length-append}
+use Rattle.std.proofs.Common.{◌≡◌, refl, sym, ◌∙◌, ap, ap₂, subst, ℕ, zero, suc, ◌+◌, ◌-◌, ◌*◌, ◌<◌, ◌≤◌, ◌==◌, Bool, true, false, ◌||◌, if◌then◌else◌, Option, Some, None, Result, Ok, Err, List, [], ◌∷◌, ◌++◌, length, option_map, append_assoc, append-nil, inl, inr, ◌⊎◌, ⊎_elim, IfOk, IfErr, is_err, is_none, true≢false, arith, length-append}
 use Rattle.std.specs.Option.{option_or}
 use Rattle.streams.specs.Moving.{Grows}
 use Rattle.streams.proofs.Moving.{Grows-nil, Grows-trans}
@@ -10,17 +10,42 @@ use Rattle.messages.specs.Prelude.{RequestView}
 use Rattle.machine.specs.Limits.{max_waiting}
 use Rattle.client.specs.declared.Outcome.{Outcome}
 use Rattle.client.specs.declared.SubmitFault.{SubmitFault}
-use Rattle.client.specs.Prelude.{refuses, refuses_at_once, after_submit, asking_bytes}
+use Rattle.client.specs.declared.SubmitFault.TheVariants as submit_fault
+use Rattle.client.specs.Prelude.{Knows, refuses, refuses_at_once, after_submit, asking_bytes}
 use Rattle.client.proofs.Runs.{texts_more}
 use Rattle.client_tracking.specs.Account.{Account, ReplyView, with_losses, reply_in, outcome_of}
 use Rattle.client_tracking.specs.Runs.{TrackedCall, Asks, Sends}
 use Rattle.driver.specs.declared.breaks.Break.{Break}
-use Rattle.driver.specs.declared.breaks.Break.TheVariants as break
 use Rattle.driver.specs.Prelude.{Stand, Leads, EndsBy, Place, place, Health, StopsBy, emptied_stand, IsWhole, is_short, IsSeen, Exchanges, asked_stand, is_done, or_undone, first_undone, is_whole, is_answered, IsQuiet, IsUndone, short_of, WhyLeft, SendsPart, MakesRoom, SendsInParts}
 use Rattle.driver.proofs.Leading.{leads_nowhere, leads_on, leads_out}
 use Rattle.driver.proofs.Reading.{stand_is, none_unheard, writes_or, write_seen, Led, exchange_led}
 use Rattle.driver.proofs.Keeping.{hears_keeps, exchange_empties}
 use Rattle.driver.proofs.Asking.{leads_ask, accepted_open}
+
+not_true : (b : Bool) → (b ≡ true → ⊥) → b ≡ false
+not_true true never = absurd (never refl)
+not_true false never = refl
+
+either : (b : Bool) → (b ≡ false) ⊎ (b ≡ true)
+either true = inr refl
+either false = inl refl
+
+none_left : (xs : List RequestView) → (0 < length xs → ⊥) → xs ≡ []
+none_left [] none = refl
+none_left (x ∷ xs) none = absurd (none (omega arith))
+
+-- a client that has ended refuses each request at once
+ended_at_once : (k : Knows) (q : RequestView) → k.over ≡ true → refuses_at_once k q ≡ None → ⊥
+ended_at_once k q o e = let f : refuses_at_once k q ≡ Some submit_fault.Closed = rw o refl in cc
+
+-- only a lack of memory is reported of a request that isn't accepted
+short_ok : (rule : SubmitFault) → (rule ≡ submit_fault.Memory → ⊥) → short_of rule ≡ Ok tt
+short_ok submit_fault.NotAllowed never = refl
+short_ok submit_fault.PipelineFull never = refl
+short_ok submit_fault.Size never = refl
+short_ok submit_fault.Closed never = refl
+short_ok submit_fault.Memory never = absurd (never refl)
+short_ok (submit_fault.Unwritable u) never = refl
 
 -- Those of the parts before were done; those of the last part wait, and nothing of it went out.
 pub record SoSent (from now : Place) (before last : List RequestView) : Type 0 where
@@ -37,6 +62,8 @@ pub record SoSent (from now : Place) (before last : List RequestView) : Type 0 w
   pub leads : Leads from.stand calls now.stand (before ++ last) heard out false
   pub input : Grows from.given now.given (heard ++ unheard)
   pub quiet : IsWhole unheard now.stand
+  -- the client is open; or it had ended before; or the last exchange stopped because all was answered
+  pub so : (now.stand.rest.knows.over ≡ false) ⊎ ((from.stand.rest.knows.over ≡ true) ⊎ StopsBy from.stand before heard out unheard (Ok tt))
   pub is_open : 0 < length last → now.stand.rest.knows.over ≡ true → ⊥
   pub written : Grows from.written now.written out
   pub unsent : now.stand.rest.unsent ≡ bytes_in_order (asking_bytes now.stand.rest.knows.version) last
@@ -56,6 +83,7 @@ none_sent from q = record {
   leads = leads_nowhere from.stand;
   input = Grows-nil from.given;
   quiet = inl refl;
+  so = ⊎_elim (λ e. inl e) (λ e. inr (inl e)) (either from.stand.rest.knows.over);
   is_open = λ l. absurd (omega (arith, l));
   written = Grows-nil from.written;
   unsent = q.unsent;
@@ -88,6 +116,7 @@ module _ (from now : Place) (before last : List RequestView) (s : SoSent from no
     leads = asked_leads;
     input = s.input;
     quiet = s.quiet;
+    so = inl (not_true now.stand.rest.knows.over (λ o. accepted_open now.stand.rest.knows q accepted o));
     is_open = λ _ o. accepted_open now.stand.rest.knows q accepted o;
     written = s.written;
     unsent = ap (λ l. l ++ asking_bytes now.stand.rest.knows.version q) s.unsent ∙ sym (texts_more (asking_bytes now.stand.rest.knows.version) last q);
@@ -169,10 +198,6 @@ pub found_undone : (broken : Result (Unit {0}) Break) (to : Stand) (first count 
 found_undone broken to first count None done e d f = absurd (true≢false (sym d ∙ f))
 found_undone broken to first count (Some i) done e d f = inr (i, sym e)
 
-not_true : (b : Bool) → (b ≡ true → ⊥) → b ≡ false
-not_true true never = absurd (never refl)
-not_true false never = refl
-
 -- the last part is sent
 module _ (from now to : Place) (before last : List RequestView) (s : SoSent from now before last) (some : 0 < length last) where
   none_unread : s.unheard ≡ []
@@ -249,7 +274,7 @@ module _ (from now to : Place) (before last : List RequestView) (s : SoSent from
       leads = leads;
       input = input;
       ends = ends;
-      stops = inr stops;
+      stops = inr (inr stops);
       written =
           ⊎_elim (λ a. inl (Grows-trans from.written now.written to.written s.out now.stand.rest.unsent s.written a))
           (λ f. inr (write_seen r health seen f.0, (s.out ++ f.1.0, f.1.1, append_assoc s.out f.1.0 f.1.1 ∙ ap (λ l. s.out ++ l) f.1.2, Grows-trans from.written now.written to.written s.out f.1.0 s.written f.1.3)))
@@ -283,6 +308,7 @@ module _ (from now to : Place) (before last : List RequestView) (s : SoSent from
             (subst (λ b. Leads from.stand (s.calls ++ (led (Ok tt) x).calls) to.stand (before ++ last) (s.heard ++ (led (Ok tt) x).heard) (s.out ++ now.stand.rest.unsent) b) (led (Ok tt) x).unlost (leads (Ok tt) x));
         input = input (Ok tt) x;
         quiet = (led (Ok tt) x).whole;
+        so = inr (inr (stops (Ok tt) x));
         is_open = λ l. absurd (omega (arith, l));
         written = Grows-trans from.written now.written to.written s.out now.stand.rest.unsent s.written x.converses.writes;
         unsent = exchange_empties now to (Ok tt) x;
@@ -301,7 +327,12 @@ pub stopped : (from now : Place) (before last : List RequestView) → SoSent fro
 stopped from now before last s health q behind all n room asks count rule first needed broken told seen = record {
   seen = seen;
   why = inr (inl (record { request = q; behind = behind; parts = refl; rule = rule; first = first; needed = needed; told = told }));
-  stops = inl (record { request = q; behind = behind; parts = refl; rule = rule; first = first; needed = needed; told = told });
+  stops =
+      ⊎_elim (λ e. inl (record { request = q; behind = behind; parts = refl; rule = rule; first = first; needed = needed; told = told }, e))
+      (λ e. inr (⊎_elim (λ open_now. let no : false ≡ true = sym open_now ∙ e in absurd (true≢false (sym no)))
+      (λ k. ⊎_elim (λ had. inl had) (λ p. inr (ended e p)) k)
+      s.so))
+      (either now.stand.rest.knows.over);
   before = before;
   last = last;
   later = q ∷ behind;
@@ -322,6 +353,12 @@ stopped from now before last s health q behind all n room asks count rule first 
   written = inl s.written;
   unsent = s.unsent ∙ sym (cond-false (is_whole last (q ∷ behind)) [] (bytes_in_order (asking_bytes now.stand.rest.knows.version) last) (grind (arith, nat_tests)));
 }
+  where
+    ended : now.stand.rest.knows.over ≡ true → StopsBy from.stand before s.heard s.out s.unheard (Ok tt) → StopsBy from.stand (before ++ last) s.heard s.out s.unheard broken
+    ended e p =
+        let all : before ++ last ≡ before = ap (λ l. before ++ l) (none_left last (λ l. s.is_open l e)) ∙ append-nil before in
+        let ok : broken ≡ Ok tt = told ∙ short_ok rule (λ m. ended_at_once now.stand.rest.knows q e (needed m)) in
+        subst (λ qs. StopsBy from.stand qs s.heard s.out s.unheard broken) (sym all) (subst (λ (r : Result (Unit {0}) Break). StopsBy from.stand before s.heard s.out s.unheard r) (sym ok) p)
 
 -- So many requests were accepted, the last of them in the part that waits.
 pub record SoAsked (from now : Place) (qs : List RequestView) (n : ℕ) : Type 0 where

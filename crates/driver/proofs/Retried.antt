@@ -16,7 +16,7 @@ use Rattle.client_tracking.specs.Attempts.{read}
 use Rattle.driver.specs.declared.breaks.Break.{Break}
 use Rattle.driver.specs.declared.breaks.Break.TheVariants as break
 use Rattle.driver.proofs.Reading.{writes_or, write_seen}
-use Rattle.driver.specs.Prelude.{place, Exchanges, AskedView, Streams, Ending, at_first, IsWritten, gone, IsAttempt, IsShort, NoneAsked, Attempts, Calls, made_at, tells_at, made_from, unmoved, IsTry, Tries, AreTries, IsKnown}
+use Rattle.driver.specs.Prelude.{place, Exchanges, AskedView, Streams, Ending, at_first, IsWritten, gone, IsShort, NoneAsked, Attempts, Calls, made_at, tells_at, made_from, unmoved, IsTry, Tries, AreTries, IsKnown}
 
 -- an attempt over streams that have moved nothing yet
 pub from_first : (a : AskedView) (conn : ℕ) (from to : Streams) (broken : Result (Unit {0}) Break) (m : Option Made) → from.given ≡ [] → from.written ≡ [] → Attempts a conn from to broken m → Attempts a conn unmoved to broken m

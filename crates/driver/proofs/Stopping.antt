@@ -1,5 +1,5 @@
 -- Why the last exchange of an attempt stopped, by the bytes that its client took.
-use Rattle.std.proofs.Common.{◌≡◌, refl, sym, ◌∙◌, ap, ap₂, subst, ℕ, ◌<◌, ◌≤◌, ◌==◌, nat_lt, nat_le, Bool, true, false, not, ◌&&◌, ◌||◌, if◌then◌else◌, Option, Some, None, option_map, option_to_list, Result, Ok, Err, is_ok, List, [], ◌∷◌, ◌++◌, length, map, take, append_assoc, append-nil, true≢false, ◌⊎◌, ⊎_elim, arith}
+use Rattle.std.proofs.Common.{◌≡◌, refl, sym, ◌∙◌, ap, ap₂, subst, ℕ, ◌<◌, ◌≤◌, ◌==◌, nat_lt, nat_le, Bool, true, false, not, ◌&&◌, ◌||◌, if◌then◌else◌, Option, Some, None, option_map, option_to_list, Result, Ok, Err, is_ok, List, [], ◌∷◌, ◌++◌, length, map, take, append_assoc, append-nil, true≢false, arith}
 use Rattle.std.proofs.lemmas.Bool.{or_parts}
 use Rattle.packstream.specs.Tree.{Tree}
 use Rattle.wire.specs.declared.Wish.{Wish}
@@ -7,13 +7,12 @@ use Rattle.wire.specs.Prelude.{Took, state, takes, Item, Opened, at_client}
 use Rattle.messages.specs.Prelude.{RequestView, Heard, hears}
 use Rattle.client.specs.declared.ClientFault.{ClientFault}
 use Rattle.client.specs.declared.ClientFault.TheVariants as client_fault
-use Rattle.client.specs.Prelude.{Knows, Rest, Note, note_of, Hearing, heard_as, hears_item, Fed, fed_item, fed_open, feed_of, Reading, knows_of, hear, reading, reading_of, awaits, Feeds as FeedsPiece, Run, used_of, feeds, call, IsByBytes}
+use Rattle.client.specs.Prelude.{Knows, Rest, Note, note_of, heard_as, hears_item, Fed, fed_item, fed_open, feed_of, Reading, knows_of, reading, reading_of, awaits, used_of, IsByBytes}
 use Rattle.client.proofs.Fed.{rest_at}
 use Rattle.client.proofs.Fed as fed
 use Rattle.client.proofs.Hears.{more_heard}
 use Rattle.client_tracking.specs.declared.faults.FeedFault.{FeedFault}
 use Rattle.client_tracking.specs.declared.faults.FeedFault.TheVariants as feed_fault
-use Rattle.client_tracking.specs.Account.{Account}
 use Rattle.client_tracking.specs.Attempts.{Attempt}
 use Rattle.client_tracking.specs.Feeding.{is_full, Tracked, with_answer, used_by, tracked_feed}
 use Rattle.client_tracking.specs.Runs.{TrackedCall, Hears as HearsPiece, TrackedRun, tracking, tracked_call, tracked_calls}
@@ -21,7 +20,7 @@ use Rattle.client_tracking.proofs.Accounts.{run_by_bytes}
 use Rattle.client_tracking.proofs.FewRows.{keeps_few_rows}
 use Rattle.driver.specs.declared.breaks.Break.{Break}
 use Rattle.driver.specs.declared.breaks.Break.TheVariants as break
-use Rattle.driver.specs.Prelude.{Stand, stand_in, GoesOn, heard_count, heard_stand, Hears, Accepted, Accepts, NeedsMemory, IsBadAnswer, Ends, Stops, known_at_end, AttemptStops}
+use Rattle.driver.specs.Prelude.{Stand, stand_in, GoesOn, heard_count, heard_stand, Hears, Accepted, Accepts, NeedsMemory, IsBadAnswer, Stops, known_at_end, AttemptStops}
 use Rattle.driver.proofs.Leading.{calls_append, leads_hears}
 
 -- a client says of a piece that the server's answer is bad

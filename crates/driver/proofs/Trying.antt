@@ -1,5 +1,5 @@
 -- The result of an attempt over streams.
-use Rattle.std.proofs.Common.{◌≡◌, refl, sym, ◌∙◌, ap, ap₂, subst, ℕ, suc, Bool, true, false, ◌||◌, Option, Some, None, Result, Ok, Err, List, [], ◌∷◌, ◌++◌, ◌<◌, if◌then◌else◌, length, slice_get, option_map, append_assoc, append-nil, is_err, true≢false, inl, inr, ◌⊎◌, ⊎_elim, IsErrOf, arith}
+use Rattle.std.proofs.Common.{◌≡◌, refl, sym, ◌∙◌, ap, ap₂, subst, ℕ, suc, Bool, true, false, ◌||◌, Option, Some, None, Result, Ok, Err, List, [], ◌∷◌, ◌++◌, ◌<◌, if◌then◌else◌, length, slice_get, option_map, append_assoc, append-nil, is_err, true≢false, inl, inr, ◌⊎◌, ⊎_elim, arith}
 use Rattle.std.proofs.lemmas.List.{append_cancel_right}
 use Rattle.streams.specs.Moving.{Grows}
 use Rattle.streams.proofs.Moving.{Grows-trans}
@@ -11,7 +11,6 @@ use Rattle.messages.specs.Prelude.{RequestView}
 use Rattle.client.specs.Client.{knows_of, reading_of}
 use Rattle.client.specs.Rest.{Knows, asking_bytes}
 use Rattle.client.specs.Moments.{put_out, IsByBytes}
-use Rattle.streams.specs.Prelude.{MovesFront}
 use Rattle.client_tracking.specs.declared.attempts.Tells.{Tells}
 use Rattle.client_tracking.specs.declared.attempts.Tells.TheVariants as tells_variant
 use Rattle.client_tracking.specs.Account.{Account, ReplyView, failure_of, reply_in}
@@ -22,7 +21,7 @@ use Rattle.client_tracking.proofs.Accounts.{accounts_by_bytes, run_by_bytes}
 use Rattle.client_tracking.proofs.Joined.{account_tells}
 use Rattle.driver.specs.declared.breaks.Break.{Break}
 use Rattle.driver.specs.declared.breaks.Break.TheVariants as break
-use Rattle.driver.specs.Prelude.{Stand, stand_in, GoesOn, Leads, EndsBy, lost_stand, Place, place, Health, Hears, Stops, is_short, IsSeen, Exchanges, is_done, IsWritten, is_whole, gone, is_answered, IsQuiet, IsRefused, SendsInParts, WhyLeft, AskedView, requests_of, asks_of, greeting, Streams, streams, at_first, has_ended, AttemptStops, IsShort, TellsOf}
+use Rattle.driver.specs.Prelude.{Stand, stand_in, GoesOn, Leads, lost_stand, Place, place, Health, Hears, Stops, is_short, IsSeen, Exchanges, is_done, IsWritten, is_whole, gone, is_answered, IsQuiet, IsRefused, SendsInParts, WhyLeft, AskedView, requests_of, asks_of, greeting, Streams, streams, at_first, has_ended, AttemptStops, IsShort, TellsOf}
 use Rattle.driver.proofs.Leading.{leads_on, leads_lost}
 use Rattle.driver.proofs.Stopping.{stops_by_bytes}
 use Rattle.driver.proofs.Reading.{none_unheard, Led, exchange_led}
@@ -210,10 +209,11 @@ module _ (a : AskedView) (login : Bool) (from heard done : Place) (start : from.
       (s.ends k)
 
   -- why the last exchange stopped, by the bytes
-  stopped : IsRefused (stand_in (tracked_calls (tracking a.wish 0) (one.calls ++ s.calls))) s.later broken ⊎ AttemptStops broken (attempt_of a.wish run.run) s.unheard
+  stopped : (IsRefused (stand_in (tracked_calls (tracking a.wish 0) (one.calls ++ s.calls))) s.later broken × ((stand_in (tracked_calls (tracking a.wish 0) (one.calls ++ s.calls))).rest.knows.over ≡ false)) ⊎ AttemptStops broken (attempt_of a.wish run.run) s.unheard
   stopped =
       ⊎_elim
-      (λ q. inl (subst (λ (z : Stand). IsRefused z s.later broken) (sym ((leads_on one.calls s.calls one.leads s.leads) (tracking a.wish 0) (sym start)).stands) q))
+      (λ q. inl (subst (λ (z : Stand). IsRefused z s.later broken × (z.rest.knows.over ≡ false)) (sym ((leads_on one.calls s.calls one.leads s.leads) (tracking a.wish 0) (sym start)).stands) q))
+      (⊎_elim (λ had. absurd (still_open had))
       (λ p.
       let cs = one.calls ++ p.calls in
       let y : TrackedRun = tracked_calls (tracking a.wish 0) cs in
@@ -223,7 +223,7 @@ module _ (a : AskedView) (login : Bool) (from heard done : Place) (start : from.
       let stops = stops_by_bytes a.wish cs unlost (ap (λ (z : Stand). z.rest.knows.over) h.stands ∙ p.is_open) p.at p.last s.unheard (subst (λ (z : Stand). Hears z p.at p.last) (sym h.stands) p.hears) run.run.lost broken
       (subst (λ (z : Stand). Stops broken z p.at p.last s.unheard) (sym h.stands) p.stops) in
       inr (subst (λ bytes. AttemptStops broken (record { wish = a.wish; sent = run.run.sent; took = bytes; lost = run.run.lost }) s.unheard) took_then
-      (subst (λ qs. AttemptStops broken (record { wish = a.wish; sent = qs; took = y.run.took ++ p.last; lost = run.run.lost }) s.unheard) (h.sent ∙ sym sent_is) stops)))
+      (subst (λ qs. AttemptStops broken (record { wish = a.wish; sent = qs; took = y.run.took ++ p.last; lost = run.run.lost }) s.unheard) (h.sent ∙ sym sent_is) stops))))
       s.stops
 
   pub attempted : TellsOf a (streams from.given from.written had) (streams done.given done.written health) told broken

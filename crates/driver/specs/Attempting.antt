@@ -161,8 +161,9 @@ pub record IsAttempt (a : AskedView) (conn : ℕ) (from to : Streams) (broken : 
   pub unheard : List ℕ
   pub took : Grows from.given to.given (m.attempt.took ++ unheard)
   pub ends : is_short broken ≡ false → (unheard ≡ []) ⊎ (has_ended m.attempt ≡ true)
-  -- the first request that is left isn't accepted, or the last exchange stopped
-  pub stops : IsRefused (stand_in (run_by a.wish sent.asked)) sent.later broken ⊎ AttemptStops broken m.attempt unheard
+  -- an open client doesn't accept the first request that is left, or the last exchange stopped
+  pub stops : (IsRefused (stand_in (run_by a.wish sent.asked)) sent.later broken
+      × ((stand_in (run_by a.wish sent.asked)).rest.knows.over ≡ false)) ⊎ AttemptStops broken m.attempt unheard
 
 -- The exchange of the offer was broken off, or no version was agreed on.
 pub record IsTurnedAway (a : AskedView) (from to : Streams) (broken : Result (Unit {0}) Break) : Type 0 where

@@ -1,5 +1,5 @@
 -- The bytes of a tracking client that are written, and the bytes that it is fed.
-use Rattle.std.specs.Prelude.{◌≡◌, ◌⊎◌, ℕ, Bool, true, false, Result, Ok, Err, List, [], ◌++◌, map}
+use Rattle.std.specs.Prelude.{◌≡◌, ◌⊎◌, ℕ, Bool, true, false, Result, Ok, Err, List, [], ◌++◌}
 use Rattle.streams.specs.Moving.{Grows}
 use Rattle.streams.specs.Moving.{MovesFront}
 use Rattle.client_tracking.specs.declared.faults.FeedFault.{FeedFault}

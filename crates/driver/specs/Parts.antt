@@ -106,8 +106,9 @@ pub record SendsInParts (from to : Place) (health : Health) (all : List RequestV
   pub leads : Leads from.stand calls to.stand (before ++ last) heard out lost
   pub input : Grows from.given to.given (heard ++ unheard)
   pub ends : is_short broken ≡ false → (unheard ≡ []) ⊎ EndsBy from.stand (before ++ last) heard out
-  -- the first request that is left isn't accepted, or the last exchange stopped
-  pub stops : IsRefused to.stand later broken ⊎ StopsBy from.stand (before ++ last) heard out unheard broken
+  -- an open client doesn't accept the first request that is left; or it had ended before; or the last exchange stopped
+  pub stops : (IsRefused to.stand later broken × (to.stand.rest.knows.over ≡ false)) ⊎ ((from.stand.rest.knows.over ≡ true)
+      ⊎ StopsBy from.stand (before ++ last) heard out unheard broken)
   pub written : IsWritten from.written to.written health.write_failed out
   pub unsent : to.stand.rest.unsent ≡ (if is_whole last later then []
       else bytes_in_order (asking_bytes to.stand.rest.knows.version) last)

@@ -1,4 +1,4 @@
-use Rattle.std.proofs.Common.{◌≡◌, ◌∙◌, refl, sym, ap, subst, rules, arith, suc, ◌-◌, List, [], Ok, Result, map, length, inl}
+use Rattle.std.proofs.Common.{◌≡◌, ◌∙◌, refl, sym, ap, subst, rules, arith, suc, ◌-◌, List, Result, map, length, inl}
 use Rattle.std.proofs.lemmas.List.{length-map}
 use Rattle.messages.specs.Prelude.{RequestView, request_view}
 use Rattle.client_tracking.specs.Account.{Account}

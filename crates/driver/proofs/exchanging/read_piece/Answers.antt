@@ -1,6 +1,5 @@
 use Rattle.std.proofs.Common.{ℕ, rules, subst, take}
 use Rattle.streams.specs.Moving.{Grows}
-use Rattle.driver.specs.declared.breaks.Break.TheVariants as break
 use Rattle.driver.specs.Prelude.{stand_of}
 use Rattle.driver.proofs.Reading.{reads_piece, reads_kept, reads_empty}
 use Rattle.driver.proofs.exchanging.read_piece.Goals as goal

@@ -1,5 +1,5 @@
 use Rattle.std.proofs.Common.{refl, ◌∙◌, ap, None, Some, [], ◌∷◌, ◌++◌, append-nil}
-use Rattle.driver.specs.Prelude.{health, Streams, streams, Ending, ending, asked_view, made_at}
+use Rattle.driver.specs.Prelude.{health, Streams, streams, ending, asked_view, made_at}
 use Rattle.driver.proofs.Retried.{from_first}
 use Rattle.driver.proofs.retrying.try_once.Goals as goal
 
