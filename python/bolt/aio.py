@@ -15,7 +15,7 @@ from typing import Any, AsyncIterator, Awaitable, Callable, Coroutine, Iterator,
 
 from .core import (Answer, Core, Stepped, Steps, basic, calls, context_of, host_of, is_from_elsewhere, login_of, own,
                    port_of)
-from .errors import CLOSED_HERE, INTERRUPTED, TIMED_OUT, BoltError, NotSent, Request, unreached
+from .errors import CLOSED_HERE, INTERRUPTED, TIMED_OUT, BoltError, Broken, NotSent, Request, unreached
 from .library import MESSAGE, NOT_ALLOWED
 from .queries import Pipeline, Queries, Transacting
 from .results import Pulled, Record, Summary, by_name, by_place, only
@@ -119,6 +119,8 @@ class AsyncSession(Core):
 
     async def _receive(self) -> bytes:
         """Returns the next bytes of the server, none if no more come."""
+        if self._waits_in_vain():
+            return b""
         try:
             assert self._reader
             piece = await self._reader.read(MESSAGE)
@@ -190,7 +192,7 @@ class AsyncSession(Core):
                 with self._in_time():
                     self._send()
                     await self._closed(self._writer)
-        except (NotSent, OSError) as why:
+        except (NotSent, Broken, OSError) as why:
             if is_from_elsewhere(why):
                 raise
         finally:

@@ -25,6 +25,9 @@ from .versions import V5_1, VERSIONS
 LONGEST = 1e9
 PHASES = ("FRESH", "UNAUTH", "READY", "STREAMING", "TX_READY", "TX_STREAMING", "HALTED", "DEFUNCT")
 GOODBYE, RUN, BEGIN, COMMIT, ROLLBACK, DISCARD = 0x02, 0x10, 0x11, 0x12, 0x13, 0x2F
+# The names of the messages that are requests with an answer, by their tags.
+KINDS = {0x01: "HELLO", 0x6A: "LOGON", 0x6B: "LOGOFF", 0x0F: "RESET", RUN: "RUN", BEGIN: "BEGIN", COMMIT: "COMMIT",
+         ROLLBACK: "ROLLBACK", DISCARD: "DISCARD", 0x3F: "PULL"}
 # The name of a server that keeps tokens begins so, or this hint in its answer to HELLO is true.
 KEEPS_TOKENS, TOKENS_HINT = "BoltTable/", "bolt.tokens"
 # Why no COMMIT is asked for a work of `until_known`.
@@ -237,6 +240,7 @@ class Core:
         self._begun = Begun()  # the transaction that was asked for last
         self._cut: Optional[OSError] = None  # why nothing more is sent
         self._why: Optional[str] = None  # why the client has ended
+        self._is_closed = False  # whether `close` ended it, and no call was broken off
         self._until = self._by()
         self._client = Client(versions, self)
 
@@ -273,8 +277,8 @@ class Core:
 
     @property
     def _open(self) -> Client:
-        if self._client is None:
-            raise NotSent(NO_CLIENT)
+        if self._client is None or not self._client.handle.at:
+            raise self._over()
         return self._client
 
     def _state(self) -> Standing:
@@ -310,8 +314,10 @@ class Core:
         return self._over() if self._why else NotSent(NOT_ALLOWED, hint=hint)
 
     def _over(self) -> BoltError:
-        """Returns the exception of a call after the connection's end: how it ended, with all outcomes."""
-        if self._client is None or not self._client.handle.at:
+        """Returns the exception of a call after the connection's end: how it ended, with all outcomes.
+
+        After a `close` that ended it there is nothing to report."""
+        if self._client is None or self._is_closed:
             return NotSent(NO_CLIENT)
         over = Broken(self._all(), self._why or ENDED)
         over.__cause__ = self._cut
@@ -355,8 +361,9 @@ class Core:
         if self._settled and not state.has_ended:
             self._forget()
         # It is noted before the library has it: an exception may come between any two steps.
-        ordinal = state.first + state.pending
-        self.requests.append(request := Request(text, account=client, ordinal=ordinal, begins=begins))
+        ordinal, kind = state.first + state.pending, KINDS.get(message[1], "")
+        request = Request(text, kind=kind, ordinal=ordinal, account=client, begins=begins)
+        self.requests.append(request)
         code = LIBRARY.bolt_ask(client.handle, message, len(message), asked)
         if code:
             self.requests.pop()
@@ -423,10 +430,12 @@ class Core:
         """Takes what came of the requests since: their rows, and what their summaries hold."""
         while self._told < len(self.requests):
             request = self.requests[self._told]
-            request.rows += self._open.take_rows(request.ordinal)
+            ordinal = request.ordinal
+            assert ordinal is not None
+            request.rows += self._open.take_rows(ordinal)
             if request.outcome is None:
                 return
-            request.metadata = (self._open.response(request.ordinal) or [{}])[0]
+            request.metadata = (self._open.response(ordinal) or [{}])[0]
             self._told += 1
 
     def _hear(self, piece: bytes) -> None:
@@ -463,7 +472,8 @@ class Core:
     def _lose(self, why: str) -> NoReturn:
         """Ends the connection, which is gone or given up, and raises what became of each request."""
         self._end(why)
-        self._settled = True
+        # If another task closed it, the call that went on reports that.
+        self._settled, self._is_closed = True, False
         raise Broken(self._all(), self._why or why) from self._cut
 
     def _all(self) -> list[Request]:
@@ -471,6 +481,11 @@ class Core:
         for it in self.requests:
             _ = it.outcome
         return list(self.requests)
+
+    def _waits_in_vain(self) -> bool:
+        """Returns true if the next answer can't come: nothing more is sent, and no byte of its request has gone out."""
+        following = self.requests[self._told:]
+        return self._cut is not None and bool(following) and self._open.is_unsent(following[0]._begins)
 
     def _says_goodbye(self) -> bool:
         """Asks a GOODBYE if nothing waits, and returns true then."""
@@ -482,6 +497,7 @@ class Core:
 
     def _free(self) -> None:
         """Ends the client, and frees it once each request has its outcome."""
+        self._is_closed = self._is_closed or not self._why
         self._end(CLOSED_HERE)
         if self._client:
             self._all()
@@ -513,7 +529,9 @@ class Core:
         return state
 
     def _settling(self) -> Steps[list[Request]]:
-        if self._settled and self._why:
+        # What was asked before a `close` is reported once.
+        if self._why and (self._settled or not self._is_closed):
+            self._settled = True
             raise self._over()
         state = yield from self._awaiting()
         if state.has_ended:

@@ -34,12 +34,15 @@ class Account(Protocol):
 
 
 class Request:
-    """A request with its outcome once it is known, from the library's account, and with its summary and rows."""
+    """A request with its outcome once it is known, from the library's account, and with its summary and rows.
+
+    `kind` is the name of its message, as COMMIT. `ordinal` is its number among the requests of its connection, from 0,
+    which is that of HELLO. It is None if the request was never asked."""
 
     def __init__(self, text: str, outcome: Optional[str] = None, metadata: Optional[dict[str, Any]] = None,
-                 rows: Optional[list[list[Any]]] = None, *, account: Optional[Account] = None, ordinal: int = 0,
-                 begins: int = 0) -> None:
-        self.text, self.ordinal, self._begins = text, ordinal, begins
+                 rows: Optional[list[list[Any]]] = None, kind: str = "", ordinal: Optional[int] = None, *,
+                 account: Optional[Account] = None, begins: int = 0) -> None:
+        self.text, self.kind, self.ordinal, self._begins = text, kind, ordinal, begins
         self.metadata: dict[str, Any] = {} if metadata is None else metadata
         self.rows: list[list[Any]] = [] if rows is None else rows
         self._outcome, self._account = outcome, account
@@ -47,14 +50,14 @@ class Request:
     @property
     def outcome(self) -> Optional[str]:
         """One of OUTCOMES, None as long as it isn't known."""
-        account = self._account
-        if account is not None and (told := account.outcome(self.ordinal, self._begins)):
+        account, ordinal = self._account, self.ordinal
+        if account is not None and ordinal is not None and (told := account.outcome(ordinal, self._begins)):
             # This is final: the client isn't needed for it after this.
             self._outcome, self._account = told, None
         return self._outcome
 
-    def _shown(self) -> tuple[str, Optional[str], dict[str, Any], list[list[Any]]]:
-        return self.text, self.outcome, self.metadata, self.rows
+    def _shown(self) -> tuple[str, Optional[str], dict[str, Any], list[list[Any]], str, Optional[int]]:
+        return self.text, self.outcome, self.metadata, self.rows, self.kind, self.ordinal
 
     def __eq__(self, other: object) -> bool:
         return isinstance(other, Request) and self._shown() == other._shown()
@@ -65,7 +68,8 @@ class Request:
         return Request, self._shown()
 
     def __repr__(self) -> str:
-        return "Request(text={!r}, outcome={!r}, metadata={!r}, rows={!r})".format(*self._shown())
+        return "Request(text={!r}, outcome={!r}, metadata={!r}, rows={!r}, kind={!r}, ordinal={!r})".format(
+            *self._shown())
 
 
 def committed(requests: Sequence[Request]) -> Optional[str]:
@@ -98,7 +102,9 @@ class NotSent(BoltError):
 
 
 class Told(BoltError):
-    """The base of exceptions with `requests`: those asked since all were settled, in order, with their outcomes."""
+    """The base of exceptions with `requests`: those asked since all were settled, in order.
+
+    Each has its `ordinal`, its `kind` and its `outcome`."""
 
     requests: list[Request]
 

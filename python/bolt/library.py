@@ -120,7 +120,11 @@ class Client:
             # After the end none waits: the library never took this one.
             return self._lost() if state.has_ended and not state.pending else None
         # If no byte of a request has gone out, it has committed nothing.
-        return self._lost() if OUTCOMES[told.value] == UNKNOWN and begins >= self._gone else OUTCOMES[told.value]
+        return self._lost() if OUTCOMES[told.value] == UNKNOWN and self.is_unsent(begins) else OUTCOMES[told.value]
+
+    def is_unsent(self, begins: int) -> bool:
+        """Returns true if no byte of a request whose bytes begin there can have gone out."""
+        return begins >= self._gone
 
     def _lost(self) -> str:
         """Returns the outcome of what this process hasn't sent. After a fork the parent may send it."""

@@ -169,7 +169,7 @@ class Session(Core):
         """Returns the next bytes of the server, none if no more come.
 
         After the call's time, or if a send used it up, one piece of what is there already is still read."""
-        while True:
+        while not self._waits_in_vain():
             left = 0 if isinstance(self._cut, TimeoutError) else self._left()
             assert self._socket
             if left == 0 and self._is_late:
@@ -182,6 +182,7 @@ class Session(Core):
             if not (left and left > AT_ONCE and isinstance(heard, TimeoutError)):
                 self._cut = self._cut or (TimeoutError(TIMED_OUT) if isinstance(heard, BLOCKED) else heard)
                 return b""
+        return b""
 
     @ends
     def _do(self, steps: Steps[Answer], until: Optional[float]) -> Answer:

@@ -17,6 +17,8 @@ TEXTS = {HELLO: "HELLO", GOODBYE: "GOODBYE", RESET: "RESET", RUN: "RUN", BEGIN: 
 CODES = {"NOPE": "Neo.ClientError.Statement.SyntaxError", "BUSY": "Neo.TransientError.General.DatabaseUnavailable"}
 CLASH = "Neo.ClientError.Transaction.TokenClash"
 NEO4J, OURS = "Neo4j/5.1", "BoltTable/1"
+# The answer to a handshake.
+VERSION = bytes([0, 0, 1, 5])
 
 
 class Broke(Exception):
@@ -34,16 +36,18 @@ class Serving:
     def serve(self):
         with self.client, contextlib.suppress(OSError, Broke):
             self._exactly(20)
-            self.client.sendall(bytes([0, 0, 1, 5]))
+            self.client.sendall(VERSION)
             while True:
-                tag, fields = self._read()
-                self.asked.append(TEXTS[tag])
-                if TEXTS[tag] in self.fake.breaks:
-                    raise Broke
-                if self.has_failed and tag not in (RESET, GOODBYE):
-                    self._put(IGNORED)
-                else:
-                    self._answer(tag, fields)
+                self._take(*self._read())
+
+    def _take(self, tag, fields):
+        self.asked.append(TEXTS[tag])
+        if TEXTS[tag] in self.fake.breaks:
+            raise Broke
+        if self.has_failed and tag not in (RESET, GOODBYE):
+            self._put(IGNORED)
+        else:
+            self._answer(tag, fields)
 
     def _answer(self, tag, fields):
         if tag == GOODBYE:
@@ -128,8 +132,8 @@ class Serving:
         self.client.sendall(b"".join(struct.pack(">H", len(it)) + it for it in chunks) + bytes(2))
 
 
-class Fake:
-    """A server of Bolt 5.1 at a free port. A `with` block ends it.
+class Table:
+    """A server of Bolt 5.1 without its connections: its answers, and what it has committed.
 
     - `names`: its name in the answer to HELLO, for each connection; the last one for all further connections.
     - `lost`: numbers of COMMITs, from 1, that it commits without an answer. The connection ends.
@@ -142,15 +146,22 @@ class Fake:
 
     `commits` has the token of each committed transaction, None without one."""
 
-    serving = Serving
-
     def __init__(self, names=(NEO4J,), lost=(), unheard=(), breaks=(), keeps=False, rows=((1,),), failed=None,
                  hints=None):
         self.names, self.lost, self.unheard, self.breaks = names, lost, unheard, breaks
         self.keeps, self.rows, self.failed, self.hints = keeps, rows, failed or {}, hints
         self.commits, self.asked, self.queries = [], [], []
-        self.asked_commits = 0
-        self.lock, self.threads, self.clients = threading.Lock(), [], []
+        self.asked_commits, self.lock = 0, threading.Lock()
+
+
+class Fake(Table):
+    """A server at a free port. A `with` block ends it."""
+
+    serving = Serving
+
+    def __init__(self, *words, **how):
+        super().__init__(*words, **how)
+        self.threads, self.clients = [], []
         self.listener = socket.create_server(("127.0.0.1", 0))
         self.port = self.listener.getsockname()[1]
         self.accepting = threading.Thread(target=self._accept, daemon=True)

@@ -153,7 +153,7 @@ class Rollbacks(support.InterruptCase):
 
         async with await loops.connected(self.port) as connection:
             leaving = asyncio.ensure_future(fails())
-            while not leaving.done() and connection.session.requests[-1:] != [bolt.Request("RESET")]:
+            while not leaving.done() and [it.kind for it in connection.session.requests] != ["RESET"]:
                 await asyncio.sleep(0)
             leaving.cancel()
             await asyncio.wait({leaving})

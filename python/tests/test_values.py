@@ -145,7 +145,7 @@ class Moments(support.ServerCase):
 
 POOL = """
 import bolt, concurrent.futures
-def breaks(_): raise bolt.Broken([bolt.Request("COMMIT", bolt.UNKNOWN)], bolt.GONE)
+def breaks(_): raise bolt.Broken([bolt.Request("COMMIT", bolt.UNKNOWN, kind="COMMIT", ordinal=4)], bolt.GONE)
 def goes_on(_): return bolt.Date(1)
 with concurrent.futures.ProcessPoolExecutor(1) as pool:
     for work in (breaks, goes_on):
@@ -165,7 +165,7 @@ class Pickles(unittest.TestCase):
                 self.assertEqual(value, pickle.loads(pickle.dumps(value)))
 
     def test_errors_are_the_same_after_pickling(self):
-        asked = [bolt.Request("COMMIT", bolt.UNKNOWN, {"a": 1}, [[1]])]
+        asked = [bolt.Request("COMMIT", bolt.UNKNOWN, {"a": 1}, [[1]], "COMMIT", 4)]
         for error in (bolt.NotSent(8, "S3", 2), bolt.NotSent(4, hint=bolt.GONE), bolt.Refused("a.B", "c", asked),
                       bolt.Broken(asked, bolt.TIMED_OUT)):
             with self.subTest(error=error):
@@ -177,7 +177,7 @@ class Pickles(unittest.TestCase):
         environment = {**os.environ, "PYTHONPATH": os.path.dirname(support.PACKAGE)}
         pool = subprocess.run([sys.executable, "-B", "-c", POOL], env=environment, stdout=subprocess.PIPE,
                               stderr=subprocess.DEVNULL, text=True, timeout=60)
-        wanted = ("Broken([Request(text='COMMIT', outcome='UNKNOWN', metadata={}, rows=[])],"
+        wanted = ("Broken([Request(text='COMMIT', outcome='UNKNOWN', metadata={}, rows=[], kind='COMMIT', ordinal=4)],"
                   " 'the server closed the connection')\nDate(days=1)\n")
         self.assertEqual(wanted, pool.stdout)
 
