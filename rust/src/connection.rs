@@ -1,6 +1,6 @@
 //! A connection over any stream.
 
-use crate::error::{Error, Outcome, Request, TOO_LARGE};
+use crate::error::{Error, Kind, Outcome, Request, TOO_LARGE};
 use crate::ffi::{Client, CLOSED, FULL, HALTED, LARGE, MEMORY, MESSAGE, NOT_ALLOWED, PIPELINE};
 use crate::value::{dict, put, Reading, Value, ROOM};
 use std::fmt;
@@ -78,8 +78,8 @@ pub struct Connection<S> {
     keeps_tokens: bool,
 }
 
-fn message(tag: u8, fields: &[&Value]) -> Vec<u8> {
-    let mut out = vec![0xB0 | fields.len() as u8, tag];
+fn message(kind: Kind, fields: &[&Value]) -> Vec<u8> {
+    let mut out = vec![0xB0 | fields.len() as u8, kind as u8];
     fields.iter().for_each(|it| put(&mut out, it, ROOM));
     out
 }
@@ -126,9 +126,9 @@ impl<S: Read + Write> Connection<S> {
         if !has_logon {
             hello.extend(who.clone().map(|(key, value)| (key.to_owned(), value)));
         }
-        connection.ask("HELLO", 0x01, &[&Value::Dict(hello)])?;
+        connection.ask("HELLO", Kind::Hello, &[&Value::Dict(hello)])?;
         if has_logon {
-            connection.ask("LOGON", 0x6A, &[&dict(who)])?;
+            connection.ask("LOGON", Kind::Logon, &[&dict(who)])?;
         }
         let hello = &connection.settle()?[0].metadata;
         let server = hello.get("server").and_then(Value::as_text).unwrap_or_default().to_owned();
@@ -162,7 +162,7 @@ impl<S: Read + Write> Connection<S> {
     /// Submits a request; it goes out when it is settled. Returns its index among the requests.
     ///
     /// After the end of the connection it returns `Broken` again, with the outcome of each request.
-    fn ask(&mut self, text: &str, tag: u8, fields: &[&Value]) -> Result<usize, Error> {
+    fn ask(&mut self, text: &str, kind: Kind, fields: &[&Value]) -> Result<usize, Error> {
         let has_ended = self.client.state().has_ended == 1;
         if let (true, true, Some(why)) = (has_ended, self.is_settled, self.why) {
             return Err(Error::Broken { why, error: None, requests: self.requests.clone() });
@@ -179,7 +179,7 @@ impl<S: Read + Write> Connection<S> {
             // (those before have what the account forgets)
             self.client.settle();
         }
-        let ordinal = self.client.ask(&message(tag, fields)).map_err(|(code, told)| {
+        let ordinal = self.client.ask(&message(kind, fields)).map_err(|(code, told)| {
             let letters = [(told.rule >> 8) as u8 as char, told.rule as u8 as char];
             let rule = if told.rule == 0 { String::new() } else { letters.iter().collect() };
             Error::NotSent { code, rule, place: told.place }
@@ -193,13 +193,14 @@ impl<S: Read + Write> Connection<S> {
             self.ends.clear();
         }
         self.ends.push(self.gone + self.client.waiting());
-        self.requests.push(Request { text: text.to_owned(), outcome: None, metadata: Value::Null, rows: Vec::new() });
+        let (text, metadata, rows) = (text.to_owned(), Value::Null, Vec::new());
+        self.requests.push(Request { ordinal, kind, text, outcome: None, metadata, rows });
         Ok(self.requests.len() - 1)
     }
 
     /// A BEGIN, under the token if there is one.
     pub fn ask_begin(&mut self, write: bool, token: Option<&str>) -> Result<usize, Error> {
-        self.ask("BEGIN", 0x11, &[&extra(write, token)])
+        self.ask("BEGIN", Kind::Begin, &[&extra(write, token)])
     }
 
     /// Asks a RUN and a PULL of all its rows, both or neither. Returns the index of the RUN; the PULL follows it.
@@ -208,8 +209,8 @@ impl<S: Read + Write> Connection<S> {
             return Err(refusal(FULL));
         }
         let fields: [&Value; 3] = [&Value::from(query.text.as_str()), &query.params, &extra(write, token)];
-        let run = self.ask(&format!("RUN {}", query.text), 0x10, &fields)?;
-        match self.ask(&format!("PULL of {}", query.text), 0x3F, &[&dict([("n", Value::Int(-1))])]) {
+        let run = self.ask(&format!("RUN {}", query.text), Kind::Run, &fields)?;
+        match self.ask(&format!("PULL of {}", query.text), Kind::Pull, &[&dict([("n", Value::Int(-1))])]) {
             Ok(_) => Ok(run),
             // (memory ran out between the two)
             Err(_) => Err(self.lose("out of memory", None)),
@@ -217,15 +218,15 @@ impl<S: Read + Write> Connection<S> {
     }
 
     pub fn ask_commit(&mut self) -> Result<usize, Error> {
-        self.ask("COMMIT", 0x12, &[])
+        self.ask("COMMIT", Kind::Commit, &[])
     }
 
     pub fn ask_rollback(&mut self) -> Result<usize, Error> {
-        self.ask("ROLLBACK", 0x13, &[])
+        self.ask("ROLLBACK", Kind::Rollback, &[])
     }
 
     pub fn ask_reset(&mut self) -> Result<usize, Error> {
-        self.ask("RESET", 0x0F, &[])
+        self.ask("RESET", Kind::Reset, &[])
     }
 
     /// Returns how many bytes may go out: those of the first request without an answer, or as many as sockets hold

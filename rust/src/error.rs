@@ -39,9 +39,25 @@ impl Outcome {
     }
 }
 
+/// The message of a request. Its number is the message's tag.
+#[derive(Clone, Copy, Debug, PartialEq, Eq)]
+pub enum Kind {
+    Hello = 0x01,
+    Reset = 0x0F,
+    Run = 0x10,
+    Begin = 0x11,
+    Commit = 0x12,
+    Rollback = 0x13,
+    Pull = 0x3F,
+    Logon = 0x6A,
+}
+
 /// A request that was asked: what it is called, and once it is known its outcome, metadata and rows.
 #[derive(Clone, Debug, PartialEq)]
 pub struct Request {
+    /// Its number among the requests of its connection, from 0, which is that of HELLO.
+    pub ordinal: u64,
+    pub kind: Kind,
     pub text: String,
     pub outcome: Option<Outcome>,
     pub metadata: Value,
@@ -57,7 +73,8 @@ pub enum Error {
     NotSent { code: u32, rule: String, place: u64 },
     /// The server's FAILURE. The session goes on if it lives on; a transaction that was open is gone.
     Refused { code: String, message: String, requests: Vec<Request> },
-    /// The connection broke, or was given up: why, the stream's own error if there is one, and the outcomes.
+    /// The connection broke, or was given up: why, the stream's own error if there is one, and the requests with their
+    /// outcomes. Each later call returns it again, without the stream's error.
     Broken { why: &'static str, error: Option<io::Error>, requests: Vec<Request> },
 }
 

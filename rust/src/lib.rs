@@ -29,6 +29,6 @@ mod retry;
 mod value;
 
 pub use connection::{Answer, Connection, Login, Query};
-pub use error::{Error, Outcome, Request};
+pub use error::{Error, Kind, Outcome, Request};
 pub use retry::{until_known, until_known_with, Before, Fate, Retry};
 pub use value::{dict, Value};
