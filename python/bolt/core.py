@@ -309,6 +309,11 @@ class Core:
                 self._end(INTERRUPTED)
             self._amid.clear()
 
+    @property
+    def _has_broken(self) -> bool:
+        """True if the connection has ended otherwise than by a `close`."""
+        return self._why is not None and not self._is_closed
+
     def _unallowed(self, hint: str) -> BoltError:
         """Returns the exception of a call that isn't allowed. After the end of the connection that is how it ended."""
         return self._over() if self._why else NotSent(NOT_ALLOWED, hint=hint)
@@ -530,7 +535,7 @@ class Core:
 
     def _settling(self) -> Steps[list[Request]]:
         # What was asked before a `close` is reported once.
-        if self._why and (self._settled or not self._is_closed):
+        if self._has_broken or self._settled and self._why:
             self._settled = True
             raise self._over()
         state = yield from self._awaiting()

@@ -45,8 +45,13 @@ class Deferred(Generic[Found]):
 
     result: Optional[Found] = None
 
+    def __init__(self, session: Core) -> None:
+        self._session = session
+
     def __iter__(self) -> Iterator[Record]:
         if self.result is None:
+            if self._session._has_broken:
+                raise self._session._over()
             raise ValueError("the pipeline hasn't ended, or was broken off")
         return self.result._held()
 
@@ -175,7 +180,8 @@ class Pipeline(Generic[Found]):
 
     def run(self, text: str, /, **parameters: Any) -> Deferred[Found]:
         """Asks a query and all its records."""
-        session, found = self._session, Deferred[Found]()
+        session = self._session
+        found = Deferred[Found](session)
         pull = session.ask_run(text, self._connection._stored(parameters))
         self._runs.append((found, session.requests[-2], pull))
         return found

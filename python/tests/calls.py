@@ -39,7 +39,7 @@ class Stage:
 
     `ways` has a function for each name that a row uses for what blocking calls and those of asyncio write otherwise."""
 
-    tx = result = block = None
+    tx = result = block = asked = None
     ways = {}
 
     def __init__(self, row):
@@ -138,7 +138,7 @@ CALLS = (
     Row("Session.ask Session.settle", "DISCARD", asks(lambda it: it.ask("DISCARD", 0x2F, {"n": -1})),
         UNREAD_BY_SESSION),
 )
-# One more call. Those of a transaction and of a result are done if there is one.
+# One more call. Those of a transaction, a result and the records of a pipeline are done if there are any.
 AGAIN = {
     "Connection.run": lambda it: it.connection.run("PUT"),
     "Connection.read": lambda it: it.connection.read("GET"),
@@ -167,6 +167,7 @@ AGAIN = {
     "Result.single": lambda it: it.result.single(),
     "Result.consume": lambda it: it.result.consume(),
     "Result.summary": by("summary"),
+    "Deferred.iter": lambda it: list(it.asked),
 }
 # These exchange nothing.
 SILENT = {"Connection.keeps_tokens", "Connection.server", "Connection.timeout", "Connection.version", "Result.keys",
@@ -260,8 +261,9 @@ class Calls(unittest.TestCase):
         for is_closed in (False, True):
             for name, call in AGAIN.items():
                 kind, _, part = name.partition(".")
-                if kind == "Transaction" and not stage.tx or kind == "Result" and not stage.result or (
-                        kind == "Session" and not hasattr(stage.session, part)):
+                there = {"Transaction": stage.tx, "Result": stage.result, "Deferred": stage.asked,
+                         "Session": hasattr(stage.session, part), "Connection": True}
+                if not there[kind]:
                     continue
                 ended = result_of(whole, stage.line) if kind == "Result" else None
                 is_held = ended in (("PULL", bolt.DONE), ("PULL", bolt.COMMITTED))

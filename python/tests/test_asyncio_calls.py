@@ -48,7 +48,7 @@ async def left_block(it):
 async def pipeline(it):
     async with it.connection.pipeline() as asked:
         asked.begin()
-        asked.run("PUT")
+        it.asked = asked.run("PUT")
         asked.commit()
 
 

@@ -45,7 +45,7 @@ def left_block(it):
 def pipeline(it):
     with it.connection.pipeline() as asked:
         asked.begin()
-        asked.run("PUT")
+        it.asked = asked.run("PUT")
         asked.commit()
 
 
