@@ -4,7 +4,7 @@
 
 mod common;
 
-use bolt::{Connection, Error, Kind, Outcome, Query};
+use bolt::{Connection, Error, Kind, Outcome, Query, Value};
 use common::{login, put};
 use std::cell::RefCell;
 use std::io::{self, Read, Write};
@@ -345,6 +345,11 @@ fn check(row: &Row, whole: &Made, mut made: Made, what: &str) {
     let outcomes = outcomes(requests, way.heard, way.handed);
     let wanted: Told = asked.clone().map(|it| (it as u64, requests[it].kind, Some(outcomes[it]))).collect();
     assert_eq!(told(made.connection.requests()), wanted, "{what}");
+    // The rows of a query are there if its PULL was answered.
+    for (at, pull) in wanted.iter().enumerate().skip(1).filter(|(_, it)| it.1 == Kind::Pull) {
+        let is_whole = matches!(pull.2, Some(Outcome::Done | Outcome::Committed));
+        assert_eq!(is_whole.then(|| vec![vec![7.into()]]), made.connection.answer(at - 1).map(|it| it.rows), "{what}");
+    }
     let is_answered = asked.clone().all(|it| requests[it].told <= way.heard);
     match &made.result {
         None => {}
@@ -423,4 +428,26 @@ fn opening_reports_what_is_true_after_each_end() {
             other => panic!("{told_end} {asked_end}: {other:?}"),
         }
     }
+}
+
+#[test]
+fn request_is_lost_if_the_bytes_that_went_out_end_before_it() {
+    // The RUN takes as many bytes as may go out before its answer, or a few more or fewer.
+    let mut ends_there = 0;
+    for size in 65_500..=65_513 {
+        let value = Value::Bytes(vec![0; size]);
+        let query = Query::new("PUT", [("key", "a".into()), ("value", value)]);
+        let whole = Stream::new();
+        Connection::open(whole.clone(), &login()).unwrap().run(&query).unwrap();
+        let stream = Stream::new();
+        let mut connection = Connection::open(stream.clone(), &login()).unwrap();
+        stream.0.borrow_mut().arm(0, WHOLE, None);
+        assert!(matches!(connection.run(&query), Err(Error::Broken { .. })), "{size}");
+        let (whole, way) = (whole.0.borrow(), stream.0.borrow());
+        let outcomes = outcomes(&whole.requests, way.heard, way.handed);
+        let wanted = [(2, Kind::Run, Some(outcomes[2])), (3, Kind::Pull, Some(outcomes[3]))];
+        assert_eq!(told(connection.requests()), wanted, "{size}");
+        ends_there += usize::from(way.handed == whole.requests[3].begins);
+    }
+    assert!(ends_there > 0);
 }
