@@ -25,7 +25,7 @@ MOST_WORDS = {
     "docs/PROFILE.md": 8650,
     "docs/PROGRAM.md": 700,
     "docs/PROVED.md": 4800,
-    "docs/PYTHON.md": 1400,
+    "docs/PYTHON.md": 1500,
     "docs/RUST.md": 750,
     "docs/SAFETY.md": 2100,
     "docs/SERVER.md": 2550,
