@@ -17,7 +17,7 @@ from .core import (Answer, Core, Stepped, Steps, basic, calls, context_of, host_
                    port_of)
 from .errors import CLOSED_HERE, INTERRUPTED, TIMED_OUT, BoltError, Broken, NotSent, Request, unreached
 from .library import MESSAGE, NOT_ALLOWED
-from .queries import Pipeline, Queries, Transacting
+from .queries import Given, Pipeline, Queries, Transacting, named
 from .results import Pulled, Record, Summary, by_name, by_place, only
 from .retry import Known, Tries, eager, pause
 from .versions import NEWEST
@@ -57,7 +57,7 @@ class AsyncSession(Core):
             if not isinstance(failed, OSError):
                 raise failed
             failed = own(failed)
-            raise unreached(failed) from failed
+            raise unreached(failed, tls is not None) from failed
 
     def _connected(self, opening: asyncio.Future[tuple[asyncio.StreamReader, asyncio.StreamWriter]]) -> None:
         if not opening.cancelled() and not opening.exception():
@@ -254,14 +254,15 @@ class AsyncTransaction(Transacting):
 
     _connection: AsyncConnection
 
-    def run(self, text: str, /, **parameters: Any) -> Coroutine[Any, Any, AsyncResult]:
+    def run(self, text: str, parameters: Given = None, /, **more: Any) -> Coroutine[Any, Any, AsyncResult]:
         """Runs a query in the transaction, once it is awaited."""
         self._begun.unawaited += 1
-        return self._run(text, parameters)
+        return self._run(text, parameters, more)
 
-    async def _run(self, text: str, parameters: dict[str, Any]) -> AsyncResult:
+    async def _run(self, text: str, parameters: Given, more: dict[str, Any]) -> AsyncResult:
         self._begun.unawaited -= 1
-        found: AsyncResult = await self._connection.session._call(self._running(text, parameters))
+        asked = self._running(text, named(parameters, more))
+        found: AsyncResult = await self._connection.session._call(asked)
         return found
 
     async def commit(self) -> None:
@@ -308,13 +309,13 @@ class AsyncConnection(Queries[AsyncSession, AsyncResult]):
                 if left:
                     left._lose()
 
-    async def run(self, text: str, /, **parameters: Any) -> AsyncResult:
+    async def run(self, text: str, parameters: Given = None, /, **more: Any) -> AsyncResult:
         """Runs a query of its own. It is committed with its last record."""
-        return await self.session._call(self._own(text, parameters))
+        return await self.session._call(self._own(text, named(parameters, more)))
 
-    async def read(self, text: str, /, **parameters: Any) -> AsyncResult:
+    async def read(self, text: str, parameters: Given = None, /, **more: Any) -> AsyncResult:
         """Runs a query that may not write."""
-        return await self.session._call(self._own(text, parameters, False))
+        return await self.session._call(self._own(text, named(parameters, more), False))
 
     @contextlib.asynccontextmanager
     async def transaction(self, write: bool = True, token: Optional[str] = None) -> AsyncIterator[AsyncTransaction]:

@@ -8,7 +8,7 @@ from typing import Any, Callable, Iterator, Optional, Type, Union
 
 from .core import Answer, basic, is_from_elsewhere
 from .errors import CLOSED_HERE, INTERRUPTED, BoltError
-from .queries import Deferred, Pipeline, Queries, Transacting
+from .queries import Deferred, Given, Pipeline, Queries, Transacting, named
 from .results import Pulled, Record, Summary, by_name, by_place, only
 from .session import Session
 from .versions import NEWEST
@@ -72,9 +72,9 @@ class Transaction(Transacting):
 
     _connection: Connection
 
-    def run(self, text: str, /, **parameters: Any) -> Result:
+    def run(self, text: str, parameters: Given = None, /, **more: Any) -> Result:
         """Runs a query in the transaction."""
-        found: Result = self._connection.session._call(self._running(text, parameters))
+        found: Result = self._connection.session._call(self._running(text, named(parameters, more)))
         return found
 
     def commit(self) -> None:
@@ -121,13 +121,13 @@ class Connection(Queries[Session, Result]):
                 if left:
                     left._lose()
 
-    def run(self, text: str, /, **parameters: Any) -> Result:
+    def run(self, text: str, parameters: Given = None, /, **more: Any) -> Result:
         """Runs a query of its own. It is committed with its last record."""
-        return self.session._call(self._own(text, parameters))
+        return self.session._call(self._own(text, named(parameters, more)))
 
-    def read(self, text: str, /, **parameters: Any) -> Result:
+    def read(self, text: str, parameters: Given = None, /, **more: Any) -> Result:
         """Runs a query that may not write."""
-        return self.session._call(self._own(text, parameters, False))
+        return self.session._call(self._own(text, named(parameters, more), False))
 
     @contextlib.contextmanager
     def transaction(self, write: bool = True, token: Optional[str] = None) -> Iterator[Transaction]:

@@ -14,6 +14,7 @@ import traceback
 import warnings
 from typing import Any, Callable, Generator, Generic, Iterator, NoReturn, Optional, TypeVar, Union
 
+from . import mistakes
 from .errors import (BAD_ANSWER, CLOSED_HERE, COMMITTED, DONE, ENDED, FAILED, GONE, INTERRUPTED, NO_MEMORY, NO_VERSION,
                      NOT_BOLT, REFUSED, TIMED_OUT, TOO_LARGE, BoltError, Broken, NotSent, Refused, Request)
 from .library import (CLOSED, FULL, LARGE, LIBRARY, MEMORY, NO_CLIENT, NOT_ALLOWED, OK, PIPELINE, Asked, Client,
@@ -241,6 +242,7 @@ class Core:
         self._cut: Optional[OSError] = None  # why nothing more is sent
         self._why: Optional[str] = None  # why the client has ended
         self._is_closed = False  # whether `close` ended it, and no call was broken off
+        self._detail = ""  # what to do if the server has chosen no version
         self._until = self._by()
         self._client = Client(versions, self)
 
@@ -324,7 +326,7 @@ class Core:
         After a `close` that ended it there is nothing to report."""
         if self._client is None or self._is_closed:
             return NotSent(NO_CLIENT)
-        over = Broken(self._all(), self._why or ENDED)
+        over = Broken(self._all(), self._why or ENDED, self._detail)
         over.__cause__ = self._cut
         return over
 
@@ -447,6 +449,8 @@ class Core:
         """Feeds a piece of the server's bytes, none if no more come.
 
         After a bad answer, one that can't be reported, or if memory ran out, the connection is given up."""
+        if not self._state().version:
+            self._detail = mistakes.unopened(piece)
         if not piece:
             self._lose(reason(self._cut))
         code = self._open.feed(piece)
@@ -457,6 +461,8 @@ class Core:
                 raise
             code = why.code if code in (OK, CLOSED) else code
         state = self._state()
+        if state.version:
+            self._detail = ""
         if code not in (OK, CLOSED):
             self._lose(WHY.get(code, BAD_ANSWER) if state.version else NOT_BOLT if code != MEMORY else NO_MEMORY)
         if state.has_ended and not state.version:
@@ -479,7 +485,7 @@ class Core:
         self._end(why)
         # If another task closed it, the call that went on reports that.
         self._settled, self._is_closed = True, False
-        raise Broken(self._all(), self._why or why) from self._cut
+        raise Broken(self._all(), self._why or why, self._detail) from self._cut
 
     def _all(self) -> list[Request]:
         """Returns the requests. Each one has read its outcome, if that is known."""
@@ -550,7 +556,7 @@ class Core:
         if refused:
             raise Refused(refused.metadata.get("code", ""), refused.metadata.get("message", ""), requests)
         if requests and self._why:
-            raise Broken(requests, self._why) from self._cut
+            raise Broken(requests, self._why, self._detail) from self._cut
         return requests
 
     def _going_on(self) -> Steps[None]:

@@ -3,6 +3,8 @@ from __future__ import annotations
 
 from typing import Any, Optional, Protocol, Sequence
 
+from . import mistakes
+
 OUTCOMES = ("DONE", "COMMITTED", "REFUSED", "IGNORED", "LOST", "UNKNOWN")
 DONE, COMMITTED, REFUSED, IGNORED, LOST, UNKNOWN = OUTCOMES
 
@@ -19,6 +21,8 @@ NO_MEMORY = "out of memory"
 INTERRUPTED = "interrupted"
 CLOSED_HERE = "closed"
 ENDED = "a FAILURE ended the session"  # raised as Refused
+# After these, another connection may succeed.
+PASSING = TIMED_OUT, GONE, FAILED, UNREACHED
 
 FAULTS = {1: "the request isn't allowed here", 2: "no room among the 32 requests that may wait",
           3: "the message is too long", 4: "the client has ended", 5: "out of memory",
@@ -85,6 +89,10 @@ class BoltError(Exception):
 
     Arguments that can't be packed raise TypeError, ValueError or RecursionError, which change nothing."""
 
+    def is_retryable(self) -> bool:
+        """Returns true if the same work may succeed later, and nothing of it is committed or in doubt."""
+        return False
+
 
 class NotSent(BoltError):
     """A call was refused, and it sent nothing. Earlier requests keep their outcomes, which `session.requests` has.
@@ -131,14 +139,18 @@ class Refused(Told):
         self.code, self.message, self.requests = code, message, requests
 
     def __str__(self) -> str:
-        return f"{self.code}: {self.message}"
+        return f"{self.code}: {self.message}{mistakes.refused(self.code)}"
+
+    def is_retryable(self) -> bool:
+        """Returns true for a code that calls for another try, if no commit of the requests is known or in doubt."""
+        return mistakes.is_passing(self.code) and self.outcome not in (COMMITTED, UNKNOWN)
 
 
 class Broken(Told):
     """The connection broke, was given up, or was never made. Each call after that raises it again.
 
     `why` is one of the reasons NO_VERSION to CLOSED_HERE. `__cause__` is the socket's own error if there is one. If the
-    server can't be reached, `detail` is the text of that error."""
+    connection couldn't be made, `detail` has the text of that error, and what to do."""
 
     def __init__(self, requests: list[Request], why: str, detail: str = "") -> None:
         super().__init__(requests, why, *([detail] if detail else []))
@@ -148,7 +160,11 @@ class Broken(Told):
         told = ", ".join(f"{it.text}: {it.outcome}" for it in self.requests) or "before any request"
         return f"{told} ({self.why}: {self.detail})" if self.detail else f"{told} ({self.why})"
 
+    def is_retryable(self) -> bool:
+        """Returns true if the server can't be reached or is gone, and no commit is known or in doubt."""
+        return self.why in PASSING and self.outcome not in (COMMITTED, UNKNOWN)
 
-def unreached(failed: OSError) -> Broken:
-    """Returns the exception for a server that can't be reached, with the text of the socket's own error."""
-    return Broken([], UNREACHED, str(failed) or type(failed).__name__)
+
+def unreached(failed: OSError, is_tls: bool) -> Broken:
+    """Returns the exception for a server that can't be reached: the text of the socket's own error, and what to do."""
+    return Broken([], UNREACHED, mistakes.unreached(failed, is_tls))

@@ -2,7 +2,7 @@
 from __future__ import annotations
 
 import weakref
-from typing import Any, Callable, Generic, Iterator, Optional, Type, TypeVar
+from typing import Any, Callable, Generic, Iterator, Mapping, Optional, Type, TypeVar
 
 from .core import BEGIN, COMMIT, PHASES, ROLLBACK, Begun, Core, Steps, extra
 from .errors import REFUSED, BoltError, NotSent, Request
@@ -11,6 +11,10 @@ from .times import stored
 
 Found = TypeVar("Found", bound=Pulled)
 Kind = TypeVar("Kind", bound=Core)
+# The parameters of a query, by name.
+Given = Optional[Mapping[str, Any]]
+# Options that a transaction has in the official driver. As keywords they aren't parameters of a query.
+OPTIONS = "timeout", "metadata", "bookmarks"
 
 
 def is_in_transaction(session: Core) -> bool:
@@ -30,14 +34,19 @@ def over(session: Core) -> BoltError:
     return session._unallowed("the transaction has ended")
 
 
-def named(parameters: dict[str, Any]) -> dict[str, Any]:
-    """Returns a query's parameters. The official driver's words for a call, as `database_`, aren't parameters."""
-    for name in parameters:
-        if name.endswith("_"):
-            raise TypeError(f"{name} isn't taken as a parameter of the query: names that end in _ are the official "
-                            "driver's words for the call, which this driver doesn't have. session.ask_run(text, {..}) "
-                            "takes any name")
-    return parameters
+def named(given: Given, more: dict[str, Any]) -> dict[str, Any]:
+    """Returns a query's parameters, from a mapping and from keywords.
+
+    A mapping may have any name. A keyword that looks like an option of the call is refused: one that ends in `_`, as
+    the official driver's `database_`, and each of OPTIONS."""
+    if given is not None and not isinstance(given, Mapping):
+        raise TypeError(f"the parameters of a query are a mapping of names to values, not {type(given).__name__}")
+    for name in more:
+        if name.endswith("_") or name in OPTIONS:
+            raise TypeError(f"{name} isn't taken as a parameter of the query: it looks like an option of the call, "
+                            f"which this call doesn't have. To send a parameter of this name, write "
+                            f"run(text, {{{name!r}: ..}})")
+    return {**(given or {}), **more}
 
 
 class Deferred(Generic[Found]):
@@ -93,7 +102,7 @@ class Queries(Generic[Kind, Found]):
         self.session.timeout = seconds
 
     def _stored(self, parameters: dict[str, Any]) -> dict[str, Any]:
-        return {name: stored(it, self.version) for name, it in named(parameters).items()}
+        return {name: stored(it, self.version) for name, it in parameters.items()}
 
     def _made(self, run: Request, pull: Request, text: str) -> Found:
         return self._results(self.session, run, pull, text, self.fetch)
@@ -178,11 +187,11 @@ class Pipeline(Generic[Found]):
     def begin(self, write: bool = True, token: Optional[str] = None) -> None:
         self._session.ask_begin(write, token)
 
-    def run(self, text: str, /, **parameters: Any) -> Deferred[Found]:
+    def run(self, text: str, parameters: Given = None, /, **more: Any) -> Deferred[Found]:
         """Asks a query and all its records."""
         session = self._session
         found = Deferred[Found](session)
-        pull = session.ask_run(text, self._connection._stored(parameters))
+        pull = session.ask_run(text, self._connection._stored(named(parameters, more)))
         self._runs.append((found, session.requests[-2], pull))
         return found
 

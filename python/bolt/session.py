@@ -50,7 +50,7 @@ class Session(Core):
         calls(self._tls)
         addresses = tried(socket.getaddrinfo, host, port, 0, socket.SOCK_STREAM)
         if isinstance(addresses, OSError):
-            raise unreached(addresses) from addresses
+            raise unreached(addresses, False) from addresses
         failed: Optional[OSError] = OSError("the host has no address")
         for *kind, _, address in addresses:
             failed = self._reach(host, kind, address)
@@ -58,7 +58,7 @@ class Session(Core):
                 return
             self._shut()
         assert failed
-        raise unreached(failed) from failed
+        raise unreached(failed, self._tls is not None) from failed
 
     def _reach(self, host: str, kind: Sequence[int], address: Any) -> Optional[OSError]:
         """Connects to an address of the host. Returns why that failed, None if it didn't."""
