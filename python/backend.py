@@ -35,8 +35,8 @@ def build_wheel(wheel_directory, config_settings=None, metadata_directory=None):
     if not (PACKAGE / "libbolt.so").exists():
         raise FileNotFoundError("python/bolt/libbolt.so isn't there: run scripts/build_libbolt first")
     info, tag = names()
-    packed = [it for it in sorted(PACKAGE.iterdir()) if it.suffix in (".py", ".so", ".typed") or it.name == "py.typed"]
-    files = {f"bolt/{it.name}": it.read_bytes() for it in packed}
+    packed = [it for it in sorted(PACKAGE.rglob("*")) if it.suffix in (".py", ".so", ".typed") or it.name == "py.typed"]
+    files = {f"bolt/{it.relative_to(PACKAGE).as_posix()}": it.read_bytes() for it in packed}
     files.update({name: text.encode() for name, text in metadata().items()})
     summed = lambda data: base64.urlsafe_b64encode(hashlib.sha256(data).digest()).rstrip(b"=").decode()
     record = "".join(f"{name},sha256={summed(data)},{len(data)}\n" for name, data in files.items())

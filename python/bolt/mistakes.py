@@ -17,7 +17,9 @@ NOBODY = (
     "no server listens at this port. Check that the server runs, "
     "and that this is its port: 7687 if none was chosen"
 )
-SILENT = "nothing answered in time. Check the host and the port, and whether a firewall drops packets"
+SILENT = (
+    "nothing answered in time. Check the host and the port, and whether a firewall drops packets"
+)
 NO_TLS = ". If the server speaks no TLS at this port, connect without it"
 OTHER = "check the host, the port, and this machine's network"
 NO_ANSWER = (
