@@ -26,6 +26,9 @@ from .errors import UNKNOWN, BoltError, Broken, NotSent, Refused, Request
 from .library import NOT_ALLOWED
 
 
+ITS_OWN = "each thread, task and process needs its own session"
+
+
 class DriverError(BoltError):
     """The base of exceptions that the driver raises by itself."""
 
@@ -88,6 +91,11 @@ class IncompleteCommit(ServiceUnavailable):
     """The transaction may be committed, or not: no answer to its COMMIT came.
 
     Look at the data before the work is sent again. It is never retryable."""
+
+    @property
+    def outcome(self) -> Optional[str]:
+        """UNKNOWN, also if a FAILURE answered the COMMIT."""
+        return UNKNOWN
 
     def is_retryable(self) -> bool:
         """Returns False: a second commit might count."""
@@ -201,6 +209,8 @@ def of(why: BoltError) -> BoltError:
         kind = IncompleteCommit if is_commit_unknown(why.requests) else ServiceUnavailable
         return kind(why.requests, why.why, why.detail)
     if isinstance(why, NotSent):
+        if why.hint.startswith("another ") and "has the connection" in why.hint:
+            return SessionError(f"{why.hint}: {ITS_OWN}")
         if why.code == NOT_ALLOWED and not why.rule:
             return TransactionError(why.code, why.rule, why.place, why.hint)
         return RequestError(why.code, why.rule, why.place, why.hint)

@@ -5,7 +5,7 @@ gets what each returns or raises. `play` makes the calls of a flow one after ano
 what each returns."""
 from __future__ import annotations
 
-from typing import Any, Callable, Generator, Optional, TypeVar
+from typing import Any, Callable, Generator, TypeVar
 
 from .errors import BoltError
 from .exceptions import of
@@ -21,13 +21,12 @@ def play(flow: Flow[Found]) -> Found:
     try:
         call = next(flow)
         while True:
-            value: Any = None
-            failed: Optional[BaseException] = None
             try:
                 value = call()
             except BaseException as why:
-                failed = why
-            call = flow.send(value) if failed is None else flow.throw(failed)
+                call = flow.throw(why)
+            else:
+                call = flow.send(value)
     except StopIteration as done:
         found: Found = done.value
         return found
@@ -41,13 +40,12 @@ async def aplay(flow: Flow[Found]) -> Found:
     try:
         call = next(flow)
         while True:
-            value: Any = None
-            failed: Optional[BaseException] = None
             try:
                 value = await call()
             except BaseException as why:
-                failed = why
-            call = flow.send(value) if failed is None else flow.throw(failed)
+                call = flow.throw(why)
+            else:
+                call = flow.send(value)
     except StopIteration as done:
         found: Found = done.value
         return found

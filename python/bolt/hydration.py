@@ -123,7 +123,9 @@ def sent(it: Any, version: int) -> Any:
             return values.LocalTime(nanos)
         return values.Time(nanos, times.offset_of(native))
     if isinstance(it, temporal.Duration):
-        return values.Duration(*it)
+        # The nanoseconds of PackStream are not negative.
+        seconds, nanos = divmod(it.seconds * SECOND + it.nanoseconds, SECOND)
+        return values.Duration(it.months, it.days, seconds, nanos)
     if isinstance(it, spatial.Point):
         return spatial.structure(it)
     if isinstance(it, (list, tuple)):

@@ -3,8 +3,9 @@
 Its rules are flows. `Ways` has the calls in which threads and asyncio differ."""
 from __future__ import annotations
 
+import functools
+import gc
 import logging
-import threading
 import time
 import weakref
 from typing import Any, Callable, Optional
@@ -56,11 +57,11 @@ class Pool:
     ) -> None:
         self.ways, self.address, self.auth, self.given = ways, address, auth, given
         self.is_closed = False
-        # It is held only for steps without waiting.
-        self._lock = threading.Lock()
+        # There is no lock, which an interrupt could leave locked. Each use of these is one step of
+        # the interpreter, and what an interrupt loses is counted no more.
         self._slots: weakref.WeakSet[Slot] = weakref.WeakSet()
         self._idle: list[Slot] = []
-        self._waiting: list[Any] = []
+        self._waiting: list[weakref.ref[Any]] = []
         self._broke = 0.0  # when a connection broke last
 
     @property
@@ -71,8 +72,7 @@ class Pool:
     @property
     def in_use(self) -> int:
         """The number of connections that are out of the pool."""
-        with self._lock:
-            return len(self._slots) - len(self._idle)
+        return len(self._slots) - len(self._idle)
 
     @property
     def idle(self) -> int:
@@ -105,9 +105,10 @@ class Pool:
 
     def _enter(self, until: float) -> Flow[Slot]:
         """Waits for an idle connection, or for the right to open one."""
-        event = self.ways.event()
+        event, has_collected = self.ways.event(), False
         try:
             while True:
+                event.clear()
                 slot = self._take(event)
                 if slot is not None:
                     return slot
@@ -119,42 +120,57 @@ class Pool:
                         "seconds. Close sessions sooner, or raise max_connection_pool_size or "
                         "connection_acquisition_timeout"
                     )
-                seconds = min(left, LOOK_AGAIN)
-                yield lambda: self.ways.wait(event, seconds)
+                yield functools.partial(self.ways.wait, event, min(left, LOOK_AGAIN))
+                if not event.is_set() and not has_collected:
+                    # What an interrupt has lost may be in a cycle, as that of a traceback.
+                    has_collected = True
+                    gc.collect()
         finally:
-            # The next one in the queue may go on.
             self._leave(event)
 
     def _take(self, event: Any) -> Optional[Slot]:
-        """Returns a slot if one is free and nobody came before; else notes the event in the
-        queue."""
-        with self._lock:
-            self.check()
-            event.clear()
-            ahead = self._waiting.index(event) if event in self._waiting else len(self._waiting)
-            if self._free() <= ahead:
-                if event not in self._waiting:
-                    self._waiting.append(event)
-                return None
-            if self._idle:
-                # The one that was used last is the likeliest to live.
-                return self._idle.pop()
+        """Returns a slot if more are free than calls came before this one, else None."""
+        self.check()
+        # Who comes before is counted first: who leaves the queue has taken a slot by then.
+        ahead = self._ahead(event)
+        if self._free() <= ahead:
+            return None
+        try:
+            # The one that was used last is the likeliest to live.
+            return self._idle.pop()
+        except IndexError:
             slot = Slot()
-            self._slots.add(slot)
+        self._slots.add(slot)
+        if len(self._slots) <= self.size:
             return slot
+        # Another call took it between two steps.
+        self._slots.discard(slot)
+        event.set()
+        return None
 
     def _free(self) -> int:
         return self.size - len(self._slots) + len(self._idle)
 
+    def _ahead(self, event: Any) -> int:
+        """Returns how many calls wait that came before. This one waits from now on."""
+        count = 0
+        for waiting in list(self._waiting):
+            other = waiting()
+            if other is event:
+                return count
+            count += other is not None
+        self._waiting.append(weakref.ref(event))
+        return count
+
     def _leave(self, event: Any) -> None:
-        with self._lock:
-            if event in self._waiting:
-                self._waiting.remove(event)
-            self._wake()
+        """Ends to wait, and lets the next calls go on."""
+        self._waiting[:] = [it for it in list(self._waiting) if it() not in (None, event)]
+        self._wake()
 
     def _wake(self) -> None:
-        """Wakes as many as slots are free, in their order."""
-        for event in self._waiting[: max(0, self._free())]:
+        """Wakes as many calls as slots are free, in their order."""
+        waiting = [it for it in (one() for one in list(self._waiting)) if it is not None]
+        for event in waiting[: max(0, self._free())]:
             event.set()
 
     def _is_fit(self, slot: Slot) -> Flow[bool]:
@@ -198,18 +214,16 @@ class Pool:
         is_good = made is not None and not self.is_closed and seam.is_ready(made)
         if made is not None and seam.is_broken(made):
             self._broke = time.monotonic()
-        if made is not None and not is_good:
+        if is_good:
+            slot.used = time.monotonic()
+            if slot not in self._idle:
+                self._idle.append(slot)
+        else:
             self._drop(slot)
-        with self._lock:
-            if is_good and not self.is_closed:
-                slot.used = time.monotonic()
-                if slot in self._slots and slot not in self._idle:
-                    self._idle.append(slot)
-            else:
-                self._slots.discard(slot)
-            self._wake()
-        if slot.connection is not None and self.is_closed:
-            self._drop(slot)
+            self._slots.discard(slot)
+        if self.is_closed:
+            self.drop()
+        self._wake()
 
     def _drop(self, slot: Slot) -> None:
         made, slot.connection = slot.connection, None
@@ -230,13 +244,15 @@ class Pool:
         """Ends the idle connections at once, and refuses further calls."""
         self.is_closed = True
         while self._idle:
-            self._drop(self._idle.pop())
+            slot = self._idle.pop()
+            self._drop(slot)
+            self._slots.discard(slot)
 
     def close(self) -> Flow[None]:
         """Ends the idle connections. Those in use are ended when they come back."""
-        with self._lock:
-            self.is_closed = True
-            for event in self._waiting:
+        self.is_closed = True
+        for event in [it() for it in list(self._waiting)]:
+            if event is not None:
                 event.set()
         while self._idle:
             slot = self._idle.pop()

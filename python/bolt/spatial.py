@@ -31,6 +31,9 @@ class Point(tuple[float, ...]):
     def __eq__(self, other: object) -> bool:
         return isinstance(other, Point) and self.srid == other.srid and tuple(self) == tuple(other)
 
+    def __ne__(self, other: object) -> bool:
+        return not self == other
+
     def __hash__(self) -> int:
         return hash((self.srid, tuple(self)))
 

@@ -2,11 +2,12 @@
 from __future__ import annotations
 
 import functools
+import weakref
 from typing import Any, Callable, Generic, Optional, Type, TypeVar
 
 from . import options, retry, seam
 from .errors import BoltError, NotSent, Told
-from .exceptions import ClientError, IncompleteCommit, SessionError, TransactionError
+from .exceptions import ITS_OWN, ClientError, IncompleteCommit, SessionError, TransactionError
 from .flows import Flow, told
 from .hydration import sent
 from .pool import Pool, Slot
@@ -21,7 +22,7 @@ CLOSED = "the session is closed: take a new one by driver.session()"
 ENDED = "the transaction has ended: begin another one"
 FAILED = "the transaction failed, and nothing of it is kept: begin another one"
 OPEN = "a transaction is open in this session: run the query in it, or end it first"
-BUSY = "another thread or task is in a call of this session: give each its own session"
+BUSY = f"another call of this session goes on: {ITS_OWN}"
 LAZY = (
     "the work returned a generator, an iterator or a coroutine, which would run after the "
     "commit. Return a value, and give asyncio's sessions a coroutine function"
@@ -58,7 +59,9 @@ class TransactionWork(Running[Read]):
 
     def __init__(self, session: SessionWork[Read], slot: Slot, raw: seam.AnyTransaction) -> None:
         self.results, self.pool = session.results, session.pool
-        self._session, self._slot, self._raw = session, slot, raw
+        self._session, self._raw = session, raw
+        # A session holds the slot. This object is in a cycle with its results, and may live longer.
+        self._slot = weakref.ref(slot)
         self._reads: list[Read] = []
         self._over = ""
 
@@ -77,8 +80,10 @@ class TransactionWork(Running[Read]):
 
     def _running(self, query: Any, given: Given, more: dict[str, Any]) -> Flow[Read]:
         self._check()
+        slot = self._slot()
+        assert slot
         found = yield from self.read(
-            self._slot, query, given, more, lambda text, it: seam.run(self._raw, text, it)()
+            slot, query, given, more, lambda text, it: seam.run(self._raw, text, it)()
         )
         self._reads.append(found)
         return found
@@ -122,8 +127,8 @@ class TransactionWork(Running[Read]):
 
     def _end(self) -> None:
         self._over = ENDED
-        for it in self._reads:
-            it.end()
+        while self._reads:
+            self._reads.pop().end()
         self._session.ended(self, self._raw.bookmark)
 
 
@@ -286,6 +291,9 @@ class SessionWork(Running[Read]):
         except BaseException as why:
             tries.ends_by(why)
             raise
+        finally:
+            # The exception has this frame: without this the collector alone would free both.
+            del last, tries
 
     def _closing(self, is_failed: bool = False) -> Flow[None]:
         """Ends what is open: a transaction is rolled back, the rest of a result passed over, which
@@ -301,10 +309,10 @@ class SessionWork(Running[Read]):
             elif self._auto and "slot" in self._slots and not is_failed:
                 yield from self._auto._consuming()
         finally:
+            self._release()
             self.last_bookmarks()
             if self._auto:
                 self._auto.end()
-            self._release()
 
 
 def is_doubt(why: BoltError) -> bool:

@@ -1,12 +1,16 @@
-"""Helpers of the tests of `bolt.driver`: a server of many connections, drivers, and checks of their pools."""
+"""Helpers of the tests of `bolt.driver`: a server of many connections, drivers, and checks of their
+pools."""
 import paths  # noqa: F401
 
 import asyncio
 import contextlib
+import threading
 import unittest
 import warnings
 
 import bolt
+import support
+from fakes import Fake, Serving
 from tests.lib import servers
 
 USER = ("user", "pass")
@@ -38,6 +42,26 @@ async def awaited(call):
 def in_loop(test):
     """Makes a test of a coroutine function, which runs in its own loop."""
     return lambda self: asyncio.run(test(self))
+
+
+class Held(Serving):
+    """A connection that answers a RUN of `WAIT` only after the test lets it go on."""
+
+    def _run(self, text, parameters, extra):
+        if text == "WAIT":
+            self.fake.is_there.set()
+            self.fake.may_go_on.wait(support.PATIENCE)
+        super()._run(text, parameters, extra)
+
+
+class Holding(Fake):
+    """A server with such connections."""
+
+    serving = Held
+
+    def __init__(self, **how):
+        self.is_there, self.may_go_on = threading.Event(), threading.Event()
+        super().__init__(**how)
 
 
 class PoolCase(unittest.TestCase):

@@ -63,7 +63,10 @@ class Says(unittest.TestCase):
         return support.port_of(listener)
 
     def test_uri_in_place_of_a_host(self):
-        for one in (lambda: bolt.connect("bolt://h:17"), lambda: asyncio.run(aio.connect("bolt://h:17"))):
+        for one in (
+            lambda: bolt.connect("bolt://h:17"),
+            lambda: asyncio.run(aio.connect("bolt://h:17")),
+        ):
             with self.assertRaisesRegex(ValueError, "write 'h', 17 for 'bolt://h:17'"):
                 one()
 
@@ -81,10 +84,14 @@ class Says(unittest.TestCase):
     def test_tls_to_a_plain_port(self):
         context = ssl.create_default_context()
         with servers.ManyServer() as server:
-            self.assert_text(server.port, bolt.UNREACHED, "speaks no TLS at this port", "bolt://", tls=context)
+            self.assert_text(
+                server.port, bolt.UNREACHED, "speaks no TLS at this port", "bolt://", tls=context
+            )
         # This one takes the bytes of TLS, and waits for more.
         with Fake() as fake:
-            self.assert_text(fake.port, bolt.UNREACHED, "speaks no TLS at this port", tls=context, timeout=0.3)
+            self.assert_text(
+                fake.port, bolt.UNREACHED, "speaks no TLS at this port", tls=context, timeout=0.3
+            )
 
     def test_plain_connection_to_a_tls_port(self):
         with Fake() as fake, test_tls.Tunnel(fake.port) as tunnel:
@@ -105,19 +112,25 @@ class Says(unittest.TestCase):
                 self.assertIn("Check the user and the password", str(one))
 
     def test_another_protocol(self):
-        for said, text in ((b"HTTP/1.1 400 Bad Request\r\n\r\n", "this is HTTP"),
-                           (b"\x15\x03\x01\x00\x02\x02\x46", "this is TLS"),
-                           (b"SSH-2.0-OpenSSH\r\n", "this is SSH")):
+        for said, text in (
+            (b"HTTP/1.1 400 Bad Request\r\n\r\n", "this is HTTP"),
+            (b"\x15\x03\x01\x00\x02\x02\x46", "this is TLS"),
+            (b"SSH-2.0-OpenSSH\r\n", "this is SSH"),
+        ):
             with self.subTest(said):
                 self.assert_text(self.answering(said), bolt.NOT_BOLT, text, repr(said[:12]))
 
     def test_server_with_all_its_connections(self):
-        with servers.ManyServer("--sessions", "1") as server, bolt.connect("127.0.0.1", server.port, auth=driving.USER):
+        with servers.ManyServer("--sessions", "1") as server, bolt.connect(
+            "127.0.0.1", server.port, auth=driving.USER
+        ):
             text = "as many connections as it takes"
             self.assert_text(server.port, bolt.TIMED_OUT, text, timeout=0.5)
 
     def test_broken_connection_after_the_handshake_has_no_advice(self):
-        with Fake(breaks=("RUN",)) as fake, bolt.connect("127.0.0.1", fake.port, auth=driving.USER) as connection:
+        with Fake(breaks=("RUN",)) as fake, bolt.connect(
+            "127.0.0.1", fake.port, auth=driving.USER
+        ) as connection:
             why = driving.raised(connection.run, "ONE")
             self.assertEqual(("", bolt.GONE), (why.detail, why.why))
 
@@ -129,7 +142,9 @@ class Parameters(unittest.TestCase):
         with Fake() as fake:
             with bolt.connect("127.0.0.1", fake.port, auth=driving.USER) as connection:
                 for name in ("timeout", "metadata", "bookmarks", "database_"):
-                    with self.subTest(name), self.assertRaisesRegex(TypeError, f"{name} isn't taken .*{{'{name}'"):
+                    with self.subTest(name), self.assertRaisesRegex(
+                        TypeError, f"{name} isn't taken .*{{'{name}'"
+                    ):
                         connection.run("PUT", **{name: 3})
             self.assertEqual([], fake.queries)
 
@@ -163,25 +178,39 @@ class Retryable(unittest.TestCase):
     def test_refusals(self):
         begun = [bolt.Request("BEGIN", bolt.DONE)]
         # The codes are those that the official driver's documentation calls retryable, or doesn't.
-        for code, wanted in (("Neo.TransientError.Transaction.DeadlockDetected", True),
-                             ("Neo.TransientError.Transaction.Terminated", False),
-                             ("Neo.TransientError.Transaction.LockClientStopped", False),
-                             ("Neo.ClientError.Cluster.NotALeader", True),
-                             ("Neo.ClientError.General.ForbiddenOnReadOnlyDatabase", True),
-                             ("Neo.ClientError.Statement.SyntaxError", False),
-                             ("Neo.DatabaseError.General.UnknownError", False), ("", False)):
+        for code, wanted in (
+            ("Neo.TransientError.Transaction.DeadlockDetected", True),
+            ("Neo.TransientError.Transaction.Terminated", False),
+            ("Neo.TransientError.Transaction.LockClientStopped", False),
+            ("Neo.ClientError.Cluster.NotALeader", True),
+            ("Neo.ClientError.General.ForbiddenOnReadOnlyDatabase", True),
+            ("Neo.ClientError.Statement.SyntaxError", False),
+            ("Neo.DatabaseError.General.UnknownError", False),
+            ("", False),
+        ):
             with self.subTest(code):
                 self.assertEqual(wanted, bolt.Refused(code, "", begun).is_retryable())
         for outcome, wanted in ((bolt.UNKNOWN, False), (bolt.COMMITTED, False), (bolt.LOST, True)):
             with self.subTest(outcome):
                 told = [bolt.Request("COMMIT", outcome)]
-                self.assertEqual(wanted, bolt.Refused("Neo.TransientError.A.B", "", told).is_retryable())
+                self.assertEqual(
+                    wanted, bolt.Refused("Neo.TransientError.A.B", "", told).is_retryable()
+                )
                 self.assertEqual(wanted, bolt.Broken(told, bolt.GONE).is_retryable())
 
     def test_broken_connections(self):
-        for why, wanted in ((bolt.UNREACHED, True), (bolt.TIMED_OUT, True), (bolt.GONE, True), (bolt.FAILED, True),
-                            (bolt.NOT_BOLT, False), (bolt.NO_VERSION, False), (bolt.TOO_LARGE, False),
-                            (bolt.INTERRUPTED, False), (bolt.CLOSED_HERE, False), (bolt.BAD_ANSWER, False)):
+        for why, wanted in (
+            (bolt.UNREACHED, True),
+            (bolt.TIMED_OUT, True),
+            (bolt.GONE, True),
+            (bolt.FAILED, True),
+            (bolt.NOT_BOLT, False),
+            (bolt.NO_VERSION, False),
+            (bolt.TOO_LARGE, False),
+            (bolt.INTERRUPTED, False),
+            (bolt.CLOSED_HERE, False),
+            (bolt.BAD_ANSWER, False),
+        ):
             with self.subTest(why):
                 self.assertEqual(wanted, bolt.Broken([], why).is_retryable())
         self.assertFalse(bolt.NotSent(1).is_retryable())

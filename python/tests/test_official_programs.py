@@ -1,6 +1,8 @@
-"""Programs as users of the official driver write them, and further idioms, run with only the import changed.
+"""Programs as users of the official driver write them, and further idioms, run with only the import
+changed.
 
-What they have to print is by the documentation of the official driver, and by the queries of docs/PROFILE.md."""
+What they have to print is by the documentation of the official driver, and by the queries of
+docs/PROFILE.md."""
 import paths
 
 import asyncio
@@ -37,7 +39,7 @@ PRINTED = {
     "04": "",
     "05": r"500500\n",
     "06": r"\d{4}-\d\d-\d\d \d{4}-\d\d-\d\d \d\d:\d\d:\d\d(\.\d+)?\+00:00 1 4\.9\n"
-          r"frozenset\({'A'}\) TO 2 None 1\n",
+    r"frozenset\({'A'}\) TO 2 None 1\n",
     "07": r"syntax Neo\.ClientError\.Statement\.UnknownText unknown text\n",
     "09": "",
     "10": r"1\n2\n3\n",
@@ -45,7 +47,10 @@ PRINTED = {
     "12": "",
     "13": r"55\n",
 }
-IMPORTS = ((r"\bimport neo4j\b", "import bolt.compat as neo4j"), (r"\bfrom neo4j\b", "from bolt.compat"))
+IMPORTS = (
+    (r"\bimport neo4j\b", "import bolt.compat as neo4j"),
+    (r"\bfrom neo4j\b", "from bolt.compat"),
+)
 
 
 def ported(text):
@@ -81,8 +86,10 @@ class Programs(driving.ServerCase):
     def setUp(self):
         super().setUp()
         changed = {"NEO4J_URI": driving.uri(self.port)}
-        for patch in (unittest.mock.patch.dict(os.environ, changed),
-                      unittest.mock.patch.dict(sys.modules, pandas=pandas())):
+        for patch in (
+            unittest.mock.patch.dict(os.environ, changed),
+            unittest.mock.patch.dict(sys.modules, pandas=pandas()),
+        ):
             patch.start()
             self.addCleanup(patch.stop)
         parts = re.split(r"(?m)^# ---- ", FILE.read_text())[1:]
@@ -121,8 +128,22 @@ class Programs(driving.ServerCase):
     def test_drivers_by_tls(self):
         programs.needs("openssl")
         with tempfile.TemporaryDirectory() as folder:
-            words = ["openssl", "req", "-x509", "-newkey", "rsa:2048", "-nodes", "-keyout", f"{folder}/key.pem",
-                     "-out", f"{folder}/ca.pem", "-days", "2", "-subj", "/CN=localhost"]
+            words = [
+                "openssl",
+                "req",
+                "-x509",
+                "-newkey",
+                "rsa:2048",
+                "-nodes",
+                "-keyout",
+                f"{folder}/key.pem",
+                "-out",
+                f"{folder}/ca.pem",
+                "-days",
+                "2",
+                "-subj",
+                "/CN=localhost",
+            ]
             subprocess.run(words, check=True, stdout=subprocess.DEVNULL, stderr=subprocess.DEVNULL)
             before = pathlib.Path.cwd()
             os.chdir(folder)
@@ -152,7 +173,8 @@ class Programs(driving.ServerCase):
             self.assertIn("types", names["names"](driver))
 
 
-# Further idioms: what is evaluated with a driver `d` and a session `s`, and its value, or the name of what it raises.
+# Further idioms: what is evaluated with a driver `d` and a session `s`, and its value, or the name
+# of what it raises.
 IDIOMS = (
     ("[r['i'] for r in s.run('ROWS', n=5).fetch(2)]", [1, 2]),
     ("s.run('ROWS', n=5).peek()['i']", 1),
@@ -166,15 +188,29 @@ IDIOMS = (
     ("s.run('ROWS', n=2).single(strict=True)", "ResultNotSingleError"),
     ("s.run('ROWS', n=1).single(strict=True)['i']", 1),
     ("s.run('ROWS', n=2).keys()", ["i"]),
-    ("(lambda r: (r.value(), r.data(), r.items(), r.get('z', 0)))(d.execute_query('ECHO', x={'a': [1]}).records[0])",
-     ({"a": [1]}, {"x": {"a": [1]}}, [("x", {"a": [1]})], 0)),
-    ("(lambda m: (m.query_type, m.counters.nodes_created, m.counters.contains_updates, m.database))"
-     "(d.execute_query('ONE').summary)", ("r", 0, False, None)),
+    (
+        "(lambda r: (r.value(), r.data(), r.items(), r.get('z', 0)))"
+        "(d.execute_query('ECHO', x={'a': [1]}).records[0])",
+        ({"a": [1]}, {"x": {"a": [1]}}, [("x", {"a": [1]})], 0),
+    ),
+    (
+        "(lambda m: (m.query_type, m.counters.nodes_created, m.counters.contains_updates,"
+        " m.database))"
+        "(d.execute_query('ONE').summary)",
+        ("r", 0, False, None),
+    ),
     ("d.execute_query('ROWS', n=3).summary.query", "ROWS"),
     ("d.execute_query('ROWS', n=3).summary.parameters", {"n": 3}),
     ("d.execute_query('ROWS', {'n': 3}).keys", ["i"]),
-    ("d.execute_query('ROWS', n=3, routing_='r', result_transformer_=neo4j.Result.value)", [1, 2, 3]),
-    ("d.execute_query('ROWS', n=3, routing_=neo4j.RoutingControl.READ, database_='neo4j').records[2][0]", 3),
+    (
+        "d.execute_query('ROWS', n=3, routing_='r', result_transformer_=neo4j.Result.value)",
+        [1, 2, 3],
+    ),
+    (
+        "d.execute_query('ROWS', n=3, routing_=neo4j.RoutingControl.READ, database_='neo4j')"
+        ".records[2][0]",
+        3,
+    ),
     ("d.execute_query('ONE', database_='other')", "ConfigurationError"),
     ("d.execute_query('ONE', routing_='x')", "ConfigurationError"),
     ("d.execute_query('ONE', impersonated_user_='x')", "ConfigurationError"),
@@ -185,8 +221,12 @@ IDIOMS = (
     ("d.close() or s.run('ONE')", "DriverError"),
     ("d.close() or d.execute_query('ONE')", "DriverError"),
     ("list(map(tuple, s.execute_read(lambda tx: list(tx.run('ROWS', n=2)))))", [(1,), (2,)]),
-    ("s.execute_write(lambda tx, k, value: (tx.run('PUT', key=k, value=value), tx.run('GET', key=k).single()[0])[1],"
-     " 'idiom', value=4)", 4),
+    (
+        "s.execute_write(lambda tx, k, value: (tx.run('PUT', key=k, value=value),"
+        " tx.run('GET', key=k).single()[0])[1],"
+        " 'idiom', value=4)",
+        4,
+    ),
     ("s.execute_write(lambda tx: 1 / 0)", "ZeroDivisionError"),
     ("s.execute_write(lambda tx: (i for i in tx.run('ROWS', n=2)))", "TypeError"),
     ("s.run(neo4j.Query('ROWS'), n=2).value()", [1, 2]),
@@ -230,7 +270,12 @@ class Idioms(driving.ServerCase):
             with self.subTest(text):
                 driver = self.driver(self.port)
                 session = driver.session()
-                names = {"neo4j": neo4j, "GraphDatabase": neo4j.GraphDatabase, "d": driver, "s": session}
+                names = {
+                    "neo4j": neo4j,
+                    "GraphDatabase": neo4j.GraphDatabase,
+                    "d": driver,
+                    "s": session,
+                }
                 try:
                     found = eval(text, names)
                 except Exception as why:
@@ -275,7 +320,8 @@ async def put(tx, key, value):
 async def main():
     async with AsyncGraphDatabase.driver(URI, auth=("user", "pass")) as driver:
         async with driver.session() as session:
-            print(await session.execute_write(put, "z", 5), await (await session.run("ROWS", n=4)).value())
+            print(await session.execute_write(put, "z", 5))
+            print(await (await session.run("ROWS", n=4)).value())
             try:
                 async with await session.begin_transaction() as tx:
                     await tx.run("PUT", key="z", value=6)
@@ -283,14 +329,17 @@ async def main():
             except RuntimeError:
                 pass
             print((await (await session.run("GET", key="z")).single())["value"])
-            print(await (await session.run("ROWS", n=2)).data(), await (await session.run("ROWS", n=2)).values())
-            print((await (await session.run("ROWS", n=3)).peek())[0], len(await (await session.run("ROWS", n=3)).fetch(2)))
+            print(await (await session.run("ROWS", n=2)).data())
+            print(await (await session.run("ROWS", n=2)).values())
+            result = await session.run("ROWS", n=3)
+            print((await result.peek())[0], len(await result.fetch(2)))
             tx = await session.begin_transaction()
             await tx.run("PUT", key="z", value=8)
             await tx.rollback()
             print(await session.execute_read(lambda tx: value(tx, "z")))
             print((await (await session.run("ONE")).consume()).query)
-        done = await asyncio.gather(*(driver.execute_query("PUT", key=f"q{n}", value=n) for n in range(50)))
+        asked = (driver.execute_query("PUT", key=f"q{n}", value=n) for n in range(50))
+        done = await asyncio.gather(*asked)
         print(len(done), (await driver.get_server_info()).agent)
         await driver.verify_connectivity()
         print(await driver.verify_authentication(("user", "no")))
@@ -308,8 +357,22 @@ class Asyncio(driving.ServerCase):
     def test_idioms_of_asyncio(self):
         said = io.StringIO()
         with contextlib.redirect_stdout(said):
-            exec(ported(textwrap.dedent(AWAITED)), {"asyncio": asyncio, "URI": driving.uri(self.port)})
-        wanted = ["5 [1, 2, 3, 4]", "5", "[{'i': 1}, {'i': 2}] [[1], [2]]", "1 2", "5", "ONE", "50 BoltTable/1", "False"]
+            exec(
+                ported(textwrap.dedent(AWAITED)),
+                {"asyncio": asyncio, "URI": driving.uri(self.port)},
+            )
+        wanted = [
+            "5",
+            "[1, 2, 3, 4]",
+            "5",
+            "[{'i': 1}, {'i': 2}]",
+            "[[1], [2]]",
+            "1 2",
+            "5",
+            "ONE",
+            "50 BoltTable/1",
+            "False",
+        ]
         self.assertEqual(wanted, said.getvalue().splitlines())
 
 

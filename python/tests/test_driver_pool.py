@@ -1,0 +1,266 @@
+"""The pool of `bolt.driver`: its bounds, and that it has all connections back after each bad
+case."""
+import paths  # noqa: F401
+
+import asyncio
+import gc
+import socket
+import time
+import unittest
+
+import bolt
+import driving
+import support
+from bolt import exceptions
+from fakes import Fake
+
+
+def ends(fake):
+    """Ends all connections of a fake server, as a restart does."""
+    for client in fake.clients:
+        try:
+            client.shutdown(socket.SHUT_RDWR)
+        except OSError:
+            pass
+
+
+class Bounds(driving.PoolCase):
+    """Number, age, idle time and signs of life."""
+
+    def test_default_fits_the_sessions_of_the_server(self):
+        with Fake() as fake:
+            self.assertEqual(8, self.driver(fake.port).pool.size)
+
+    def test_connection_is_used_again(self):
+        with Fake() as fake, self.driver(fake.port) as driver:
+            for _ in range(5):
+                driver.execute_query("PUT")
+            with driver.session() as session:
+                session.run("PUT").consume()
+                session.run("PUT").consume()
+            self.assertEqual((1, 1, 0), (fake.connections, driver.pool.idle, driver.pool.in_use))
+
+    def test_waiting_for_a_connection_has_an_end(self):
+        with Fake() as fake, self.driver(
+            fake.port, max_connection_pool_size=1, connection_acquisition_timeout=0.2
+        ) as driver:
+            with driver.session() as holder:
+                with holder.begin_transaction():
+                    began = time.monotonic()
+                    why = driving.raised(driver.verify_connectivity)
+                    took = time.monotonic() - began
+            self.assertIsInstance(why, exceptions.ConnectionAcquisitionTimeoutError)
+            self.assertIn("all 1 connections of the pool were in use for 0.2 seconds", str(why))
+            self.assertGreaterEqual(took, 0.2)
+            driver.verify_connectivity()
+
+    def test_waiting_calls_get_the_connection_in_turn(self):
+        with Fake() as fake, self.driver(fake.port, max_connection_pool_size=1) as driver:
+            done = []
+
+            def ask(number):
+                driver.execute_query("PUT")
+                done.append(number)
+
+            with driver.session() as holder:
+                tx = holder.begin_transaction()
+                threads = []
+                for number in range(4):
+                    threads.append(support.in_thread(ask, number))
+                    # The next one comes when this one waits.
+                    while len(driver.pool._waiting) <= number:
+                        time.sleep(0.001)
+                self.assertEqual([], done)
+                tx.close()
+            for thread in threads:
+                thread.join(support.PATIENCE)
+            self.assertEqual(([0, 1, 2, 3], 1), (done, fake.connections))
+
+    def test_old_connection_is_replaced(self):
+        for option in ("max_connection_lifetime", "max_connection_idle_time"):
+            with self.subTest(option), Fake() as fake, self.driver(
+                fake.port, **{option: 0}
+            ) as driver:
+                for _ in range(3):
+                    driver.execute_query("PUT")
+                self.assertEqual((3, 1), (fake.connections, driver.pool.idle))
+                self.assertEqual(["GOODBYE"] * 2, [it[-1] for it in fake.asked[:2]])
+
+    def test_dead_connection_is_replaced_after_a_check(self):
+        with Fake() as fake, self.driver(fake.port, liveness_check_timeout=0) as driver:
+            driver.verify_connectivity()
+            ends(fake)
+            with driver.session() as session:
+                self.assertEqual([1], session.run("PUT").value())
+            self.assertEqual(2, fake.connections)
+
+    def test_after_a_broken_connection_the_others_are_checked(self):
+        with Fake() as fake, self.driver(fake.port, liveness_check_timeout=None) as driver:
+            with driver.session() as one, driver.session() as other:
+                one.begin_transaction(), other.begin_transaction()
+            self.assertEqual(2, driver.pool.idle)
+            ends(fake)
+            with driver.session() as session:
+                why = driving.raised(session.run, "PUT")
+                self.assertIsInstance(why, exceptions.ServiceUnavailable)
+                self.assertEqual([1], session.run("PUT").value())
+            self.assertEqual(3, fake.connections)
+
+    def test_managed_work_survives_a_restart(self):
+        with Fake() as fake, self.driver(fake.port, liveness_check_timeout=None) as driver:
+            sessions = [driver.session() for _ in range(4)]
+            for session in sessions:
+                session.begin_transaction()
+            for session in sessions:
+                session.close()
+            ends(fake)
+            self.assertEqual([1], driver.execute_query("PUT").records[0].values())
+
+    def test_closing_ends_idle_connections_and_those_that_come_back(self):
+        with Fake() as fake:
+            driver = self.driver(fake.port)
+            driver.verify_connectivity()
+            session = driver.session()
+            session.begin_transaction()
+            driver.close()
+            driver.close()
+            session.close()
+            self.assertEqual((0, 0), (driver.pool.idle, driver.pool.in_use))
+            for call in (
+                driver.session,
+                driver.verify_connectivity,
+                lambda: driver.execute_query("PUT"),
+            ):
+                why = driving.raised(call)
+                self.assertEqual(
+                    (bolt.exceptions.DriverError, False), (type(why), why.is_retryable())
+                )
+                self.assertIn("the driver is closed", str(why))
+
+
+class Interrupted(support.InFiles):
+    """An interrupt at a line of the driver."""
+
+    files = ("pool.py", "flows.py", "working.py", "drivers.py", "reading.py")
+
+
+class Interrupts(driving.PoolCase):
+    """Interrupts at each line of the driver's own code, while a connection is taken, used and given
+    back."""
+
+    def check(self, work):
+        """Checks that the only connection of a pool is free after an interrupt at each line of a
+        work."""
+        with Fake(names=("BoltTable/1",), keeps=True) as fake:
+            driver = self.driver(
+                fake.port, max_connection_pool_size=1, connection_acquisition_timeout=5
+            )
+
+            def attempt(number):
+                with Interrupted(number, (KeyboardInterrupt,)) as at:
+                    try:
+                        work(driver)
+                    except KeyboardInterrupt:
+                        pass
+                if not at.raised:
+                    return None
+                # A traceback that is kept has the frames in which the connection is.
+                at.raised.__traceback__ = None
+                # If the connection is in a cycle, the pool has it back after a second.
+                self.assertEqual([1], driver.execute_query("PUT").records[0].values())
+                return number
+
+            told = support.at_each_line(attempt)
+            gc.collect()
+            self.assertEqual(0, driver.pool.in_use)
+            driver.close()
+        self.warned.clear()
+        return len(told)
+
+    def test_connection_is_not_lost(self):
+        self.assertGreater(self.check(lambda driver: driver.verify_connectivity()), 20)
+
+    def test_session_gives_its_connection_back(self):
+        def work(driver):
+            with driver.session() as session:
+                session.run("PUT").consume()
+
+        self.assertGreater(self.check(work), 60)
+
+    def test_managed_transaction_gives_its_connection_back(self):
+        self.assertGreater(self.check(lambda driver: driver.execute_query("PUT")), 80)
+
+
+class Asyncio(driving.PoolCase):
+    """The pool of asyncio."""
+
+    @driving.in_loop
+    async def test_waiting_tasks_get_the_connection(self):
+        with Fake() as fake:
+            async with self.async_driver(fake.port, max_connection_pool_size=2) as driver:
+                await asyncio.gather(*(driver.execute_query("PUT") for _ in range(20)))
+                self.assertEqual((20, True), (len(fake.commits), fake.connections <= 2))
+
+    @driving.in_loop
+    async def test_cancelled_tasks_lose_nothing(self):
+        with driving.Holding() as fake:
+            async with self.async_driver(fake.port, max_connection_pool_size=1) as driver:
+                for text in ("PUT", "WAIT"):
+                    tasks = [asyncio.ensure_future(driver.execute_query(text)) for _ in range(5)]
+                    await asyncio.sleep(0.05)
+                    for task in tasks:
+                        task.cancel()
+                    await asyncio.gather(*tasks, return_exceptions=True)
+                fake.may_go_on.set()
+                self.assertEqual(0, driver.pool.in_use)
+                await driver.execute_query("PUT")
+
+    @driving.in_loop
+    async def test_waiting_has_an_end(self):
+        with Fake() as fake:
+            how = {"max_connection_pool_size": 1, "connection_acquisition_timeout": 0.2}
+            async with self.async_driver(fake.port, **how) as driver, driver.session() as session:
+                await session.begin_transaction()
+                why = await driving.awaited(driver.verify_connectivity())
+                self.assertIsInstance(why, exceptions.ConnectionAcquisitionTimeoutError)
+
+    @driving.in_loop
+    async def test_closed_driver_and_session(self):
+        with Fake() as fake:
+            async with self.async_driver(fake.port) as driver:
+                session = driver.session()
+                await session.close()
+                why = await driving.awaited(session.run("PUT"))
+                self.assertEqual(exceptions.SessionError, type(why))
+            why = await driving.awaited(driver.execute_query("PUT"))
+            self.assertEqual(exceptions.DriverError, type(why))
+
+    @driving.in_loop
+    async def test_session_in_two_tasks(self):
+        with driving.Holding() as fake:
+            async with self.async_driver(fake.port) as driver, driver.session() as session:
+                first = asyncio.ensure_future(session.run("WAIT"))
+                await asyncio.get_running_loop().run_in_executor(None, fake.is_there.wait)
+                why = await driving.awaited(session.run("PUT"))
+                fake.may_go_on.set()
+                await first
+                self.assertEqual(exceptions.SessionError, type(why))
+
+    def test_driver_of_a_loop_that_has_ended(self):
+        async def ask():
+            await driver.execute_query("PUT")
+
+        with Fake() as fake:
+            driver = bolt.async_driver(driving.uri(fake.port))
+            asyncio.run(ask())
+            asyncio.run(ask())
+            self.assertEqual((2, 0), (fake.connections, driver.pool.in_use))
+            driver.pool.drop()
+        # Sockets of a loop that has ended are closed by the collector, with a warning.
+        del driver, ask
+        gc.collect()
+        self.warned.clear()
+
+
+if __name__ == "__main__":
+    unittest.main()
