@@ -19,13 +19,14 @@ MOST_WORDS = {
     "docs/CHANGING.md": 1150,
     "docs/CLIENT.md": 3350,
     "docs/DECISIONS.md": 3750,
+    "docs/DRIVER.md": 1700,
     "docs/ENGINE.md": 2600,
     "docs/EXAMPLES.md": 2650,
     "docs/MAP.md": 2200,
     "docs/PROFILE.md": 8650,
     "docs/PROGRAM.md": 700,
     "docs/PROVED.md": 4800,
-    "docs/PYTHON.md": 1500,
+    "docs/PYTHON.md": 1600,
     "docs/RUST.md": 750,
     "docs/SAFETY.md": 2100,
     "docs/SERVER.md": 2550,
@@ -125,6 +126,9 @@ class Python(unittest.TestCase):
 
     def test_python_blocks_of_readme_print_what_it_says(self):
         self.assert_blocks_run(pages.read("README.md"))
+
+    def test_python_blocks_of_the_driver_print_what_its_page_says(self):
+        self.assert_blocks_run(pages.read("docs/DRIVER.md"))
 
     def test_what_comments_say_is_compared(self):
         text = """

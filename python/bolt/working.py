@@ -322,7 +322,9 @@ def is_doubt(why: BoltError) -> bool:
 
 def failure(known: retry.Known, last: Optional[Exception]) -> Exception:
     """Returns what is raised of a managed transaction that isn't known to be committed."""
-    if known.fate == retry.OPEN and not isinstance(last, (IncompleteCommit, ClientError)):
+    # Without tokens, the only doubt that ends by a ClientError is the one that answers COMMIT.
+    is_answer = isinstance(last, ClientError) and not known.may_repeat
+    if known.fate == retry.OPEN and not is_answer and not isinstance(last, IncompleteCommit):
         requests = last.requests if isinstance(last, Told) else []
         made = IncompleteCommit(requests, "a try may have committed", str(last or ""))
         made.__cause__ = last

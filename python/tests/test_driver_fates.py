@@ -89,6 +89,10 @@ async def awaited(tx, key="k"):
     return (await (await tx.run("PUT", key=key, value=1)).single())[0]
 
 
+def put_by_connection(tx):
+    tx.run("PUT", key="k", value=1).consume()
+
+
 def transfer(tx, key):
     tx.run("PUT", key=key, value=1).consume()
 
@@ -177,6 +181,34 @@ class Fates(driving.PoolCase):
                 with self.assertRaises(kind):
                     session.execute_write(work)
                 self.assertEqual(([1], []), (tried, fake.commits))
+
+    def test_refusal_after_a_doubt_does_not_hide_the_doubt(self):
+        """The answer of the first COMMIT is lost, and the second try is refused before its COMMIT."""
+        for text, kind in (("NOPE", exceptions.CypherSyntaxError), ("none", ZeroDivisionError)):
+
+            def work(tx):
+                tried.append(1)
+                if len(tried) == 2:
+                    return tx.run("NOPE") if text == "NOPE" else 1 / 0
+                return put(tx)
+
+            tried = []
+            with self.subTest(text), Fake(names=(OURS,), keeps=True, lost=(1,)) as fake:
+                with self.driver(fake.port) as driver, driver.session() as session:
+                    why = driving.raised(session.execute_write, work)
+                self.assertEqual(
+                    (bolt.OPEN, True, 1), (why.known.fate, why.known.may_repeat, len(fake.commits))
+                )
+                if text == "NOPE":
+                    self.assertEqual((UNKNOWN, kind), (type(why), type(why.__cause__)))
+                    self.assertIn(why.token, fake.commits)
+                    with bolt.connect("127.0.0.1", fake.port, auth=driving.USER) as connection:
+                        again = bolt.until_known(
+                            lambda: connection, put_by_connection, why.token, in_doubt=True
+                        )
+                    self.assertEqual((bolt.STANDS, 1), (again.fate, len(fake.commits)))
+                else:
+                    self.assertEqual(kind, type(why))
 
     def test_commit_in_doubt_without_managed_work(self):
         for lost in ({"lost": (1,)}, {"unheard": (1,)}):
