@@ -20,9 +20,9 @@ An exception from elsewhere during a call, as KeyboardInterrupt or that of a sig
 `bolt.compat` has it under the official names.
 """
 from . import exceptions
-from .aiodrivers import async_driver
+from .aiodrivers import AsyncDriver, async_driver
 from .connection import Connection, Deferred, Pipeline, Result, Transaction, connect
-from .drivers import driver
+from .drivers import Driver, driver
 from .errors import (BAD_ANSWER, CLOSED_HERE, COMMITTED, DONE, FAILED, GONE, IGNORED, INTERRUPTED, LOST, NO_MEMORY,
                      NO_VERSION, NOT_BOLT, OUTCOMES, REFUSED, TIMED_OUT, TOO_LARGE, UNKNOWN, UNREACHED, BoltError,
                      Broken, NotSent, Refused, Request)
@@ -34,7 +34,7 @@ from .values import (Date, DateTime, Duration, LocalDateTime, LocalTime, Node, P
 from .versions import NEWEST, V4_4, V5_0, V5_1
 
 __version__ = "1.0"
-__all__ = ["driver", "async_driver", "exceptions", "connect", "Connection", "Transaction", "Pipeline", "Deferred", "Result", "Record", "Summary", "until_known",
+__all__ = ["driver", "async_driver", "Driver", "AsyncDriver", "exceptions", "connect", "Connection", "Transaction", "Pipeline", "Deferred", "Result", "Record", "Summary", "until_known",
            "Known", "STANDS", "CLASH", "OPEN", "ABSENT", "Session", "Request", "BoltError", "NotSent", "Refused",
            "Broken", "NEWEST", "V4_4", "V5_0", "V5_1", "OUTCOMES", "DONE", "COMMITTED", "REFUSED", "IGNORED", "LOST",
            "UNKNOWN", "NO_VERSION", "NOT_BOLT", "TIMED_OUT", "GONE", "FAILED", "UNREACHED", "BAD_ANSWER", "TOO_LARGE",

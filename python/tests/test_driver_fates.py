@@ -256,7 +256,7 @@ class Cuts(driving.ServerCase):
     """Eight threads, or tasks, over one driver through a proxy that cuts at random: each transfer
     is there once."""
 
-    WORKERS, TRANSFERS = 8, 25
+    WORKERS, TRANSFERS = 8, 60
 
     def keys(self, name):
         """Returns how often each key of a test is in the table."""

@@ -216,6 +216,23 @@ class Asyncio(driving.PoolCase):
                 await driver.execute_query("PUT")
 
     @driving.in_loop
+    async def test_cancellation_at_each_step_of_the_loop_loses_nothing(self):
+        with Fake(names=("BoltTable/1",), keeps=True) as fake:
+            how = {"max_connection_pool_size": 1, "connection_acquisition_timeout": 5}
+            async with self.async_driver(fake.port, **how) as driver:
+                cancelled = 0
+                for steps in range(100):
+                    task = asyncio.ensure_future(driver.execute_query("PUT"))
+                    for _ in range(steps):
+                        await asyncio.sleep(0)
+                    task.cancel()
+                    (why,) = await asyncio.gather(task, return_exceptions=True)
+                    cancelled += isinstance(why, asyncio.CancelledError)
+                    self.assertEqual(0, driver.pool.in_use, f"lost after {steps} steps")
+                    self.assertEqual([1], (await driver.execute_query("PUT")).records[0].values())
+                self.assertGreater(cancelled, 4)
+
+    @driving.in_loop
     async def test_waiting_has_an_end(self):
         with Fake() as fake:
             how = {"max_connection_pool_size": 1, "connection_acquisition_timeout": 0.2}

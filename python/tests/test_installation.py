@@ -72,6 +72,8 @@ class Installation(support.ServerCase):
         self.said(sys.executable, "-m", "venv", "--without-pip", self.folder / "fresh")
         python = self.folder / "fresh" / "bin" / "python"
         self.install(wheel, python)
+        names = "import bolt.compat.time as time, bolt.compat as neo4j; print(neo4j.GraphDatabase.driver, time.Date)"
+        self.assertIn("driver", self.said(python, "-B", "-c", names))
         for program, wanted in first_programs():
             with self.subTest(wanted=wanted):
                 self.assertNotEqual([""], wanted, "the page says what its program prints")
