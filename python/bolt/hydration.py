@@ -9,6 +9,8 @@ from . import graph, spatial, temporal, times, values
 from .versions import V4_4
 
 SECOND = 10**9
+# Values that are themselves.
+PLAIN = bool, int, float, str, bytes
 
 
 def zoned(seconds: int, nanoseconds: int, zone: str, is_utc: bool) -> temporal.DateTime:
@@ -60,8 +62,9 @@ class Hydration:
         self.graph = graph.Graph()
 
     def value(self, it: Any) -> Any:
-        """Returns the user's value. A moment that Python can't have stays the structure of
-        `bolt`."""
+        """Returns the user's value. A moment that Python can't have stays a structure of `bolt`."""
+        if it is None or isinstance(it, PLAIN):
+            return it
         if isinstance(it, list):
             return [self.value(one) for one in it]
         if isinstance(it, dict):

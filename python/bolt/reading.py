@@ -100,12 +100,15 @@ class Reading:
         """All records that weren't read yet. What comes before an interrupt stays unread."""
         kept: list[Record] = []
         try:
-            while (one := (yield from self._taking())) is not None:
-                kept.append(one)
+            while True:
+                while (one := self._held()) is not None:
+                    kept.append(one)
+                if seam.is_whole(self._raw):
+                    return kept
+                yield from self._exchanging(seam.refill(self._raw))
         except BaseException:
             self._ahead.extendleft(reversed(kept))
             raise
-        return kept
 
     def _singling(self, strict: bool) -> Flow[tuple[Optional[Record], bool]]:
         """The first record, and whether there are more. All others are passed over."""

@@ -157,6 +157,25 @@ class BadCases(driving.PoolCase):
         self.assertTrue(bolt.driver("bolt://h", encrypted=True).encrypted)
         self.assertFalse(bolt.driver("bolt://h", encrypted=False).encrypted)
 
+    def test_call_has_its_time(self):
+        with driving.Holding() as fake, self.driver(fake.port, call_timeout=0.2) as driver:
+            with driver.session() as session:
+                why = driving.raised(session.run, "WAIT")
+                fake.may_go_on.set()
+                self.assertIsInstance(why, exceptions.ServiceUnavailable)
+                self.assertEqual((bolt.TIMED_OUT, bolt.UNKNOWN), (why.why, why.outcome))
+                self.assertEqual(exceptions.IncompleteCommit, type(why))
+                self.assertEqual([1], session.run("PUT").value())
+
+    def test_connections_are_kept_alive_if_asked(self):
+        for asked in (True, False):
+            with Fake() as fake, self.driver(fake.port, keep_alive=asked) as driver:
+                driver.verify_connectivity()
+                (slot,) = driver.pool._idle
+                made = slot.connection.session._socket
+                found = made.getsockopt(socket.SOL_SOCKET, socket.SO_KEEPALIVE)
+                self.assertEqual(asked, bool(found))
+
     def test_session_in_two_threads(self):
         with driving.Holding() as fake, self.driver(
             fake.port

@@ -30,6 +30,7 @@ from ..records import Record
 from ..summaries import Bookmarks, EagerResult, ResultSummary, ServerInfo, SummaryCounters
 from . import debug, exceptions, graph, spatial, time
 
+DEFAULT_DATABASE, SYSTEM_DATABASE = None, "system"
 Work = TypeVar("Work", bound=Callable[..., Any])
 
 
@@ -81,6 +82,7 @@ __all__ = [
     "AsyncSession",
     "AsyncTransaction",
     "Bookmarks",
+    "DEFAULT_DATABASE",
     "Driver",
     "EagerResult",
     "GraphDatabase",
@@ -91,6 +93,7 @@ __all__ = [
     "Result",
     "ResultSummary",
     "RoutingControl",
+    "SYSTEM_DATABASE",
     "ServerInfo",
     "Session",
     "SummaryCounters",
