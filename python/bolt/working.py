@@ -89,8 +89,11 @@ class TransactionWork(Running[Read]):
         return found
 
     def _committing(self) -> Flow[None]:
-        self._check()
+        if self._over:
+            raise TransactionError(hint=self._over)
         try:
+            # A transaction that has failed ends here, too.
+            self._check()
             yield from told(lambda: self._raw.commit())
         finally:
             self._end()

@@ -233,6 +233,40 @@ class BadCases(driving.PoolCase):
             self.assertEqual([1], session.run("PUT").value())
             self.assertEqual([None], fake.commits)
 
+    def test_failure_that_a_block_ignores_is_raised_at_its_end(self):
+        def work():
+            with session.begin_transaction() as tx:
+                driving.raised(tx.run, "NOPE")
+
+        with Fake() as fake, self.driver(fake.port) as driver, driver.session() as session:
+            self.assertEqual(exceptions.TransactionError, type(driving.raised(work)))
+            self.assertEqual([1], session.run("PUT").value())
+            managed = driving.raised(
+                session.execute_write, lambda tx: driving.raised(tx.run, "NOPE")
+            )
+            self.assertEqual(exceptions.TransactionError, type(managed))
+            self.assertEqual([None], fake.commits)
+
+    def test_work_that_would_run_later_commits_nothing(self):
+        async def later(tx):
+            tx.run("PUT")
+
+        works = (
+            later,
+            lambda tx: (tx.run("PUT") for _ in range(2)),
+            lambda tx: map(tx.run, ["PUT"]),
+        )
+        with Fake() as fake, self.driver(fake.port) as driver, driver.session() as session:
+            for work in works:
+                why = driving.raised(session.execute_write, work)
+                self.assertEqual(TypeError, type(why))
+                self.assertIn("would run after the commit", str(why))
+            # A result is read no more, but it was run.
+            result = session.execute_write(lambda tx: tx.run("PUT"))
+            self.assertEqual(exceptions.ResultConsumedError, type(driving.raised(list, result)))
+            self.assertEqual([None], fake.commits)
+        self.warned.clear()
+
     def test_session_that_is_lost_gives_its_connection_back(self):
         with Fake() as fake, self.driver(fake.port, max_connection_pool_size=1) as driver:
             session = driver.session()
