@@ -108,7 +108,7 @@ class AsyncResult(Reading):
 
     async def consume(self) -> ResultSummary:
         """Passes over what is left, and returns how the query ended."""
-        return await aplay(self._consuming())
+        return await aplay(self.consume_flow())
 
 
 class AsyncManagedTransaction(TransactionWork[AsyncResult]):
@@ -126,7 +126,7 @@ class AsyncTransaction(AsyncManagedTransaction):
     async def commit(self) -> None:
         """Commits. IncompleteCommit says that it may be committed, TransactionError that it has
         ended before."""
-        await aplay(self._committing())
+        await aplay(self.commit_flow())
 
     async def rollback(self) -> None:
         """Rolls back. TransactionError says that it has ended before."""
@@ -140,7 +140,7 @@ class AsyncTransaction(AsyncManagedTransaction):
         return self
 
     async def __aexit__(self, kind: Optional[Type[BaseException]], *_: object) -> None:
-        await aplay(self._leaving(kind))
+        await aplay(self.leave_flow(kind))
 
 
 class AsyncSession(SessionWork[AsyncResult]):

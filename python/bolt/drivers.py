@@ -110,7 +110,7 @@ class Result(Reading):
 
     def consume(self) -> ResultSummary:
         """Passes over what is left, and returns how the query ended."""
-        return play(self._consuming())
+        return play(self.consume_flow())
 
 
 class ManagedTransaction(TransactionWork[Result]):
@@ -129,7 +129,7 @@ class Transaction(ManagedTransaction):
     def commit(self) -> None:
         """Commits. IncompleteCommit says that it may be committed, TransactionError that it has
         ended before."""
-        play(self._committing())
+        play(self.commit_flow())
 
     def rollback(self) -> None:
         """Rolls back. TransactionError says that it has ended before."""
@@ -143,7 +143,7 @@ class Transaction(ManagedTransaction):
         return self
 
     def __exit__(self, kind: Optional[Type[BaseException]], *_: object) -> None:
-        play(self._leaving(kind))
+        play(self.leave_flow(kind))
 
 
 class Session(SessionWork[Result]):

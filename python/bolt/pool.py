@@ -3,6 +3,7 @@
 Its rules are flows. `Ways` has the calls in which threads and asyncio differ."""
 from __future__ import annotations
 
+import contextlib
 import functools
 import gc
 import logging
@@ -164,7 +165,11 @@ class Pool:
 
     def _leave(self, event: Any) -> None:
         """Ends to wait, and lets the next calls go on."""
-        self._waiting[:] = [it for it in list(self._waiting) if it() not in (None, event)]
+        for waiting in list(self._waiting):
+            if waiting() is None or waiting() is event:
+                # Another call may have done so for one that an interrupt has lost.
+                with contextlib.suppress(ValueError):
+                    self._waiting.remove(waiting)
         self._wake()
 
     def _wake(self) -> None:

@@ -113,13 +113,14 @@ class Reading:
     def _singling(self, strict: bool) -> Flow[tuple[Optional[Record], bool]]:
         """The first record, and whether there are more. All others are passed over."""
         found = yield from self._fetching(2)
-        yield from self._consuming()
+        yield from self.consume_flow()
         if strict and len(found) != 1:
             what = "there are several" if found else "there is none"
             raise ResultNotSingleError(f"one record is wanted, and {what}")
         return (found[0] if found else None), len(found) > 1
 
-    def _consuming(self) -> Flow[ResultSummary]:
+    def consume_flow(self) -> Flow[ResultSummary]:
+        """Passes over what is left, and returns how the query ended."""
         if not self._over:
             if mapped(lambda: seam.has_more(self._raw)):
                 yield from self._exchanging(seam.discard(self._raw))
@@ -135,7 +136,7 @@ class Reading:
 
     def _eager(self) -> Flow[EagerResult]:
         records = yield from self._collecting()
-        summary = yield from self._consuming()
+        summary = yield from self.consume_flow()
         return EagerResult(records, summary, self.keys())
 
     def _framing(self, expand: bool, parse_dates: bool) -> Flow[Any]:

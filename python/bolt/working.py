@@ -88,7 +88,8 @@ class TransactionWork(Running[Read]):
         self._reads.append(found)
         return found
 
-    def _committing(self) -> Flow[None]:
+    def commit_flow(self) -> Flow[None]:
+        """Commits, and ends the transaction whatever comes of that."""
         if self._over:
             raise TransactionError(hint=self._over)
         try:
@@ -113,12 +114,13 @@ class TransactionWork(Running[Read]):
         finally:
             self._end()
 
-    def _leaving(self, kind: Optional[Type[BaseException]]) -> Flow[None]:
-        """Ends its block: commits it, or rolls it back after an exception, which is the one to be
-        raised."""
+    def leave_flow(self, kind: Optional[Type[BaseException]]) -> Flow[None]:
+        """Ends its block: commits it, or rolls it back after an exception of this type.
+
+        That exception is raised, so one of the rollback isn't."""
         if kind is None:
             if not self._over:
-                yield from self._committing()
+                yield from self.commit_flow()
         elif not issubclass(kind, Exception):
             self._end()
         else:
@@ -250,10 +252,10 @@ class SessionWork(Running[Read]):
                 if retry.is_lazy(value) and not isinstance(value, Reading):
                     raise TypeError(LAZY)
             except Exception as why:
-                yield from found._leaving(type(why))
+                yield from found.leave_flow(type(why))
                 raise
             if not found.closed():
-                yield from found._committing()
+                yield from found.commit_flow()
             return value
         finally:
             self._open = None
@@ -308,9 +310,9 @@ class SessionWork(Running[Read]):
         self._is_closed = True
         try:
             if self._open:
-                yield from self._open._leaving(BoltError)
+                yield from self._open.leave_flow(BoltError)
             elif self._auto and "slot" in self._slots and not is_failed:
-                yield from self._auto._consuming()
+                yield from self._auto.consume_flow()
         finally:
             self._release()
             self.last_bookmarks()

@@ -4,14 +4,18 @@ import paths  # noqa: F401
 
 import asyncio
 import gc
+import random
 import socket
+import sys
 import time
 import unittest
+import unittest.mock
 
 import bolt
 import driving
 import support
-from bolt import exceptions
+from bolt import exceptions, seam
+from bolt.flows import play
 from fakes import Fake
 
 
@@ -75,6 +79,40 @@ class Bounds(driving.PoolCase):
             for thread in threads:
                 thread.join(support.PATIENCE)
             self.assertEqual(([0, 1, 2, 3], 1), (done, fake.connections))
+
+    def test_bound_holds_among_many_threads(self):
+        """No connection is given out twice, none beyond the bound, and no call waits in vain."""
+
+        def take(pool, seed):
+            chance = random.Random(seed)
+            for _ in range(40):
+                slot = play(pool.acquire())
+                if slot in out or len(out) >= pool.size:
+                    wrong.append(len(out))
+                out.add(slot)
+                if chance.random() < 0.3:
+                    time.sleep(0.0005)
+                out.discard(slot)
+                if chance.random() < 0.05:
+                    seam.drop(slot.connection)
+                pool.release(slot)
+                done.append(seed)
+
+        before = sys.getswitchinterval()
+        self.addCleanup(sys.setswitchinterval, before)
+        sys.setswitchinterval(1e-5)
+        # A call that nobody wakes would time out.
+        patch = unittest.mock.patch.object(bolt.pool, "LOOK_AGAIN", 60)
+        for size in (1, 2, 5):
+            how = {"max_connection_pool_size": size, "max_connection_lifetime": 0.05}
+            with self.subTest(size=size), Fake() as fake, self.driver(
+                fake.port, **how
+            ) as driver, patch:
+                out, wrong, done = set(), [], []
+                threads = [support.in_thread(take, driver.pool, seed) for seed in range(16)]
+                for thread in threads:
+                    thread.join(support.PATIENCE)
+                self.assertEqual(([], 16 * 40), (wrong, len(done)))
 
     def test_old_connection_is_replaced(self):
         for option in ("max_connection_lifetime", "max_connection_idle_time"):
