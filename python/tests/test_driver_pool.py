@@ -7,9 +7,11 @@ import gc
 import random
 import socket
 import sys
+import threading
 import time
 import unittest
 import unittest.mock
+import weakref
 
 import bolt
 import driving
@@ -105,6 +107,7 @@ class Bounds(driving.PoolCase):
         patch = unittest.mock.patch.object(bolt.pool, "LOOK_AGAIN", 60)
         for size in (1, 2, 5):
             how = {"max_connection_pool_size": size, "max_connection_lifetime": 0.05}
+            how["connection_acquisition_timeout"] = 20
             with self.subTest(size=size), Fake() as fake, self.driver(
                 fake.port, **how
             ) as driver, patch:
@@ -113,6 +116,23 @@ class Bounds(driving.PoolCase):
                 for thread in threads:
                     thread.join(support.PATIENCE)
                 self.assertEqual(([], 16 * 40), (wrong, len(done)))
+
+    def test_call_that_leaves_the_queue_removes_no_other(self):
+        class Queue(list):
+            """While this is read for the first time, another call comes."""
+
+            def __iter__(self):
+                before = list(super().__iter__())
+                if not came:
+                    came.append(True)
+                    self.append(weakref.ref(other))
+                return iter(before)
+
+        leaving, other, came = threading.Event(), threading.Event(), []
+        with Fake() as fake, self.driver(fake.port) as driver:
+            driver.pool._waiting = Queue([weakref.ref(leaving)])
+            driver.pool._leave(leaving)
+            self.assertEqual([other], [it() for it in driver.pool._waiting])
 
     def test_old_connection_is_replaced(self):
         for option in ("max_connection_lifetime", "max_connection_idle_time"):
