@@ -8,9 +8,11 @@ import contextlib
 import random
 import threading
 import unittest
+import unittest.mock
 
 import bolt
 import driving
+import support
 from bolt import exceptions
 from fakes import CLASH, CODES, NEO4J, OURS, Fake
 from tests.lib import proxy
@@ -310,6 +312,33 @@ class Cuts(driving.ServerCase):
                 await asyncio.gather(*(transfers(driver, it) for it in range(self.WORKERS)))
 
         self.check("task", lambda port: asyncio.run(main(port)))
+
+
+class EachByte(driving.ServerCase):
+    """The first connection of a driver is cut after each number of bytes, in each direction."""
+
+    def transferred(self, key, **cut):
+        """Puts a key by managed work, and returns how many bytes passed in the first connection."""
+        with proxy.Door(self.port, [cut]) as door:
+            port = support.port_of(door.listener)
+            with self.driver(port) as driver, driver.session() as session:
+                session.execute_write(transfer, key)
+        # The door has ended, so its counts are there.
+        return door.passed[0]
+
+    def test_each_transfer_is_there_once(self):
+        whole = self.transferred("cut")
+        wanted = {"cut": 1}
+        with unittest.mock.patch.object(bolt.retry, "pause", lambda _: 0):
+            for way in ("told", "asked"):
+                for count in range(whole[way] + 1):
+                    key = f"cut{way}{count:03}"
+                    self.transferred(key, **{way: count})
+                    wanted[key] = 1
+        with bolt.connect("127.0.0.1", self.port, auth=driving.USER) as connection:
+            found = collections.Counter(it["key"] for it in connection.read("KEYS"))
+        self.assertEqual(wanted, dict(found))
+        self.assertGreater(len(wanted), 300)
 
 
 if __name__ == "__main__":
