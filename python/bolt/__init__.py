@@ -19,8 +19,9 @@ An exception from elsewhere during a call, as KeyboardInterrupt or that of a sig
 `bolt.driver` and `bolt.async_driver` are the API of the official Neo4j driver: a pool, sessions, `execute_query`.
 `bolt.compat` has it under the official names.
 """
+from typing import TYPE_CHECKING, Any
+
 from . import exceptions
-from .aiodrivers import AsyncDriver, async_driver
 from .connection import Connection, Deferred, Pipeline, Result, Transaction, connect
 from .drivers import Driver, driver
 from .errors import (BAD_ANSWER, CLOSED_HERE, COMMITTED, DONE, FAILED, GONE, IGNORED, INTERRUPTED, LOST, NO_MEMORY,
@@ -34,10 +35,22 @@ from .values import (Date, DateTime, Duration, LocalDateTime, LocalTime, Node, P
 from .versions import NEWEST, V4_4, V5_0, V5_1
 
 __version__ = "1.0"
-__all__ = ["driver", "async_driver", "Driver", "AsyncDriver", "exceptions", "connect", "Connection", "Transaction", "Pipeline", "Deferred", "Result", "Record", "Summary", "until_known",
-           "Known", "STANDS", "CLASH", "OPEN", "ABSENT", "Session", "Request", "BoltError", "NotSent", "Refused",
+__all__ = ["driver", "async_driver", "Driver", "AsyncDriver", "exceptions", "connect", "Connection", "Transaction",
+           "Pipeline", "Deferred", "Result", "Record", "Summary", "until_known", "Known", "STANDS", "CLASH", "OPEN", "ABSENT", "Session", "Request", "BoltError", "NotSent", "Refused",
            "Broken", "NEWEST", "V4_4", "V5_0", "V5_1", "OUTCOMES", "DONE", "COMMITTED", "REFUSED", "IGNORED", "LOST",
            "UNKNOWN", "NO_VERSION", "NOT_BOLT", "TIMED_OUT", "GONE", "FAILED", "UNREACHED", "BAD_ANSWER", "TOO_LARGE",
            "NO_MEMORY", "INTERRUPTED", "CLOSED_HERE", "Structure", "Node", "Relationship", "UnboundRelationship",
            "Path", "Date", "Time", "LocalTime", "LocalDateTime", "DateTime", "ZonedLocal", "ZonedUtc", "Duration",
            "Point2D", "Point3D", "pack", "unpack"]
+
+if TYPE_CHECKING:
+    from .aiodrivers import AsyncDriver, async_driver
+
+
+def __getattr__(name: str) -> Any:
+    """Returns what needs asyncio, which a program without it doesn't import."""
+    if name not in ("AsyncDriver", "async_driver"):
+        raise AttributeError(f"module {__name__!r} has no attribute {name!r}")
+    from . import aiodrivers
+
+    return getattr(aiodrivers, name)

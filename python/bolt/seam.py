@@ -4,16 +4,19 @@ Each function is one step. Those that return a call are awaited by asyncio."""
 from __future__ import annotations
 
 import socket
-from typing import Any, Callable, Optional, Union
+from typing import TYPE_CHECKING, Any, Callable, Optional, Union
 
-from .aio import AsyncConnection, AsyncResult, AsyncSession, AsyncTransaction
 from .connection import Connection, Result, Transaction
 from .core import PHASES
 from .results import Record, Summary
 
-AnyConnection = Union[Connection, AsyncConnection]
-AnyResult = Union[Result, AsyncResult]
-AnyTransaction = Union[Transaction, AsyncTransaction]
+if TYPE_CHECKING:
+    # A program without asyncio doesn't import it.
+    from .aio import AsyncConnection, AsyncResult, AsyncTransaction
+
+AnyConnection = Union[Connection, "AsyncConnection"]
+AnyResult = Union[Result, "AsyncResult"]
+AnyTransaction = Union[Transaction, "AsyncTransaction"]
 Call = Callable[[], Any]
 
 
@@ -28,8 +31,9 @@ def is_ready(connection: AnyConnection) -> bool:
 
 def is_of_here(connection: AnyConnection) -> bool:
     """Returns true if this process, and the loop that runs, have made the connection."""
-    session = connection.session
-    return session._is_of_loop() if isinstance(session, AsyncSession) else session._is_ours()
+    if isinstance(connection, Connection):
+        return connection.session._is_ours()
+    return connection.session._is_of_loop()
 
 
 def is_broken(connection: AnyConnection) -> bool:
@@ -45,10 +49,8 @@ def drop(connection: AnyConnection) -> None:
 def keep_alive(connection: AnyConnection) -> None:
     """Has the system look from time to time whether the other end lives."""
     session: Any = connection.session
-    if isinstance(connection, AsyncConnection):
-        made = session._writer.get_extra_info("socket")
-    else:
-        made = session._socket
+    is_blocking = isinstance(connection, Connection)
+    made = session._socket if is_blocking else session._writer.get_extra_info("socket")
     made.setsockopt(socket.SOL_SOCKET, socket.SO_KEEPALIVE, 1)
 
 
@@ -59,9 +61,11 @@ def hello(connection: AnyConnection) -> dict[str, Any]:
 
 def transaction(connection: AnyConnection, token: Optional[str]) -> AnyTransaction:
     """Returns a transaction that hasn't begun."""
-    if isinstance(connection, AsyncConnection):
-        return AsyncTransaction(connection, token)
-    return Transaction(connection, token)
+    if isinstance(connection, Connection):
+        return Transaction(connection, token)
+    from .aio import AsyncTransaction
+
+    return AsyncTransaction(connection, token)
 
 
 def begin(connection: AnyConnection, found: AnyTransaction, write: bool) -> Call:

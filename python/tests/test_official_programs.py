@@ -354,6 +354,13 @@ asyncio.run(main())
 class Asyncio(driving.ServerCase):
     """Idioms of asyncio."""
 
+    def test_program_without_asyncio_does_not_import_it(self):
+        text = "import bolt, sys; bolt.driver('bolt://h'); print('asyncio' in sys.modules)"
+        environment = {**os.environ, "PYTHONPATH": str(paths.ROOT / "python")}
+        words = [sys.executable, "-B", "-c", text]
+        done = subprocess.run(words, capture_output=True, text=True, env=environment)
+        self.assertEqual(("False\n", ""), (done.stdout, done.stderr))
+
     def test_idioms_of_asyncio(self):
         said = io.StringIO()
         with contextlib.redirect_stdout(said):
