@@ -4,7 +4,7 @@ pub use Rattle.byteorder.specs.Endian.{big_bytes, twos_complement, big_number}
 pub use Rattle.byteorder.specs.Numbers.{big_from-append, length-bytes_high_first, big_from-lt, big_from-cons, big_number-reads_back, big_from-take}
 pub use Rattle.std.proofs.Math.Seq.{get_or-append_seam, take-length, drop-length}
 pub use Rattle.std.proofs.lemmas.Bool.{cases_eq, le-ltb, lt-leb, ltb-false, false_from_ne_true, cases_lt, leb-true, and_parts, ltb-true, cond_both, agree_below_at}
-pub use Rattle.std.proofs.lemmas.Bool.Decides.{nat_tests}
+pub use Rattle.std.proofs.lemmas.Bool.Decides.{Decides-eqb, nat_tests}
 pub use Rattle.std.proofs.lemmas.Int.{ints}
 pub use Rattle.std.proofs.lemmas.List.{get_or_append_left, drop_more, drop_all, map_more, append-nil, take_at, drop_at, length-append, map_push, take-append-drop, length-drop, get_or-map, take-append-le, drop-append-le, get_or-replicate, get_or-set_same, get_or-set_other, length-map, length-set, length-replicate, length-take}
 pub use Rattle.std.proofs.lemmas.List.Elements.{same_from_all_zip}
@@ -13,7 +13,7 @@ pub use Rattle.std.proofs.lemmas.Map.Text.{is_eq-slice_cmp}
 pub use Rattle.std.proofs.lemmas.Nat.{div-mul-add, mod-mul-add}
 pub use Rattle.std.proofs.lemmas.Option.{slice_get-get_or, slice_get-map, slice_get_past, slice_get_read}
 pub use Rattle.std.proofs.lemmas.Simd.{map-map}
-pub use Rattle.std.proofs.lemmas.Slice.Eq.{bytes_eq-Decides}
+pub use Rattle.std.proofs.lemmas.Slice.Eq.{bytes_eq-Decides, strip_prefix_is}
 pub use Rattle.std.proofs.lemmas.Str.{is_utf8-from_IsUtf8, IsUtf8-from_is_utf8, IsUtf8-string_bytes}
 pub use Rattle.std.specs.BTreeSet.{UpdatesBy}
 pub use Rattle.std.specs.Cmp.Lexicographic.{slice_cmp, nat_list_eq_equiv}

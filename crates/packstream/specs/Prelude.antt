@@ -7,6 +7,7 @@ pub use Rattle.packstream.specs.Markers.{width, size_len}
 unfoldable pub use Rattle.packstream.specs.Markers.{marker}
 pub use Rattle.packstream.specs.Reading.{Read, ◌>>=◌, Fails, keys, Gives}
 unfoldable pub use Rattle.packstream.specs.Reading.{number_at, int_at, size_at, bytes_at, text_at, items_at, key_of, key_at, entries_at, list_at, dict_at, struct_at, form_at, layer, inner}
+pub use Rattle.packstream.specs.Sources.{after}
 pub use Rattle.packstream.specs.Hashing.{hash, in_place, numbered, is_key, is_other, Knows}
 unfoldable pub use Rattle.packstream.specs.Hashing.{hash_more}
 pub use Rattle.packstream.specs.Spelling.{Begins, IsNumber, IsSize, SpellsText, SpellsInt, SpellsTree, SpellsAll, SpellsEntries, Spells}

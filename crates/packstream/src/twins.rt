@@ -30,8 +30,12 @@ pub fn first_twin<T>(lookup: Lookup, pairs: Pairs<T>) -> usize
     }
 }
 
+/// Returns what `first_twin` does, by a set of the keys before each.
+///
+/// # Errors
+/// `AllocError` if there is no memory for the set.
 #[tactic(auto, using(crate::proofs::Checking::twins))]
-fn twin_in_set<T>(alloc: Global, pairs: Pairs<T>) -> Result<usize, AllocError>
+pub fn twin_in_set<T>(alloc: Global, pairs: Pairs<T>) -> Result<usize, AllocError>
     ensures { IfOk result (IsFirstTwin pairs.now) }
 {
     let mut seen = Seen::new(alloc, pairs.len())?;
