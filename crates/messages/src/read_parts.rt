@@ -4,9 +4,10 @@ ghost use Rattle.messages.specs.Prelude.{tree, shape, Answers, SpellsDict, field
 
 use crate::fault::{Answer, MsgFault};
 use packstream::Value;
+use packstream::source::Source;
 use std::alloc::Global;
 use structures::{Cell, read_value};
-use structures_decoder::{Unscanned, scan_dict};
+use structures_decoder::{Unscanned, dict_from};
 use wire::Version;
 
 /// The entries of a dictionary of cells.
@@ -103,32 +104,37 @@ pub(crate) fn row_in(alloc: Global, version: Version, field: &Value) -> Result<V
 pub(crate) const FIELD_DEPTH: u8 = 31;
 
 /// That nothing is left.
-pub(crate) fn end(rest: &[u8]) -> Result<(), Unscanned>
-    ensures { OnOk result (rest.now ≡ []) }
+pub(crate) fn end<S: Source>(rest: S) -> Result<(), Unscanned>
+    ensures { OnOk result (S.left rest ≡ []) }
 {
-    match rest {
-        [] => Ok(()),
-        _ => Err(Unscanned),
+    if rest.is_empty() {
+        Ok(())
+    } else {
+        Err(Unscanned)
     }
 }
 
-/// A dictionary of cells straight from the bytes, and what follows it. Many have no entries.
+/// A dictionary of cells straight from the source, and the source after it. Many have no entries.
 #[tactic(auto, using(crate::proofs::Scanned::dict_scanned, crate::proofs::Scanned::empty_scanned))]
-pub(crate) fn scan_cells(alloc: Global, version: Version, bytes: &[u8]) -> Scanned<(Cells, &[u8])>
-    ensures { IfOk result (λ x. SpellsDict version (cells_tree x.0.items) x.1.now bytes.now) }
+pub(crate) fn cells_from<S: Source>(
+    alloc: Global,
+    version: Version,
+    source: S,
+) -> Scanned<(Cells, S)>
+    ensures { IfOk result (λ x. SpellsDict version (cells_tree x.0.items) (S.left x.1) (S.left source)) }
 {
-    if let Ok(rest) = behind(bytes, b"\xA0") {
+    if let Ok(rest) = after_prefix(source, b"\xA0") {
         return Ok((Vec::new(alloc), rest));
     }
-    scan_dict(alloc, version, bytes, FIELD_DEPTH)
+    dict_from(alloc, version, source, FIELD_DEPTH)
 }
 
-/// What follows these bytes.
+/// The source after these bytes.
 #[inline(always)]
-pub(crate) fn behind<'a>(bytes: &'a [u8], front: &[u8]) -> Result<&'a [u8], Unscanned>
-    ensures { IfOk result (λ x. bytes.now ≡ front.now ++ x.now) }
+pub(crate) fn after_prefix<S: Source>(source: S, prefix: &[u8]) -> Result<S, Unscanned>
+    ensures { IfOk result (λ x. S.left source ≡ prefix.now ++ S.left x) }
 {
-    match bytes.strip_prefix(front) {
+    match source.strip_prefix(prefix) {
         Some(rest) => Ok(rest),
         None => Err(Unscanned),
     }

@@ -1,17 +1,18 @@
-//! Requests, read in two ways: of a value, which also tells what is wrong, and straight from the bytes. What the second doesn't
+//! Requests, read in two ways: of a value, which also says what is wrong, and straight from their source. What the second doesn't
 //! read goes the first.
 ghost use Rattle.std.specs.Prelude.{[], ◌∷◌, IfOk};
 ghost use Rattle.messages.specs.Prelude.{tree, fields_seen, entries_seen, Answers, field_text, contents_of_run, ignored, extra, text_field, cells, of_transaction, RUN, requests, run_tag, request_view, request_contents, TellsRequest, contents_of_row, contents_at_tag, contents_of_message, contents_of_plain, Req};
 
 use crate::entries::{auth_of, count_in, hello_of, transaction_of};
 use crate::fault::{Answer, MsgFault};
-use crate::read_parts::{cells_in, entries_in, extra_in, none, scan_cells, three};
+use crate::read_parts::{cells_from, cells_in, end, entries_in, extra_in, none, three};
 use crate::request::Request;
 use crate::scan_entries::{cells_of_extra, rows_in, transaction_in};
 use crate::tags;
 use packstream::Value;
+use packstream::source::Source;
 use std::alloc::Global;
-use structures_decoder::{Unscanned, scan_text};
+use structures_decoder::{Unscanned, text_from};
 use wire::Version;
 
 /// A request without fields.
@@ -98,12 +99,13 @@ pub(crate) fn request_of_value(alloc: Global, version: Version, value: &Value) -
     }
 }
 
-/// A RUN behind its head.
-fn scan_run(alloc: Global, version: Version, bytes: &[u8]) -> Result<Request, Unscanned>
-    ensures { IfOk result (λ r. Req version (request_view r) (0xB3 ∷ run_tag ∷ bytes.now)) }
+/// A RUN after its head.
+fn run_from<S: Source>(alloc: Global, version: Version, source: S) -> Result<Request, Unscanned>
+    ensures { IfOk result (λ r. Req version (request_view r) (0xB3 ∷ run_tag ∷ S.left source)) }
 {
-    let (query, rest) = scan_text(bytes)?;
-    let (params, rest) = scan_cells(alloc, version, rest)?;
+    source.has_bytes();
+    let (query, rest) = text_from(&source)?;
+    let (params, rest) = cells_from(alloc, version, rest)?;
     let (mode, token) = transaction_in(alloc, version, rest)?;
     let text = String::from_str(alloc, query)?;
     Ok(Request::Run {
@@ -116,7 +118,7 @@ fn scan_run(alloc: Global, version: Version, bytes: &[u8]) -> Result<Request, Un
 
 /// A request without fields.
 #[tactic(auto, using(crate::proofs::Scanned::plain_means))]
-fn scan_plain(version: Version, tag: u8) -> Result<Request, Unscanned>
+fn plain_from(version: Version, tag: u8) -> Result<Request, Unscanned>
     ensures { IfOk result (λ r. Req version (request_view r) (0xB0 ∷ tag ∷ [])) }
 {
     match (version.has_logon(), tag) {
@@ -129,49 +131,76 @@ fn scan_plain(version: Version, tag: u8) -> Result<Request, Unscanned>
     }
 }
 
-/// A request of one field, behind its head.
+/// A request of one field, after its head.
 #[tactic(auto, using(crate::proofs::Scanned::pull_means, crate::proofs::Scanned::discard_means, crate::proofs::Scanned::begin_means))]
-fn scan_one(alloc: Global, version: Version, tag: u8, bytes: &[u8]) -> Result<Request, Unscanned>
-    ensures { IfOk result (λ r. Req version (request_view r) (0xB1 ∷ tag ∷ bytes.now)) }
+fn one_from<S: Source>(
+    alloc: Global,
+    version: Version,
+    tag: u8,
+    source: S,
+) -> Result<Request, Unscanned>
+    ensures { IfOk result (λ r. Req version (request_view r) (0xB1 ∷ tag ∷ S.left source)) }
 {
     match tag {
-        tags::PULL => Ok(Request::Pull(rows_in(alloc, version, bytes)?)),
-        tags::DISCARD => Ok(Request::Discard(rows_in(alloc, version, bytes)?)),
+        tags::PULL => Ok(Request::Pull(rows_in(alloc, version, source)?)),
+        tags::DISCARD => Ok(Request::Discard(rows_in(alloc, version, source)?)),
         tags::BEGIN => {
-            let (mode, token) = transaction_in(alloc, version, bytes)?;
+            let (mode, token) = transaction_in(alloc, version, source)?;
             Ok(Request::Begin { mode, token })
         }
-        _ => scan_login(alloc, version, tag, bytes),
+        _ => login_from(alloc, version, tag, source),
     }
 }
 
-/// A HELLO or a LOGON, behind its head.
+/// A HELLO or a LOGON, after its head.
 #[tactic(auto, using(crate::proofs::Scanned::hello_means, crate::proofs::Scanned::logon_means))]
 #[inline(always)]
-fn scan_login(alloc: Global, version: Version, tag: u8, bytes: &[u8]) -> Result<Request, Unscanned>
-    ensures { IfOk result (λ r. Req version (request_view r) (0xB1 ∷ tag ∷ bytes.now)) }
+fn login_from<S: Source>(
+    alloc: Global,
+    version: Version,
+    tag: u8,
+    source: S,
+) -> Result<Request, Unscanned>
+    ensures { IfOk result (λ r. Req version (request_view r) (0xB1 ∷ tag ∷ S.left source)) }
 {
     match tag {
         tags::HELLO => {
-            let pairs = cells_of_extra(alloc, version, bytes)?;
+            let pairs = cells_of_extra(alloc, version, source)?;
             Ok(hello_of(version, &pairs)?)
         }
         tags::LOGON if version.has_logon() => {
-            let pairs = cells_of_extra(alloc, version, bytes)?;
+            let pairs = cells_of_extra(alloc, version, source)?;
             Ok(Request::Logon(auth_of(&pairs)?))
         }
         _ => Err(Unscanned),
     }
 }
 
+/// Reads the request that one message in a source stands for at the version.
+///
+/// # Errors
+/// `Unscanned` if it isn't read this way, or if there is no memory. Then nothing is said of the message.
+pub fn request_from<S: Source>(
+    alloc: Global,
+    version: Version,
+    source: S,
+) -> Result<Request, Unscanned>
+    ensures { IfOk result (λ r. Req version (request_view r) (S.left source)) }
+{
+    if let Some((tags::RUN, rest)) = source.structure(0xB3) {
+        return run_from(alloc, version, rest);
+    }
+    if let Some((tag, rest)) = source.structure(0xB1) {
+        return one_from(alloc, version, tag, rest);
+    }
+    let (tag, rest) = source.structure(0xB0).ok_or(Unscanned)?;
+    end(rest)?;
+    plain_from(version, tag)
+}
+
 /// The request that the bytes of one message stand for at the version, read straight from them; or nothing is said.
 pub fn scan_request(alloc: Global, version: Version, bytes: &[u8]) -> Result<Request, Unscanned>
     ensures { IfOk result (λ r. Req version (request_view r) bytes.now) }
 {
-    match bytes {
-        [0xB3, tags::RUN, rest @ ..] => scan_run(alloc, version, rest),
-        [0xB1, tag, rest @ ..] => scan_one(alloc, version, *tag, rest),
-        [0xB0, tag] => scan_plain(version, *tag),
-        _ => Err(Unscanned),
-    }
+    request_from(alloc, version, bytes)
 }

@@ -1,4 +1,4 @@
-//! Responses, read in two ways: of a value, which also tells what is wrong, and straight from the bytes. What the second doesn't
+//! Responses, read in two ways: of a value, which also says what is wrong, and straight from their source. What the second doesn't
 //! read goes the first.
 ghost use Rattle.std.specs.Prelude.{[], ◌∷◌, IfOk};
 ghost use Rattle.messages.specs.Prelude.{tree, responses, response_view, TellsResponse, contents_of_message, Resp};
@@ -6,13 +6,14 @@ ghost use Rattle.wire.specs.declared.Version.{Version as AnyVersion};
 
 use crate::entries::failure_of;
 use crate::fault::{Answer, MsgFault};
-use crate::read_parts::{FIELD_DEPTH, cells_in, end, extra_in, none, one, row_in, scan_cells};
+use crate::read_parts::{FIELD_DEPTH, cells_from, cells_in, end, extra_in, none, one, row_in};
 use crate::response::Response;
 use crate::scan_entries::cells_of_extra;
 use crate::tags;
 use packstream::Value;
+use packstream::source::Source;
 use std::alloc::Global;
-use structures_decoder::{Unscanned, scan_list};
+use structures_decoder::{Unscanned, list_from};
 use wire::Version;
 
 /// The response of a value, by the table of responses.
@@ -35,24 +36,29 @@ pub(crate) fn response_of_value(alloc: Global, version: Version, value: &Value) 
     }
 }
 
-/// A response of one field, behind its head.
+/// A response of one field, after its head.
 #[tactic(auto, using(crate::proofs::Scanned::record_means, crate::proofs::Scanned::list_scanned, crate::proofs::Scanned::success_means))]
-fn scan_one(alloc: Global, version: Version, tag: u8, bytes: &[u8]) -> Result<Response, Unscanned>
-    ensures { IfOk result (λ r. Resp version (response_view r) (0xB1 ∷ tag ∷ bytes.now)) }
+fn one_from<S: Source>(
+    alloc: Global,
+    version: Version,
+    tag: u8,
+    source: S,
+) -> Result<Response, Unscanned>
+    ensures { IfOk result (λ r. Resp version (response_view r) (0xB1 ∷ tag ∷ S.left source)) }
 {
     match tag {
         tags::RECORD => {
-            let (row, rest) = scan_list(alloc, version, bytes, FIELD_DEPTH)?;
+            let (row, rest) = list_from(alloc, version, source, FIELD_DEPTH)?;
             end(rest)?;
             Ok(Response::Record(row))
         }
         tags::SUCCESS => {
-            let (metadata, rest) = scan_cells(alloc, version, bytes)?;
+            let (metadata, rest) = cells_from(alloc, version, source)?;
             end(rest)?;
             Ok(Response::Success(metadata))
         }
         tags::FAILURE => {
-            let pairs = cells_of_extra(alloc, version, bytes)?;
+            let pairs = cells_of_extra(alloc, version, source)?;
             Ok(failure_of(&pairs)?)
         }
         _ => Err(Unscanned),
@@ -61,7 +67,7 @@ fn scan_one(alloc: Global, version: Version, tag: u8, bytes: &[u8]) -> Result<Re
 
 /// A response without fields.
 #[tactic(auto, using(crate::proofs::Scanned::plain_means))]
-fn scan_plain(tag: u8) -> Result<Response, Unscanned>
+fn plain_from(tag: u8) -> Result<Response, Unscanned>
     ensures { (v : AnyVersion) → IfOk result (λ r. Resp v (response_view r) (0xB0 ∷ tag ∷ [])) }
 {
     match tag {
@@ -70,13 +76,28 @@ fn scan_plain(tag: u8) -> Result<Response, Unscanned>
     }
 }
 
+/// Reads the response that one message in a source stands for at the version.
+///
+/// # Errors
+/// `Unscanned` if it isn't read this way, or if there is no memory. Then nothing is said of the message.
+pub fn response_from<S: Source>(
+    alloc: Global,
+    version: Version,
+    source: S,
+) -> Result<Response, Unscanned>
+    ensures { IfOk result (λ r. Resp version (response_view r) (S.left source)) }
+{
+    if let Some((tag, rest)) = source.structure(0xB1) {
+        return one_from(alloc, version, tag, rest);
+    }
+    let (tag, rest) = source.structure(0xB0).ok_or(Unscanned)?;
+    end(rest)?;
+    plain_from(tag)
+}
+
 /// The response that the bytes of one message stand for at the version, read straight from them; or nothing is said.
 pub fn scan_response(alloc: Global, version: Version, bytes: &[u8]) -> Result<Response, Unscanned>
     ensures { IfOk result (λ r. Resp version (response_view r) bytes.now) }
 {
-    match bytes {
-        [0xB1, tag, rest @ ..] => scan_one(alloc, version, *tag, rest),
-        [0xB0, tag] => scan_plain(*tag),
-        _ => Err(Unscanned),
-    }
+    response_from(alloc, version, bytes)
 }

@@ -1,4 +1,5 @@
 pub mod Words
+pub mod Twins
 pub mod Members
 pub mod Laid
 pub mod Fronts

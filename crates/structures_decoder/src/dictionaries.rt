@@ -1,42 +1,34 @@
-//! Dictionaries at the front of bytes.
-ghost use Rattle.std.specs.Prelude.{◌≡◌, IfOk, OnOk, [], ◌∷◌, ◌++◌, string_bytes};
-ghost use Rattle.structures_decoder.specs.Prelude.{dict_at, inner, int, text, entries, Takes, IsTaken, PairsTaken, PairJoins, dict_shape};
+//! Dictionaries.
+ghost use Rattle.std.specs.Prelude.{◌≡◌, ℕ, IfOk, OnOk, [], ◌∷◌, ◌++◌, string_bytes};
+ghost use Rattle.structures_decoder.specs.Prelude.{dict_at, inner, Here, int, text, entries, Takes, IsTaken, PairsTaken, PairJoins, dict_shape};
 
-use crate::fault::{Left, Scanned, Unscanned};
-use crate::plain::{int_in, marker_in, text_in};
+use crate::fault::{Decoded, Left, Unscanned};
+use crate::plain::{int_in, item_in, key_in, text_in};
 use crate::scan::cell_in;
 use crate::scope::Scope;
-use packstream::marker::{Marker, Size};
-use packstream::reading::{first_room, key_of, most_members, new_key_of, size_of};
-use packstream::seen::Seen;
-use packstream::twins::FEW;
+use packstream::reading::first_room;
+use packstream::source::{Item, Source};
+use packstream::twins::{FEW, twin_in_set};
 use std::alloc::Global;
 use structures_cells::Cell;
 
 /// The entries of a dictionary in their order.
 pub(crate) type Pairs = Vec<(String, Cell)>;
 
-/// A dictionary behind its marker.
+/// The entries of a dictionary of this count, which come next. Its head was read.
 #[cycle(scanner)]
-#[tactic(auto, using(packstream::proofs::Steps::inner_more, structures::proofs::Fitted::form_pairs), unfolding(packstream::specs::Reading::dict_at))]
-pub(crate) fn dict_of(
-    scope: Scope,
-    room: u8,
-    left: usize,
-    size: Size,
-    bytes: &[u8],
-) -> Scanned<'_, Pairs>
-    ensures { IfOk result (λ x. Takes scope (dict_shape x.0.items) x.1.now
-        (dict_at (inner room) left size bytes.now)) }
+#[tactic(auto, using(packstream::proofs::Steps::inner_more, structures::proofs::Fitted::form_pairs), unfolding(packstream::specs::Reading::dict_at, packstream::specs::Reading::size_at))]
+pub(crate) fn dict_of<S: Source>(scope: Scope, room: u8, count: u64, source: S) -> Decoded<Pairs, S>
+    ensures { (left : ℕ) → IfOk result (λ x. Takes scope (dict_shape x.0.items) (S.left x.1)
+        (dict_at (inner room) left (Here count) (S.left source))) }
 {
     if room == 0 {
         return Err(Unscanned);
     }
-    let (count, rest) = size_of(left, size, bytes)?;
     match count {
-        0 => Ok((Vec::new(scope.alloc), rest)),
-        1..=FEW => pairs_of(scope, room - 1, count, rest),
-        _ => many_pairs_of(scope, room - 1, count, rest),
+        0 => Ok((Vec::new(scope.alloc), source)),
+        1..=FEW => pairs_of(scope, room - 1, count, source),
+        _ => many_pairs_of(scope, room - 1, count, source),
     }
 }
 
@@ -68,82 +60,86 @@ fn push_int(pairs: &mut Pairs, name: String, n: i64) -> Result<(), Unscanned>
     Ok(())
 }
 
-/// An entry of any kind, behind its key, joins those before it.
+/// An entry of any kind, after its key, joins those before it.
 #[cycle(scanner)]
 #[inline(never)]
-fn push_named<'a>(
+fn push_named<S: Source>(
     pairs: &mut Pairs,
     scope: Scope,
     room: u8,
     name: String,
-    bytes: &'a [u8],
-) -> Left<'a>
+    source: S,
+) -> Left<S>
     ensures { IfOk result (λ x. PairJoins scope room (string_bytes name)
-        (entries pairs.old.items) (entries pairs.new.items) bytes.now x.now) }
+        (entries pairs.old.items) (entries pairs.new.items) (S.left source) (S.left x)) }
 {
-    let (cell, rest) = cell_in(scope, room, bytes)?;
+    let (cell, rest) = cell_in(scope, room, source)?;
     pairs.push((name, cell))?;
     Ok(rest)
 }
 
-/// An entry behind its key, which was read before these bytes, joins those before it.
+/// An entry after its key, which was read before, joins those before it.
 #[cycle(scanner)]
-fn push_value<'a>(pairs: &mut Pairs, scope: Scope, room: u8, key: &str, bytes: &'a [u8]) -> Left<'a>
+fn push_value<S: Source>(pairs: &mut Pairs, scope: Scope, room: u8, key: &str, source: S) -> Left<S>
     ensures { IfOk result (λ x. PairJoins scope room key.now
-        (entries pairs.old.items) (entries pairs.new.items) bytes.now x.now) }
+        (entries pairs.old.items) (entries pairs.new.items) (S.left source) (S.left x)) }
 {
     let name = String::from_str(scope.alloc, key)?;
-    if let Ok((told, rest)) = text_in(bytes) {
+    if let Ok((told, rest)) = text_in(&source) {
         push_text(pairs, scope.alloc, name, told)?;
         return Ok(rest);
     }
-    if let Ok((n, rest)) = int_in(bytes) {
+    if let Ok((n, rest)) = int_in(source) {
         push_int(pairs, name, n)?;
         return Ok(rest);
     }
-    push_named(pairs, scope, room, name, bytes)
+    push_named(pairs, scope, room, name, source)
 }
 
 /// So many entries, few enough that each key is compared with those before it.
 #[cycle(scanner)]
 #[inline(never)]
-fn pairs_of(scope: Scope, room: u8, count: u64, bytes: &[u8]) -> Scanned<'_, Pairs>
-    ensures { IfOk result (λ x. PairsTaken scope room count (entries x.0.items) bytes.now x.1.now) }
+fn pairs_of<S: Source>(scope: Scope, room: u8, count: u64, source: S) -> Decoded<Pairs, S>
+    ensures { IfOk result (λ x. PairsTaken scope room count (entries x.0.items) (S.left source) (S.left x.1)) }
 {
-    let mut pairs = Vec::with_capacity(scope.alloc, first_room(count, bytes))?;
-    let mut rest = bytes;
+    let mut pairs = Vec::with_capacity(scope.alloc, first_room(count, source.heads()))?;
+    let mut rest = source;
     for _ in 0..count {
-        let (key, value) = key_of(&pairs, rest)?;
+        let (key, value) = key_in(&pairs, &rest)?;
         rest = push_value(&mut pairs, scope, room, key, value)?;
     }
     Ok((pairs, rest))
 }
 
-/// So many entries, whose keys are looked for among those seen.
+/// So many entries, whose keys are compared by a set once all are read.
 #[cycle(scanner)]
 #[inline(never)]
-fn many_pairs_of(scope: Scope, room: u8, count: u64, bytes: &[u8]) -> Scanned<'_, Pairs>
-    ensures { IfOk result (λ x. PairsTaken scope room count (entries x.0.items) bytes.now x.1.now) }
+fn many_pairs_of<S: Source>(scope: Scope, room: u8, count: u64, source: S) -> Decoded<Pairs, S>
+    ensures { IfOk result (λ x. PairsTaken scope room count (entries x.0.items) (S.left source) (S.left x.1)) }
 {
-    let mut seen = Seen::new(scope.alloc, most_members(count, bytes))?;
-    let mut pairs = Vec::with_capacity(scope.alloc, first_room(count, bytes))?;
-    let mut rest = bytes;
+    let mut pairs = Vec::with_capacity(scope.alloc, first_room(count, source.heads()))?;
+    let mut rest = source;
     for _ in 0..count {
-        let (key, value) = new_key_of(&mut seen, &pairs, rest)?;
+        let (key, value) = text_in(&rest)?;
         rest = push_value(&mut pairs, scope, room, key, value)?;
+    }
+    if twin_in_set(scope.alloc, &pairs)? < pairs.len() {
+        return Err(Unscanned);
     }
     Ok((pairs, rest))
 }
 
 /// The entries of a dictionary.
 #[cycle(scanner)]
-#[tactic(auto, unfolding(packstream::specs::Reading::form_at))]
-pub(crate) fn dict_in(scope: Scope, room: u8, bytes: &[u8]) -> Scanned<'_, Pairs>
-    ensures { IfOk result (λ x. IsTaken scope room (dict_shape x.0.items) bytes.now x.1.now) }
+pub(crate) fn dict_in<S: Source>(scope: Scope, room: u8, source: S) -> Decoded<Pairs, S>
+    ensures { IfOk result (λ x. IsTaken scope room (dict_shape x.0.items) (S.left source) (S.left x.1)) }
 {
-    let (marker, rest) = marker_in(bytes)?;
-    match marker {
-        Marker::Dict(size) => dict_of(scope, room, bytes.len(), size, rest),
+    let (item, rest) = item_in(&source)?;
+    match item {
+        Item::Dict(count) => {
+            let (pairs, rest) = dict_of(scope, room, count, rest)?;
+            Ok((pairs, rest))
+        }
         _ => Err(Unscanned),
     }
 }

@@ -14,5 +14,8 @@ mod scan;
 mod scope;
 mod whole;
 
-pub use fault::{Scanned, Unscanned};
-pub use whole::{scan_cell, scan_dict, scan_int, scan_list, scan_text};
+pub use fault::{Decoded, Scanned, Unscanned};
+pub use whole::{
+    cell_from, dict_from, int_from, list_from, scan_cell, scan_dict, scan_int, scan_list,
+    scan_text, text_from,
+};

@@ -2,39 +2,40 @@
 ghost use Rattle.std.specs.Prelude.{ℕ, IfOk};
 ghost use Rattle.structures_decoder.specs.Prelude.{shape, HasFields};
 
-use crate::fault::{Scanned, Unscanned};
+use crate::fault::{Decoded, Unscanned};
 use crate::fields::string_in;
 use crate::plain::{float_in, int_in};
 use crate::scope::Scope;
+use packstream::source::Source;
 use structures_cells::{Cell, tags};
 
 /// A structure without cells inside, behind its tag: its fields are of their kinds, and a DateTime is of the version.
 #[tactic(auto, unfolding(packstream::specs::Reading::struct_at, packstream::specs::Reading::items_at))]
-pub(crate) fn moment_of(scope: Scope, tag: u8, count: u64, bytes: &[u8]) -> Scanned<'_, Cell>
+pub(crate) fn moment_of<S: Source>(scope: Scope, tag: u8, count: u64, source: S) -> Decoded<Cell, S>
     ensures { (room : ℕ)
-        → IfOk result (λ x. HasFields scope room count tag (shape x.0) bytes.now x.1.now) }
+        → IfOk result (λ x. HasFields scope room count tag (shape x.0) (S.left source) (S.left x.1)) }
 {
     match (tag, count) {
         (tags::DATE, 1) => {
-            let (days, rest) = int_in(bytes)?;
+            let (days, rest) = int_in(source)?;
             Ok((Cell::Date { days }, rest))
         }
         (tags::TIME, 2) => {
-            let (nanos, rest) = int_in(bytes)?;
+            let (nanos, rest) = int_in(source)?;
             let (offset, rest) = int_in(rest)?;
             Ok((Cell::Time { nanos, offset }, rest))
         }
         (tags::LOCAL_TIME, 1) => {
-            let (nanos, rest) = int_in(bytes)?;
+            let (nanos, rest) = int_in(source)?;
             Ok((Cell::LocalTime { nanos }, rest))
         }
         (tags::LOCAL_DATE_TIME, 2) => {
-            let (seconds, rest) = int_in(bytes)?;
+            let (seconds, rest) = int_in(source)?;
             let (nanos, rest) = int_in(rest)?;
             Ok((Cell::LocalDateTime { seconds, nanos }, rest))
         }
         (tags::DURATION, 4) => {
-            let (months, rest) = int_in(bytes)?;
+            let (months, rest) = int_in(source)?;
             let (days, rest) = int_in(rest)?;
             let (seconds, rest) = int_in(rest)?;
             let (nanos, rest) = int_in(rest)?;
@@ -47,32 +48,32 @@ pub(crate) fn moment_of(scope: Scope, tag: u8, count: u64, bytes: &[u8]) -> Scan
             Ok((duration, rest))
         }
         (tags::POINT_2D, 3) => {
-            let (srid, rest) = int_in(bytes)?;
+            let (srid, rest) = int_in(source)?;
             let (x, rest) = float_in(rest)?;
             let (y, rest) = float_in(rest)?;
             Ok((Cell::Point2D { srid, x, y }, rest))
         }
         (tags::POINT_3D, 4) => {
-            let (srid, rest) = int_in(bytes)?;
+            let (srid, rest) = int_in(source)?;
             let (x, rest) = float_in(rest)?;
             let (y, rest) = float_in(rest)?;
             let (z, rest) = float_in(rest)?;
             Ok((Cell::Point3D { srid, x, y, z }, rest))
         }
-        _ => date_time_of(scope, tag, count, bytes),
+        _ => date_time_of(scope, tag, count, source),
     }
 }
 
 /// A date with a time and an offset or a zone. A DateTime has local seconds where the version has no UTC times; the cell has its seconds in UTC.
 #[tactic(auto, unfolding(packstream::specs::Reading::struct_at, packstream::specs::Reading::items_at))]
-fn date_time_of(scope: Scope, tag: u8, count: u64, bytes: &[u8]) -> Scanned<'_, Cell>
+fn date_time_of<S: Source>(scope: Scope, tag: u8, count: u64, source: S) -> Decoded<Cell, S>
     ensures { (room : ℕ)
-        → IfOk result (λ x. HasFields scope room count tag (shape x.0) bytes.now x.1.now) }
+        → IfOk result (λ x. HasFields scope room count tag (shape x.0) (S.left source) (S.left x.1)) }
 {
     if count != 3 {
         return Err(Unscanned);
     }
-    let (seconds, rest) = int_in(bytes)?;
+    let (seconds, rest) = int_in(source)?;
     let (nanos, rest) = int_in(rest)?;
     match tag {
         tags::DATE_TIME if scope.version.has_utc_times() => {

@@ -1,62 +1,73 @@
-//! Markers, integers, floats and texts.
-ghost use Rattle.std.specs.Prelude.{◌≡◌, ℕ, length, Some, IfOk};
-ghost use Rattle.structures_decoder.specs.Prelude.{layer, inner, form_at, int, float, text, IsRead};
+//! Items, integers, floats and texts.
+ghost use Rattle.std.specs.Prelude.{◌≡◌, ℕ, length, IfOk, Ok};
+ghost use Rattle.structures_decoder.specs.Prelude.{layer, inner, after, int, float, text, key_at, names, IsRead};
 
-use crate::fault::{Scanned, Unscanned};
-use packstream::marker::{Marker, Width, marker_of};
-use packstream::reading::{number_of, signed_of, text_of};
+use crate::fault::{Decoded, Scanned, Unscanned};
+use packstream::source::{Item, Source, next_key, text_first};
+use structures_cells::Cell;
 
-/// What the first byte announces.
-#[tactic(auto, unfolding(packstream::specs::Reading::layer))]
+/// The next item.
 #[inline(always)]
-pub(crate) fn marker_in(bytes: &[u8]) -> Scanned<'_, Marker>
-    ensures { (room : ℕ) → IfOk result (λ x. layer (inner room) bytes.now
-        ≡ form_at (inner room) (length bytes.now) (Some x.0) x.1.now) }
+pub(crate) fn item_in<S: Source>(source: &S) -> Decoded<Item<'_>, S>
+    ensures { (room : ℕ) → IfOk result (λ x. layer (inner room) (S.left source.now)
+        ≡ after (inner room) (length (S.left source.now)) x.0 (S.left x.1)) }
 {
-    let Some((&first, rest)) = bytes.split_first() else {
-        return Err(Unscanned);
-    };
-    match marker_of(first) {
-        Some(marker) => Ok((marker, rest)),
+    match source.item() {
+        Some(found) => Ok(found),
         None => Err(Unscanned),
     }
 }
 
 /// An integer.
-#[tactic(auto, unfolding(packstream::specs::Reading::form_at))]
 #[inline(always)]
-pub(crate) fn int_in(bytes: &[u8]) -> Scanned<'_, i64>
-    ensures { (room : ℕ) → IfOk result (λ x. IsRead room (int x.0) bytes.now x.1.now) }
+pub(crate) fn int_in<S: Source>(source: S) -> Decoded<i64, S>
+    ensures { (room : ℕ) → IfOk result (λ x. IsRead room (int x.0) (S.left source) (S.left x.1)) }
 {
-    let (marker, rest) = marker_in(bytes)?;
-    match marker {
-        Marker::Tiny(n) => Ok((n, rest)),
-        Marker::Int(wide) => Ok(signed_of(bytes.len(), wide, rest)?),
-        _ => Err(Unscanned),
+    match source.int() {
+        Some(found) => Ok(found),
+        None => Err(Unscanned),
     }
 }
 
 /// The 64 bits of a float.
-#[tactic(auto, unfolding(packstream::specs::Reading::form_at))]
-pub(crate) fn float_in(bytes: &[u8]) -> Scanned<'_, u64>
-    ensures { (room : ℕ) → IfOk result (λ x. IsRead room (float x.0) bytes.now x.1.now) }
+pub(crate) fn float_in<S: Source>(source: S) -> Decoded<u64, S>
+    ensures { (room : ℕ) → IfOk result (λ x. IsRead room (float x.0) (S.left source) (S.left x.1)) }
 {
-    let (marker, rest) = marker_in(bytes)?;
-    match marker {
-        Marker::Float => Ok(number_of(bytes.len(), Width::Eight, rest)?),
+    match item_in(&source)? {
+        (Item::Float(bits), rest) => Ok((bits, rest)),
         _ => Err(Unscanned),
     }
 }
 
 /// A text.
-#[tactic(auto, unfolding(packstream::specs::Reading::form_at))]
 #[inline(always)]
-pub(crate) fn text_in(bytes: &[u8]) -> Scanned<'_, &str>
+pub(crate) fn text_in<S: Source>(source: &S) -> Decoded<&str, S>
+    ensures { (room : ℕ) → IfOk result (λ x. IsRead room (text x.0.now) (S.left source.now) (S.left x.1)) }
+{
+    match source.text() {
+        Some(found) => Ok(found),
+        None => Err(Unscanned),
+    }
+}
+
+/// A text of a slice, which is lent for as long as the slice.
+#[inline(always)]
+pub(crate) fn text_in_slice(bytes: &[u8]) -> Scanned<'_, &str>
     ensures { (room : ℕ) → IfOk result (λ x. IsRead room (text x.0.now) bytes.now x.1.now) }
 {
-    let (marker, rest) = marker_in(bytes)?;
-    match marker {
-        Marker::Text(size) => Ok(text_of(bytes.len(), size, rest)?),
-        _ => Err(Unscanned),
+    match text_first(bytes) {
+        Some(found) => Ok(found),
+        None => Err(Unscanned),
+    }
+}
+
+/// A key that none of these pairs has.
+#[inline(always)]
+pub(crate) fn key_in<'s, S: Source>(pairs: &[(String, Cell)], source: &'s S) -> Decoded<&'s str, S>
+    ensures { IfOk result (λ x. key_at (names pairs.now) (S.left source.now) ≡ Ok (x.0.now, S.left x.1)) }
+{
+    match next_key(pairs, source) {
+        Some(found) => Ok(found),
+        None => Err(Unscanned),
     }
 }
