@@ -104,6 +104,12 @@ def module_of(file):
     return [] if inside in ("lib", "main") else inside.split("/")
 
 
+def word_of(of_type):
+    """Returns the word of a reference or a slice in a path, as RefSliceU8 of &[u8]."""
+    words = {"&": "Ref", "[": "Slice"}
+    return "".join(words.get(it, it[:1].upper() + it[1:]) for it in re.findall(r"[&\[]|(?<!')\b\w+", of_type))
+
+
 def block_of(head):
     """Reads the head of an `impl` or a trait: whether its methods are a trait's, its type, and its word in a path."""
     words = head.replace("->", "").partition("{")[0].partition(" where ")[0].split("impl", 1)[-1]
@@ -112,7 +118,7 @@ def block_of(head):
         words = words[depth.index(0) + 1 :]
     of_trait, is_for, of_type = words.rpartition(" for ")
     found = re.search(r"(\w+)\s*(?:<.*)?$", re.sub(r"<.*", "", of_type.replace("trait ", "")).strip())
-    name = found[1] if found else ""
+    name = found[1] if found else word_of(of_type)
     if not is_for:
         return "trait " in head.partition("{")[0], name, name
     trait = re.search(r"(\w+)(?:<(\w+).*>)?$", of_trait.strip())
