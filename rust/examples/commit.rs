@@ -72,5 +72,9 @@ fn main() -> ExitCode {
         eprintln!("standard output failed: {error}");
         return ExitCode::FAILURE;
     }
-    if told.is_ok() { ExitCode::SUCCESS } else { ExitCode::from(3) }
+    if told.is_ok() {
+        ExitCode::SUCCESS
+    } else {
+        ExitCode::from(3)
+    }
 }

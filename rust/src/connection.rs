@@ -47,7 +47,15 @@ pub struct Answer {
     pub bookmark: Option<String>,
 }
 
-/// A session of a server over a stream, on the thread that opened it.
+/// A session of a server over a stream.
+///
+/// It may move to another thread if its stream may. Two threads can't call it at once: it isn't `Sync`. A `Mutex`
+/// shares a connection between threads.
+///
+/// ```compile_fail,E0277
+/// fn shared<T: Sync>() {}
+/// shared::<bolt::Connection<std::net::TcpStream>>();
+/// ```
 ///
 /// The stream's own times bound its reads and writes. Without them a call may wait without an end. Nothing bounds a
 /// call whose server goes on to send something.
@@ -402,7 +410,11 @@ impl<S: Read + Write> Connection<S> {
 
     /// Refuses a call if something was asked before and isn't settled: that would go out too.
     fn alone(&self) -> Result<(), Error> {
-        if self.is_settled || self.requests.is_empty() { Ok(()) } else { Err(refusal(NOT_ALLOWED)) }
+        if self.is_settled || self.requests.is_empty() {
+            Ok(())
+        } else {
+            Err(refusal(NOT_ALLOWED))
+        }
     }
 
     /// Runs a query and returns its rows. It is part of the transaction that is open, or is committed with its last

@@ -57,10 +57,16 @@ extern "C" {
 }
 
 /// A client of the library, with the account of its requests. Each call does what bolt.h says of it. A code that
-/// isn't 0 is why it did nothing. It stays on its thread, as a pointer does.
+/// isn't 0 is why it did nothing.
 pub(crate) struct Client {
     handle: Handle,
 }
+
+// SAFETY: bolt.h lets any thread call, if the calls of two threads are ordered. Each call here takes `&mut self`, and so
+// does the drop. To move a client to another thread, or to lend it there, Rust demands a hand-over that orders them. The
+// library keeps nothing of a thread: what a handle refers to is from malloc, whose blocks any thread may free. A client
+// isn't Sync, because its pointer isn't.
+unsafe impl Send for Client {}
 
 // Each pointer below is that of a value or slice of the call's own, with its own length. That of an empty slice isn't
 // null. A client is there, so a call that has no other code returns 0.
@@ -158,5 +164,9 @@ impl Drop for Client {
 }
 
 fn code(code: u32) -> Result<(), u32> {
-    if code == 0 { Ok(()) } else { Err(code) }
+    if code == 0 {
+        Ok(())
+    } else {
+        Err(code)
+    }
 }

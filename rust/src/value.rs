@@ -16,15 +16,27 @@ pub enum Value {
 
 impl Value {
     pub fn as_int(&self) -> Option<i64> {
-        if let Value::Int(it) = self { Some(*it) } else { None }
+        if let Value::Int(it) = self {
+            Some(*it)
+        } else {
+            None
+        }
     }
 
     pub fn as_text(&self) -> Option<&str> {
-        if let Value::Text(it) = self { Some(it) } else { None }
+        if let Value::Text(it) = self {
+            Some(it)
+        } else {
+            None
+        }
     }
 
     pub fn as_bool(&self) -> Option<bool> {
-        if let Value::Bool(it) = self { Some(*it) } else { None }
+        if let Value::Bool(it) = self {
+            Some(*it)
+        } else {
+            None
+        }
     }
 
     /// The value under a key of a dictionary.

@@ -87,7 +87,11 @@ fn outcomes(requests: &[Asked], heard: usize, handed: usize) -> Vec<Outcome> {
         }
         let could = phases.iter().any(|phase| commits(*phase, it.kind));
         phases = phases.iter().flat_map(|phase| after(*phase, it.kind)).collect();
-        if could && it.begins < handed { Outcome::Unknown } else { Outcome::Lost }
+        if could && it.begins < handed {
+            Outcome::Unknown
+        } else {
+            Outcome::Lost
+        }
     };
     requests.iter().map(|it| outcome(it)).collect()
 }

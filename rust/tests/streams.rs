@@ -48,9 +48,8 @@ fn failure(code: &str) -> Vec<u8> {
 
 /// Returns a stream that takes version 5.1 and the login, and then gives these messages at once.
 fn answering(messages: &[&[u8]]) -> Option<Answers> {
-    let framed = |messages: &[&[u8]]| {
-        messages.iter().flat_map(|it| [&[0, it.len() as u8], *it, &[0, 0]].concat()).collect()
-    };
+    let framed =
+        |messages: &[&[u8]]| messages.iter().flat_map(|it| [&[0, it.len() as u8], *it, &[0, 0]].concat()).collect();
     Some(Answers([vec![0, 0, 1, 5], framed(&[HELLO, SUCCESS]), framed(messages)].into()))
 }
 
@@ -424,7 +423,11 @@ impl Write for Narrow {
         let room = if is_read { bytes.len() } else { HELD.saturating_sub(self.asked.len()).min(bytes.len()) };
         self.asked.extend(&bytes[..room]);
         // A socket would wait here until the peer reads.
-        if room == 0 { Err(io::ErrorKind::WouldBlock.into()) } else { Ok(room) }
+        if room == 0 {
+            Err(io::ErrorKind::WouldBlock.into())
+        } else {
+            Ok(room)
+        }
     }
 
     fn flush(&mut self) -> io::Result<()> {
