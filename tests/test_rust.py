@@ -47,7 +47,7 @@ class TestCrate(unittest.TestCase):
         with servers.OneServer() as server:
             (crate.path / "examples" / "first.rs").write_text(page.replace("7687", str(server.port)))
             ran = crate.cargo("run", "-q", "--example", "first", BOLT_LIB=library)
-        self.assertEqual((0, "Stands\n[Int(1)]\n"), ran)
+        self.assertEqual((0, "Stands\n1\n"), ran)
 
 
 if __name__ == "__main__":

@@ -1,11 +1,13 @@
 //! A connection over any stream.
 
-use crate::error::{Error, Kind, Outcome, Request, TOO_LARGE};
+use crate::error::{is_time_out, Error, Kind, Mismatch, Outcome, Request, TOO_LARGE};
 use crate::ffi::{Client, CLOSED, FULL, HALTED, LARGE, MEMORY, MESSAGE, NOT_ALLOWED, PIPELINE};
+use crate::row::{FromRow, Row};
 use crate::value::{dict, put, Reading, Value, ROOM};
 use std::fmt;
 use std::io::{self, Read, Write};
 use std::panic::{catch_unwind, resume_unwind, AssertUnwindSafe};
+use std::sync::Arc;
 
 /// The name of a server that keeps tokens begins so, or this hint in its answer to HELLO is true.
 const KEEPS_TOKENS: &str = "BoltTable/";
@@ -26,25 +28,84 @@ impl fmt::Debug for Login {
 }
 
 /// A query: its text and its parameters.
-#[derive(Clone, Debug)]
+///
+/// ```
+/// use bolt::Query;
+///
+/// let one = Query::from("PUT").param("key", "a").param("value", 1);
+/// let same = Query::new("PUT", [("key", "a".into()), ("value", 1.into())]);
+/// assert_eq!(one, same);
+/// ```
+#[derive(Clone, Debug, PartialEq)]
 pub struct Query {
     pub text: String,
+    /// A dictionary of the parameters.
     pub params: Value,
 }
 
 impl Query {
-    pub fn new<const N: usize>(text: &str, params: [(&str, Value); N]) -> Query {
+    /// Makes a query with these parameters, in an array, a `Vec` or another collection.
+    pub fn new<'a>(text: &str, params: impl IntoIterator<Item = (&'a str, Value)>) -> Query {
         Query { text: text.to_owned(), params: dict(params) }
+    }
+
+    /// Adds a parameter. It replaces one of the same name.
+    pub fn param(mut self, name: &str, value: impl Into<Value>) -> Query {
+        let mut params = match self.params {
+            Value::Dict(params) => params,
+            _ => Vec::new(),
+        };
+        params.retain(|it| it.0 != name);
+        params.push((name.to_owned(), value.into()));
+        self.params = Value::Dict(params);
+        self
     }
 }
 
-/// The rows of a query, and the names of their columns, none where one of them is no text.
+/// Makes a query without parameters.
+impl From<&str> for Query {
+    fn from(text: &str) -> Query {
+        Query::new(text, [])
+    }
+}
+
+/// The rows of a query, and the names of their columns. There are none if one of them is no text.
 #[derive(Clone, Debug, PartialEq)]
 pub struct Answer {
     pub fields: Vec<String>,
-    pub rows: Vec<Vec<Value>>,
+    pub rows: Vec<Row>,
     /// The bookmark of the entry that the query committed, if it did. In a transaction COMMIT has it.
     pub bookmark: Option<String>,
+}
+
+impl Answer {
+    /// Reads each row as a tuple, or as a type that implements [`FromRow`].
+    ///
+    /// # Errors
+    ///
+    /// Those of [`Row::to`], of the first row that has one.
+    pub fn all<T: FromRow>(&self) -> Result<Vec<T>, Mismatch> {
+        self.rows.iter().map(Row::to).collect()
+    }
+
+    /// Reads the first row. It is None if there is no row.
+    ///
+    /// # Errors
+    ///
+    /// Those of [`Row::to`].
+    pub fn first<T: FromRow>(&self) -> Result<Option<T>, Mismatch> {
+        self.rows.first().map(Row::to).transpose()
+    }
+}
+
+/// Iterates over the rows.
+impl IntoIterator for Answer {
+    type Item = Row;
+    type IntoIter = std::vec::IntoIter<Row>;
+
+    fn into_iter(self) -> Self::IntoIter {
+        self.rows.into_iter()
+    }
 }
 
 /// A session of a server over a stream.
@@ -330,10 +391,8 @@ impl<S: Read + Write> Connection<S> {
             let error = self.cut.take().or(error);
             let why = match &error {
                 None => "the server closed the connection",
-                Some(error) => match error.kind() {
-                    io::ErrorKind::TimedOut | io::ErrorKind::WouldBlock => "time-out",
-                    _ => "the stream failed",
-                },
+                Some(error) if is_time_out(error) => "time-out",
+                Some(_) => "the stream failed",
             };
             return Err(self.lose(why, error));
         }
@@ -453,15 +512,23 @@ impl<S: Read + Write> Connection<S> {
     }
 }
 
+/// Returns the names of the columns in the answer to a RUN.
+fn columns_of(run: &Request) -> Arc<[String]> {
+    let names = run.metadata.get("fields").and_then(Value::as_list).unwrap_or_default();
+    let names: Option<Vec<String>> = names.iter().map(|it| it.as_text().map(str::to_owned)).collect();
+    names.unwrap_or_default().into()
+}
+
+/// Returns the bookmark in the answer to a request that commits.
+fn bookmark_of(request: &Request) -> Option<String> {
+    request.metadata.get("bookmark").and_then(Value::as_text).map(str::to_owned)
+}
+
 /// Returns the answer of a RUN and of the PULL that follows it.
 fn answer_of(run: &Request, pull: &Request) -> Answer {
-    let fields = match run.metadata.get("fields") {
-        Some(Value::List(names)) => names.iter().map(|it| it.as_text().map(str::to_owned)).collect(),
-        _ => None,
-    }
-    .unwrap_or_default();
-    let bookmark = pull.metadata.get("bookmark").and_then(Value::as_text).map(str::to_owned);
-    Answer { fields, rows: pull.rows.clone(), bookmark }
+    let columns = columns_of(run);
+    let rows = pull.rows.iter().map(|it| Row::of(columns.clone(), it.clone())).collect();
+    Answer { fields: columns.to_vec(), rows, bookmark: bookmark_of(pull) }
 }
 
 /// The first field of a message.

@@ -76,14 +76,110 @@ pub enum Error {
     /// The connection broke, or was given up: why, the stream's own error if there is one, and the requests with their
     /// outcomes. Each later call returns it again, without the stream's error.
     Broken { why: &'static str, error: Option<io::Error>, requests: Vec<Request> },
+    /// A row has other columns, or a value of another type, than the caller reads. It says nothing about requests.
+    Mismatch(Mismatch),
+    /// The caller's work in a transaction ended with this error. The transaction isn't committed.
+    Work(Box<dyn std::error::Error + Send + Sync>),
+    /// No connection of a pool was free within its time limit. Nothing was sent.
+    Busy,
+}
+
+/// The kind of an [`Error`].
+#[derive(Clone, Copy, Debug, PartialEq, Eq)]
+pub enum ErrorKind {
+    /// [`Error::NotSent`].
+    NotSent,
+    /// [`Error::Refused`].
+    Refused,
+    /// [`Error::Broken`] because a time limit of the stream was over.
+    TimedOut,
+    /// [`Error::Broken`] for another reason.
+    Broken,
+    /// [`Error::Mismatch`].
+    Mismatch,
+    /// [`Error::Work`].
+    Work,
+    /// [`Error::Busy`].
+    Busy,
+}
+
+/// Why a row isn't what the caller reads.
+#[derive(Clone, Debug, PartialEq, Eq)]
+pub enum Mismatch {
+    /// The row has no such column. `columns` are the names of those that it has.
+    NoColumn { column: String, columns: Vec<String> },
+    /// The value is of another type than is wanted, or its number is out of the type's range. The column is there if
+    /// the value was read from a row.
+    Type { column: Option<String>, wanted: &'static str, found: String },
+    /// The row has another number of values than the tuple has parts.
+    Count { wanted: usize, found: usize },
+}
+
+impl Mismatch {
+    /// Adds the column of the value.
+    pub(crate) fn of_column(self, name: &impl ToString) -> Mismatch {
+        match self {
+            Mismatch::Type { wanted, found, .. } => Mismatch::Type { column: Some(name.to_string()), wanted, found },
+            other => other,
+        }
+    }
+}
+
+impl fmt::Display for Mismatch {
+    fn fmt(&self, f: &mut fmt::Formatter<'_>) -> fmt::Result {
+        match self {
+            Mismatch::NoColumn { column, columns } => {
+                write!(f, "there is no column {column}; the columns are: {}", columns.join(", "))
+            }
+            Mismatch::Type { column: Some(column), wanted, found } => {
+                write!(f, "column {column}: wanted {wanted}, found {found}")
+            }
+            Mismatch::Type { column: None, wanted, found } => write!(f, "wanted {wanted}, found {found}"),
+            Mismatch::Count { wanted, found } => write!(f, "wanted {wanted} columns, found {found}"),
+        }
+    }
+}
+
+impl std::error::Error for Mismatch {}
+
+impl From<Mismatch> for Error {
+    fn from(it: Mismatch) -> Error {
+        Error::Mismatch(it)
+    }
 }
 
 impl Error {
+    /// Makes the error by which work in a transaction gives up: `Err(Error::work("not enough money"))`.
+    pub fn work(why: impl Into<Box<dyn std::error::Error + Send + Sync>>) -> Error {
+        Error::Work(why.into())
+    }
+
+    /// Returns the kind.
+    pub fn kind(&self) -> ErrorKind {
+        match self {
+            Error::NotSent { .. } => ErrorKind::NotSent,
+            Error::Refused { .. } => ErrorKind::Refused,
+            Error::Broken { error: Some(error), .. } if is_time_out(error) => ErrorKind::TimedOut,
+            Error::Broken { .. } => ErrorKind::Broken,
+            Error::Mismatch(_) => ErrorKind::Mismatch,
+            Error::Work(_) => ErrorKind::Work,
+            Error::Busy => ErrorKind::Busy,
+        }
+    }
+
+    /// Returns the code of the server's FAILURE, None of another error.
+    pub fn code(&self) -> Option<&str> {
+        match self {
+            Error::Refused { code, .. } => Some(code),
+            _ => None,
+        }
+    }
+
     /// The requests that were asked since all was settled, in order, each with its outcome.
     pub fn requests(&self) -> &[Request] {
         match self {
-            Error::NotSent { .. } => &[],
             Error::Refused { requests, .. } | Error::Broken { requests, .. } => requests,
+            _ => &[],
         }
     }
 
@@ -101,8 +197,26 @@ impl fmt::Display for Error {
             Error::Refused { code, message, .. } => write!(f, "{code}: {message}"),
             Error::Broken { why, error: Some(error), .. } => write!(f, "{why}: {error}"),
             Error::Broken { why, .. } => write!(f, "{why}"),
+            Error::Mismatch(it) => it.fmt(f),
+            Error::Work(it) => it.fmt(f),
+            Error::Busy => write!(f, "no connection of the pool was free in time"),
         }
     }
 }
 
-impl std::error::Error for Error {}
+impl std::error::Error for Error {
+    /// Returns the stream's error, or that of the work. The error's own text has its text.
+    fn source(&self) -> Option<&(dyn std::error::Error + 'static)> {
+        match self {
+            Error::Broken { error: Some(error), .. } => Some(error),
+            Error::Mismatch(it) => Some(it),
+            Error::Work(it) => Some(it.as_ref()),
+            _ => None,
+        }
+    }
+}
+
+/// Returns true if a stream's error is that of a time limit.
+pub(crate) fn is_time_out(error: &io::Error) -> bool {
+    matches!(error.kind(), io::ErrorKind::TimedOut | io::ErrorKind::WouldBlock)
+}

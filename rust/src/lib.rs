@@ -23,12 +23,16 @@
 //! ```
 
 mod connection;
+mod convert;
 mod error;
 mod ffi;
 mod retry;
+mod row;
 mod value;
 
 pub use connection::{Answer, Connection, Login, Query};
-pub use error::{Error, Kind, Outcome, Request};
+pub use convert::FromValue;
+pub use error::{Error, ErrorKind, Kind, Mismatch, Outcome, Request};
 pub use retry::{until_known, until_known_with, Before, Fate, Retry};
+pub use row::{Column, FromRow, Row};
 pub use value::{dict, Value};

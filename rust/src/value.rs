@@ -15,81 +15,70 @@ pub enum Value {
 }
 
 impl Value {
+    /// Returns the integer, None of a value of another type.
     pub fn as_int(&self) -> Option<i64> {
-        if let Value::Int(it) = self {
-            Some(*it)
-        } else {
-            None
+        match self {
+            Value::Int(it) => Some(*it),
+            _ => None,
         }
     }
 
+    /// Returns the float, None of a value of another type, also of an integer.
+    pub fn as_float(&self) -> Option<f64> {
+        match self {
+            Value::Float(it) => Some(*it),
+            _ => None,
+        }
+    }
+
+    /// Returns the text, None of a value of another type.
     pub fn as_text(&self) -> Option<&str> {
-        if let Value::Text(it) = self {
-            Some(it)
-        } else {
-            None
+        match self {
+            Value::Text(it) => Some(it),
+            _ => None,
         }
     }
 
+    /// Returns the boolean, None of a value of another type.
     pub fn as_bool(&self) -> Option<bool> {
-        if let Value::Bool(it) = self {
-            Some(*it)
-        } else {
-            None
+        match self {
+            Value::Bool(it) => Some(*it),
+            _ => None,
         }
     }
 
-    /// The value under a key of a dictionary.
+    /// Returns the bytes, None of a value of another type.
+    pub fn as_bytes(&self) -> Option<&[u8]> {
+        match self {
+            Value::Bytes(it) => Some(it),
+            _ => None,
+        }
+    }
+
+    /// Returns the members of a list, None of a value of another type.
+    pub fn as_list(&self) -> Option<&[Value]> {
+        match self {
+            Value::List(it) => Some(it),
+            _ => None,
+        }
+    }
+
+    /// Returns the entries of a dictionary in their order, None of a value of another type.
+    pub fn as_dict(&self) -> Option<&[(String, Value)]> {
+        match self {
+            Value::Dict(it) => Some(it),
+            _ => None,
+        }
+    }
+
+    /// Returns the value under a key of a dictionary, None if there is none.
     pub fn get(&self, key: &str) -> Option<&Value> {
-        let Value::Dict(entries) = self else { return None };
-        entries.iter().find(|(name, _)| name == key).map(|(_, value)| value)
+        self.as_dict()?.iter().find(|(name, _)| name == key).map(|(_, value)| value)
     }
 }
 
-impl From<i32> for Value {
-    fn from(it: i32) -> Value {
-        Value::Int(it.into())
-    }
-}
-
-impl From<i64> for Value {
-    fn from(it: i64) -> Value {
-        Value::Int(it)
-    }
-}
-
-impl From<bool> for Value {
-    fn from(it: bool) -> Value {
-        Value::Bool(it)
-    }
-}
-
-impl From<f64> for Value {
-    fn from(it: f64) -> Value {
-        Value::Float(it)
-    }
-}
-
-impl From<&str> for Value {
-    fn from(it: &str) -> Value {
-        Value::Text(it.to_owned())
-    }
-}
-
-impl From<String> for Value {
-    fn from(it: String) -> Value {
-        Value::Text(it)
-    }
-}
-
-impl From<Vec<Value>> for Value {
-    fn from(it: Vec<Value>) -> Value {
-        Value::List(it)
-    }
-}
-
-/// A dictionary of these entries.
-pub fn dict<const N: usize>(entries: [(&str, Value); N]) -> Value {
+/// Makes a dictionary of entries.
+pub fn dict<'a>(entries: impl IntoIterator<Item = (&'a str, Value)>) -> Value {
     Value::Dict(entries.into_iter().map(|(key, value)| (key.to_owned(), value)).collect())
 }
 

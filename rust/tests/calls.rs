@@ -74,7 +74,7 @@ struct Asked {
 /// the requests may have gone out.
 fn outcomes(requests: &[Asked], heard: usize, handed: usize) -> Vec<Outcome> {
     let mut phases = vec![Phase::Fresh];
-    let mut outcome = |it: &Asked| {
+    let outcome = |it: &Asked| {
         if it.told <= heard {
             let (phase, is_success) = (phases[0], it.answer == SUCCESS);
             phases = vec![next(phase, it.kind).filter(|_| is_success).unwrap_or(Phase::Halted)];
@@ -93,7 +93,7 @@ fn outcomes(requests: &[Asked], heard: usize, handed: usize) -> Vec<Outcome> {
             Outcome::Lost
         }
     };
-    requests.iter().map(|it| outcome(it)).collect()
+    requests.iter().map(outcome).collect()
 }
 
 #[derive(Clone, Copy, Debug, PartialEq)]
@@ -352,7 +352,8 @@ fn check(row: &Row, whole: &Made, mut made: Made, what: &str) {
     // The rows of a query are there if its PULL was answered.
     for (at, pull) in wanted.iter().enumerate().skip(1).filter(|(_, it)| it.1 == Kind::Pull) {
         let is_whole = matches!(pull.2, Some(Outcome::Done | Outcome::Committed));
-        assert_eq!(is_whole.then(|| vec![vec![7.into()]]), made.connection.answer(at - 1).map(|it| it.rows), "{what}");
+        let rows = made.connection.answer(at - 1).map(|it| it.rows);
+        assert_eq!(is_whole.then(|| vec![bolt::Row::new([], [7.into()])]), rows, "{what}");
     }
     let is_answered = asked.clone().all(|it| requests[it].told <= way.heard);
     match &made.result {

@@ -2,10 +2,11 @@
 
 mod common;
 
-use bolt::{until_known, Answer, Connection, Error, Fate, Outcome, Query, Value};
+use bolt::{until_known, Answer, Connection, Error, ErrorKind, Fate, Outcome, Query, Row, Value};
 use common::{login, put};
 use std::cell::Cell;
 use std::collections::VecDeque;
+use std::error::Error as _;
 use std::io::{self, Read, Write};
 use std::mem::ManuallyDrop;
 use std::panic::{catch_unwind, AssertUnwindSafe};
@@ -89,6 +90,41 @@ fn malformed_answer_is_not_reported_as_too_large() {
     }
 }
 
+/// A stream that takes whatever is written, and fails with this error when it is read.
+struct Failing(io::ErrorKind);
+
+impl Read for Failing {
+    fn read(&mut self, _: &mut [u8]) -> io::Result<usize> {
+        Err(self.0.into())
+    }
+}
+
+impl Write for Failing {
+    fn write(&mut self, bytes: &[u8]) -> io::Result<usize> {
+        Ok(bytes.len())
+    }
+
+    fn flush(&mut self) -> io::Result<()> {
+        Ok(())
+    }
+}
+
+#[test]
+fn error_has_a_kind_and_the_error_of_the_stream() {
+    let rows = [
+        (io::ErrorKind::TimedOut, ErrorKind::TimedOut),
+        (io::ErrorKind::WouldBlock, ErrorKind::TimedOut),
+        (io::ErrorKind::ConnectionReset, ErrorKind::Broken),
+    ];
+    for (failure, kind) in rows {
+        let error = Connection::open(Failing(failure), &login()).err().unwrap();
+        let source = error.source().and_then(|it| it.downcast_ref::<io::Error>()).map(io::Error::kind);
+        assert_eq!((error.kind(), source, error.code()), (kind, Some(failure), None));
+    }
+    let work = Error::work(io::Error::other("why"));
+    assert_eq!((work.kind(), work.source().unwrap().to_string()), (ErrorKind::Work, "why".to_owned()));
+}
+
 #[test]
 fn answer_is_found_by_the_index_of_its_run() {
     let (fields, row): (&[u8], &[u8]) = (b"\xB1\x70\xA1\x86fields\x91\x81x", &[0xB1, 0x71, 0x91, 7]);
@@ -104,7 +140,7 @@ fn answer_is_found_by_the_index_of_its_run() {
         assert_eq!(connection.answer(run), None);
         let is_whole = connection.settle().is_ok();
         assert_eq!((connection.requests()[run + 1].rows.len(), is_whole), (1, messages.len() == 5));
-        let answer = Answer { fields: vec!["x".to_owned()], rows: vec![vec![7.into()]], bookmark: None };
+        let answer = Answer { fields: vec!["x".to_owned()], rows: vec![Row::new(["x"], [7.into()])], bookmark: None };
         assert_eq!(connection.answer(run), is_whole.then_some(answer));
         for index in [run - 1, run + 1, run + 2, run + 3, usize::MAX] {
             assert_eq!(connection.answer(index), None, "{index}");
@@ -113,7 +149,7 @@ fn answer_is_found_by_the_index_of_its_run() {
     // The first of the two columns has no name. The name of the second isn't taken for it.
     let unnamed: &[u8] = b"\xB1\x70\xA1\x86fields\x92\x07\x81x";
     let mut connection = connected(&[unnamed, row, SUCCESS]);
-    let answer = Answer { fields: vec![], rows: vec![vec![7.into()]], bookmark: None };
+    let answer = Answer { fields: vec![], rows: vec![Row::new([], [7.into()])], bookmark: None };
     assert_eq!(connection.run(&put("a")).unwrap(), answer);
 }
 
