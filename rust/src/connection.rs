@@ -1,8 +1,10 @@
 //! A connection over any stream.
 
 use crate::error::{is_time_out, Error, Kind, Mismatch, Outcome, Request, TOO_LARGE};
-use crate::ffi::{Client, CLOSED, FULL, HALTED, LARGE, MEMORY, MESSAGE, NOT_ALLOWED, PIPELINE};
+use crate::ffi::{Client, CLOSED, FULL, HALTED, LARGE, MEMORY, MESSAGE, NOT_ALLOWED, PIPELINE, READY, TX_READY};
 use crate::row::{FromRow, Row};
+use crate::rows::Rows;
+use crate::transaction::Transaction;
 use crate::value::{dict, put, Reading, Value, ROOM};
 use std::fmt;
 use std::io::{self, Read, Write};
@@ -420,9 +422,7 @@ impl<S: Read + Write> Connection<S> {
     }
 
     fn await_all(&mut self) -> Result<(), Error> {
-        while self.client.state().awaits == 1 {
-            self.exchange()?;
-        }
+        while self.advance()? {}
         Ok(())
     }
 
@@ -465,6 +465,87 @@ impl<S: Read + Write> Connection<S> {
         self.is_settled = true;
         let told = |key| requests[refused].metadata.get(key).and_then(Value::as_text).unwrap_or_default().to_owned();
         Err(Error::Refused { code: told("code"), message: told("message"), requests })
+    }
+
+    /// Returns true if the connection has ended. Each further call returns `Broken`.
+    pub fn has_ended(&self) -> bool {
+        self.why.is_some()
+    }
+
+    /// Returns true if the session is ready and in no transaction, all is settled, and the connection hasn't ended.
+    pub(crate) fn is_idle(&mut self) -> bool {
+        self.is_settled && self.phase() == Some(READY)
+    }
+
+    /// Returns the phase of the session, None if the connection has ended.
+    fn phase(&mut self) -> Option<u32> {
+        let state = self.client.state();
+        (state.has_ended == 0 && self.why.is_none()).then_some(state.phase)
+    }
+
+    /// Returns true if a transaction is open, and all is settled.
+    pub(crate) fn is_in_transaction(&mut self) -> bool {
+        self.is_settled && self.phase() == Some(TX_READY)
+    }
+
+    /// Refuses a call of a transaction that is no longer open. After the end of the connection the call itself says so.
+    pub(crate) fn in_transaction(&mut self) -> Result<(), Error> {
+        if self.is_in_transaction() || self.phase().is_none() {
+            Ok(())
+        } else {
+            Err(refusal(NOT_ALLOWED))
+        }
+    }
+
+    /// Begins a transaction, under a token if there is one. It is rolled back when it is dropped, unless it was
+    /// committed.
+    ///
+    /// # Errors
+    ///
+    /// - `NotSent` if something was asked before and isn't settled, if a transaction is open, or if the token has no
+    ///   byte or more than 64.
+    /// - `Refused` if the server refuses it.
+    /// - `Broken` if the connection breaks, or has ended.
+    pub fn begin(&mut self, token: Option<&str>) -> Result<Transaction<'_, S>, Error> {
+        self.alone()?;
+        self.ask_begin(true, token)?;
+        self.settle()?;
+        Ok(Transaction::of(self))
+    }
+
+    /// Runs a query, and returns an iterator that reads its rows while it is used. So a result may be larger than the
+    /// memory. It is part of the transaction that is open, or is committed with its last row.
+    ///
+    /// The server's time limit for a write bounds how long the program may take for some rows.
+    ///
+    /// # Errors
+    ///
+    /// `NotSent` and `Broken`, as [`run`](Connection::run). A FAILURE is an item of the iterator.
+    pub fn rows(&mut self, query: &Query) -> Result<Rows<'_, S>, Error> {
+        self.alone()?;
+        let run = self.ask_run(query, true, None)?;
+        while self.told <= run && self.advance()? {}
+        let columns = columns_of(&self.requests[run]);
+        Ok(Rows::of(self, columns, run + 1))
+    }
+
+    /// Sends what waits and reads a piece, if an answer is due. Returns false if none is.
+    pub(crate) fn advance(&mut self) -> Result<bool, Error> {
+        if self.client.state().awaits == 0 {
+            return Ok(false);
+        }
+        self.exchange()?;
+        Ok(true)
+    }
+
+    /// Takes the rows of a request that came since the last call.
+    pub(crate) fn take_rows(&mut self, index: usize) -> Vec<Vec<Value>> {
+        self.requests.get_mut(index).map(|it| std::mem::take(&mut it.rows)).unwrap_or_default()
+    }
+
+    /// Ends the connection, as if it were lost.
+    pub(crate) fn give_up(&mut self, why: &'static str) {
+        self.end(why);
     }
 
     /// Refuses a call if something was asked before and isn't settled: that would go out too.
@@ -520,7 +601,7 @@ fn columns_of(run: &Request) -> Arc<[String]> {
 }
 
 /// Returns the bookmark in the answer to a request that commits.
-fn bookmark_of(request: &Request) -> Option<String> {
+pub(crate) fn bookmark_of(request: &Request) -> Option<String> {
     request.metadata.get("bookmark").and_then(Value::as_text).map(str::to_owned)
 }
 

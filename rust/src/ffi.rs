@@ -37,6 +37,8 @@ pub(crate) const CLOSED: u32 = 4;
 pub(crate) const MEMORY: u32 = 5;
 pub(crate) const NO_REQUEST: u32 = 8;
 pub(crate) const LARGE: u32 = 12;
+pub(crate) const READY: u32 = 2;
+pub(crate) const TX_READY: u32 = 4;
 pub(crate) const HALTED: u32 = 6;
 
 extern "C" {
@@ -62,10 +64,10 @@ pub(crate) struct Client {
     handle: Handle,
 }
 
-// SAFETY: bolt.h lets any thread call, if the calls of two threads are ordered. Each call here takes `&mut self`, and so
-// does the drop. To move a client to another thread, or to lend it there, Rust demands a hand-over that orders them. The
-// library keeps nothing of a thread: what a handle refers to is from malloc, whose blocks any thread may free. A client
-// isn't Sync, because its pointer isn't.
+// SAFETY: bolt.h lets any thread call, if the calls of two threads are ordered. Each call here takes `&mut self`, and
+// so does the drop. To move a client to another thread, or to lend it there, Rust demands a hand-over that orders them.
+// The library keeps nothing of a thread: what a handle refers to is from malloc, whose blocks any thread may free. A
+// client isn't Sync, because its pointer isn't.
 unsafe impl Send for Client {}
 
 // Each pointer below is that of a value or slice of the call's own, with its own length. That of an empty slice isn't

@@ -13,14 +13,17 @@
 //! }
 //!
 //! let login = Login { agent: "example/1".into(), principal: "user".into(), credentials: "pass".into() };
-//! let put = Query::new("PUT", [("key", "a".into()), ("value", 1.into())]);
+//! let put = Query::from("PUT").param("key", "a").param("value", 1);
 //! let fate = until_known(|| connect().ok(), &login, "my-token", &[put], 5).unwrap();
 //! println!("{fate:?}");
 //! let mut connection = Connection::open(connect().unwrap(), &login).unwrap();
-//! for row in connection.run(&Query::new("GET", [("key", "a".into())])).unwrap().rows {
-//!     println!("{row:?}");
+//! for row in connection.run(&Query::from("GET").param("key", "a")).unwrap().rows {
+//!     println!("{}", row.get::<i64>("value").unwrap());
 //! }
 //! ```
+//!
+//! A [`Connection`] runs queries, whose [`Row`]s become tuples or structs. A [`Transaction`] is rolled back if it is
+//! dropped. [`work_until_known`] does work in a transaction until it is known if it is committed.
 
 mod connection;
 mod convert;
@@ -28,11 +31,15 @@ mod error;
 mod ffi;
 mod retry;
 mod row;
+mod rows;
+mod transaction;
 mod value;
 
 pub use connection::{Answer, Connection, Login, Query};
 pub use convert::FromValue;
 pub use error::{Error, ErrorKind, Kind, Mismatch, Outcome, Request};
-pub use retry::{until_known, until_known_with, Before, Fate, Retry};
+pub use retry::{until_known, until_known_with, work_until_known, Before, Fate, Known, Retry, Tries};
 pub use row::{Column, FromRow, Row};
+pub use rows::Rows;
+pub use transaction::Transaction;
 pub use value::{dict, Value};

@@ -3,8 +3,12 @@
 use crate::connection::{Connection, Login, Query};
 use crate::error::{Error, Outcome, Request, TOO_LARGE};
 use crate::ffi::NO_REQUEST;
+use crate::transaction::Transaction;
 use crate::value::Value;
+use std::borrow::BorrowMut;
 use std::io::{Read, Write};
+use std::thread;
+use std::time::Duration;
 
 /// The fate of a transaction under a token.
 ///
@@ -51,6 +55,54 @@ pub enum Before {
     InDoubt,
 }
 
+/// The token of a transaction, and how often it is tried.
+///
+/// ```
+/// use bolt::{Retry, Tries};
+/// use std::time::Duration;
+///
+/// let tries = Tries { most: 20, pause: Duration::from_millis(10), ..Tries::under("order 4711") };
+/// assert_eq!(Retry::Detect, tries.retry);
+/// ```
+#[derive(Clone, Debug)]
+pub struct Tries {
+    /// The token, of 1 to 64 bytes. No other transaction may have it, also none of another program.
+    pub token: String,
+    /// The number of tries at most.
+    pub most: u32,
+    /// The pause after the first try. It doubles with each try, up to 32 times of it.
+    pub pause: Duration,
+    pub retry: Retry,
+    pub before: Before,
+}
+
+impl Tries {
+    /// Makes ten tries under the token, the second 50 ms after the first, by [`Retry::Detect`]. No earlier call may
+    /// have left the token in doubt.
+    pub fn under(token: impl Into<String>) -> Tries {
+        let pause = Duration::from_millis(50);
+        Tries { token: token.into(), most: 10, pause, retry: Retry::Detect, before: Before::Nothing }
+    }
+
+    /// Waits before the try of this number, from 0.
+    fn wait(&self, tried: u32) {
+        if tried > 0 && !self.pause.is_zero() {
+            thread::sleep(self.pause.saturating_mul(1 << (tried - 1).min(5)));
+        }
+    }
+}
+
+/// The result of a transaction after its tries.
+#[derive(Debug)]
+pub struct Known<T> {
+    pub fate: Fate,
+    /// The value that the work returned in the try that ended [`Fate::Stands`]. If an earlier try was in doubt, that
+    /// one may have committed. Then this try has written the same.
+    pub value: Option<T>,
+    /// The error of the last try that failed.
+    pub error: Option<Error>,
+}
+
 const CLASH: &str = "Neo.ClientError.Transaction.TokenClash";
 const FINAL: &str = "Neo.ClientError.";
 const LONGEST_TOKEN: usize = 64;
@@ -92,42 +144,124 @@ pub fn until_known_with<S: Read + Write>(
     retry: Retry,
     before: Before,
 ) -> Result<Fate, Error> {
-    if !(1..=LONGEST_TOKEN).contains(&token.len()) {
+    let tries = Tries { token: token.to_owned(), most: tries, pause: Duration::ZERO, retry, before };
+    let open = || connect().map(|stream| Connection::open(stream, login));
+    known(open, &tries, |it, answers| it.transact(Some(token), queries).map(|all| *answers = Some(all)))
+        .map(|it| it.fate)
+}
+
+/// Does work in a transaction under a token, each time over a new stream, until it is known what became of it.
+///
+/// The work may read, decide and write. It has to write the same in each try: at a server that keeps tokens, other
+/// writes than those that an earlier try has committed are [`Fate::Clash`]. It may be done several times, so it changes
+/// data only by its transaction. The transaction is committed if the work returns Ok, else rolled back.
+///
+/// `connect` opens the streams. It returns None if it has none, which counts as a try. The call sleeps between tries.
+///
+/// # Errors
+///
+/// They come if nothing is in doubt, and then no try has committed:
+///
+/// - `NotSent` if the token has no byte or more than 64, before a stream is opened; and if a request can't be written,
+///   as after work that ignored a FAILURE.
+/// - `Work` and `Mismatch` if the work returns them. Another error of the work that isn't of its transaction is `Work`.
+pub fn work_until_known<S: Read + Write, T>(
+    mut connect: impl FnMut() -> Option<S>,
+    login: &Login,
+    tries: &Tries,
+    work: impl FnMut(&mut Transaction<'_, S>) -> Result<T, Error>,
+) -> Result<Known<T>, Error> {
+    work_over(|| connect().map(|stream| Connection::open(stream, login)), tries, work)
+}
+
+/// Does the work over connections that are open.
+pub(crate) fn work_over<S: Read + Write, C: BorrowMut<Connection<S>>, T>(
+    open: impl FnMut() -> Option<Result<C, Error>>,
+    tries: &Tries,
+    mut work: impl FnMut(&mut Transaction<'_, S>) -> Result<T, Error>,
+) -> Result<Known<T>, Error> {
+    known(open, tries, |connection, value| {
+        let mut transaction = connection.begin(Some(&tries.token))?;
+        let found = work(&mut transaction).map_err(|error| own(error, transaction.connection()))?;
+        *value = Some(found);
+        transaction.commit().map(drop)
+    })
+}
+
+/// Makes an error of another connection one of the work: its requests aren't those of the transaction.
+fn own<S: Read + Write>(error: Error, connection: &Connection<S>) -> Error {
+    if error.requests().is_empty() || error.requests() == connection.requests() {
+        error
+    } else {
+        Error::work(error)
+    }
+}
+
+/// Tries a transaction over connections until it is known what became of it. `attempt` does it once, and sets what it
+/// found before it commits.
+fn known<S: Read + Write, C: BorrowMut<Connection<S>>, T>(
+    mut open: impl FnMut() -> Option<Result<C, Error>>,
+    tries: &Tries,
+    mut attempt: impl FnMut(&mut Connection<S>, &mut Option<T>) -> Result<(), Error>,
+) -> Result<Known<T>, Error> {
+    if !(1..=LONGEST_TOKEN).contains(&tries.token.len()) {
         return Err(Error::NotSent { code: NO_REQUEST, rule: "M5".to_owned(), place: 0 });
     }
-    let mut is_doubtful = before == Before::InDoubt;
-    for _ in 0..tries {
+    let retry = tries.retry;
+    let mut is_doubtful = tries.before == Before::InDoubt;
+    let mut last = None;
+    for tried in 0..tries.most {
         if is_doubtful && retry == Retry::Never {
-            return Ok(Fate::Open);
+            return Ok(Known { fate: Fate::Open, value: None, error: last });
         }
-        let Some(stream) = connect() else { continue };
-        let opened = Connection::open(stream, login);
+        tries.wait(tried);
+        let Some(mut opened) = open() else { continue };
         // It is the server of this connection that has to keep tokens, not that of the first.
         let is_harmless = match (&opened, retry) {
             (_, Retry::Tokens) | (Err(_), _) => true,
             (_, Retry::Never) => false,
-            (Ok(connection), Retry::Detect) => connection.keeps_tokens(),
+            (Ok(connection), Retry::Detect) => connection.borrow().keeps_tokens(),
         };
         if is_doubtful && !is_harmless {
-            return Ok(Fate::Open);
+            return Ok(Known { fate: Fate::Open, value: None, error: last });
         }
-        let Err(error) = opened.and_then(|mut it| it.transact(Some(token), queries)) else { return Ok(Fate::Stands) };
+        let mut value = None;
+        let done = match &mut opened {
+            Ok(connection) => attempt(connection.borrow_mut(), &mut value),
+            Err(_) => Ok(()),
+        };
+        let Err(error) = opened.and(done) else { return Ok(Known { fate: Fate::Stands, value, error: last }) };
         if error.requests().iter().any(|it| it.outcome == Some(Outcome::Committed)) {
-            return Ok(Fate::Stands);
+            return Ok(Known { fate: Fate::Stands, value, error: Some(error) });
         }
         // A FAILURE of COMMIT says that nothing was committed only if the server keeps tokens.
         let commit = refusal(&error, |it| it.text == "COMMIT");
         is_doubtful |= error.is_unknown() || commit.is_some() && !is_harmless;
         // A FAILURE counts, whether or not the connection goes on.
-        match (refusal(&error, |_| true), &error) {
-            _ if commit == Some(CLASH) && is_harmless => return Ok(Fate::Clash),
-            (Some(code), _) if code.starts_with(FINAL) && !is_doubtful => return Ok(Fate::Refused),
-            (_, Error::NotSent { .. }) if !is_doubtful => return Err(error),
-            // Neither a request that can't be written nor an answer that is too large changes by another try.
-            (_, Error::NotSent { .. } | Error::Broken { why: TOO_LARGE, .. }) => break,
-            _ if is_doubtful && !is_harmless => break,
-            _ => {}
+        let fate = match (refusal(&error, |_| true), &error) {
+            _ if commit == Some(CLASH) && is_harmless => Some(Fate::Clash),
+            (Some(code), _) if code.starts_with(FINAL) && !is_doubtful => Some(Fate::Refused),
+            (_, Error::NotSent { .. } | Error::Work(_) | Error::Mismatch(_)) if !is_doubtful => return Err(error),
+            // Another try changes none of these: a request that can't be written, an answer that is too large, and work
+            // that gave up.
+            (_, Error::NotSent { .. } | Error::Work(_) | Error::Mismatch(_)) => Some(Fate::Open),
+            (_, Error::Broken { why: TOO_LARGE, .. }) => Some(unknown(is_doubtful)),
+            _ if is_doubtful && !is_harmless => Some(Fate::Open),
+            _ => None,
+        };
+        last = Some(error);
+        if let Some(fate) = fate {
+            return Ok(Known { fate, value: None, error: last });
         }
     }
-    Ok(if is_doubtful { Fate::Open } else { Fate::Absent })
+    Ok(Known { fate: unknown(is_doubtful), value: None, error: last })
+}
+
+/// Returns the fate if no more tries are made.
+fn unknown(is_doubtful: bool) -> Fate {
+    if is_doubtful {
+        Fate::Open
+    } else {
+        Fate::Absent
+    }
 }

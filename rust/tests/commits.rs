@@ -4,66 +4,17 @@
 //! at a time.
 
 mod common;
+#[path = "common/cut.rs"]
+mod cut;
 #[path = "common/server.rs"]
 mod server;
 
 use bolt::{until_known, Connection, Error, Fate, Outcome, Query, Value};
 use common::{login, put};
+use cut::{Cut, WHOLE};
 use server::Server;
-use std::io::{self, Read, Write};
-use std::net::{Shutdown, TcpStream};
-use std::time::Duration;
-
-/// How long a read may take on a busy machine.
-const PATIENCE: Duration = Duration::from_secs(30);
-/// More bytes than any test sends.
-const WHOLE: usize = 1 << 40;
-
-/// A stream that ends after `told` bytes of the server or `asked` bytes of the client. It counts both down.
-struct Cut {
-    stream: TcpStream,
-    told: usize,
-    asked: usize,
-}
-
-impl Read for Cut {
-    fn read(&mut self, into: &mut [u8]) -> io::Result<usize> {
-        let room = into.len().min(self.told);
-        let count = if room == 0 { 0 } else { self.stream.read(&mut into[..room])? };
-        self.told -= count;
-        Ok(count)
-    }
-}
-
-impl Write for Cut {
-    fn write(&mut self, bytes: &[u8]) -> io::Result<usize> {
-        if self.asked == 0 {
-            // The server sees the end, so that the client doesn't wait for an answer.
-            let _closed = self.stream.shutdown(Shutdown::Write);
-            return Err(io::ErrorKind::BrokenPipe.into());
-        }
-        let count = self.stream.write(&bytes[..bytes.len().min(self.asked)])?;
-        self.asked -= count;
-        Ok(count)
-    }
-
-    fn flush(&mut self) -> io::Result<()> {
-        Ok(())
-    }
-}
 
 impl Server {
-    fn connect(&self, told: usize, asked: usize) -> Option<Cut> {
-        let stream = TcpStream::connect(("127.0.0.1", self.port)).ok()?;
-        stream.set_read_timeout(Some(PATIENCE)).ok()?;
-        stream.set_nodelay(true).ok()?;
-        Some(Cut { stream, told, asked })
-    }
-
-    fn open(&self) -> Connection<Cut> {
-        Connection::open(self.connect(WHOLE, WHOLE).unwrap(), &login()).unwrap()
-    }
-
     /// Returns true if the key has the value 1 in the server's table.
     fn has(&self, key: &str) -> bool {
         let answer = self.open().run(&Query::new("GET", [("key", key.into())])).unwrap();

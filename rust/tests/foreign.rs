@@ -1,10 +1,14 @@
 //! Fates at servers that keep no tokens, at servers that keep them, and at an address that leads to both.
 
-use bolt::{until_known, until_known_with, Before, Connection, Error, Fate, Login, Outcome, Query, Retry};
+use bolt::{
+    until_known, until_known_with, work_until_known, Before, Connection, Error, Fate, Login, Outcome, Query, Retry,
+    Tries,
+};
 use std::cell::RefCell;
 use std::collections::VecDeque;
 use std::io::{self, Read, Write};
 use std::rc::Rc;
+use std::time::Duration;
 
 const OURS: &str = "BoltTable/1";
 const NEO4J: &str = "Neo4j/5.1";
@@ -16,7 +20,7 @@ const CLASH: &str = "Neo.ClientError.Transaction.TokenClash";
 /// A server. It has a name for each connection, and all further ones get the last. It commits, and doesn't answer, the
 /// COMMITs with the numbers in `lost`, from 1. It answers the first COMMIT with the FAILURE `failed`. If it keeps no
 /// tokens, it has committed nonetheless.
-#[derive(Default)]
+#[derive(Clone, Default)]
 struct Server {
     names: Vec<&'static str>,
     lost: Vec<usize>,
@@ -158,12 +162,19 @@ fn serving(server: Server) -> Shared {
     Rc::new(RefCell::new(server))
 }
 
-/// Returns the fate of a transaction, how many commits there were, and how many connections.
+/// Returns the fate of a transaction, how many commits there were, and how many connections. It checks that fixed
+/// queries and work have the same.
 fn sent(server: Server, retry: Retry, before: Before) -> (Fate, usize, usize) {
-    let server = serving(server);
+    let (server, other) = (serving(server.clone()), serving(server));
     let fate = until_known_with(|| Some(connect(&server)), &login(), "t", &put(), 5, retry, before).unwrap();
-    let server = server.borrow();
-    (fate, server.commits, server.connections)
+    let tries = Tries { most: 5, pause: Duration::ZERO, retry, before, ..Tries::under("t") };
+    let known = work_until_known(|| Some(connect(&other)), &login(), &tries, |it| it.run(&put()[0]).map(drop));
+    let known = known.unwrap();
+    let counts = |it: &Shared| (it.borrow().commits, it.borrow().connections);
+    assert_eq!((fate, counts(&server)), (known.fate, counts(&other)));
+    assert_eq!((fate == Fate::Stands).then_some(()), known.value);
+    assert!(known.error.is_some() || fate == Fate::Stands || before == Before::InDoubt);
+    (fate, counts(&server).0, counts(&server).1)
 }
 
 fn named(names: &[&'static str], keeps: bool, lost: &[usize]) -> Server {
