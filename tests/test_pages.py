@@ -27,7 +27,7 @@ MOST_WORDS = {
     "docs/PROGRAM.md": 700,
     "docs/PROVED.md": 4800,
     "docs/PYTHON.md": 1600,
-    "docs/RUST.md": 750,
+    "docs/RUST.md": 2200,
     "docs/SAFETY.md": 2100,
     "docs/SERVER.md": 2550,
     "docs/TROUBLE.md": 1650,

@@ -1,8 +1,8 @@
-"""Runs `cargo test` of rust/, and the first program of docs/RUST.md."""
+"""Runs `cargo test` of rust/, and the programs of docs/RUST.md."""
 import re
 import unittest
 
-from tests.lib import crates, modules, programs, servers, tables
+from tests.lib import crates, modules, pages, programs, servers, tables
 
 
 def setUpModule():
@@ -41,13 +41,15 @@ class TestCrate(unittest.TestCase):
         written = re.findall(r"#\[test\]\nfn (\w+)", (programs.ROOT / "rust" / "tests" / "commits.rs").read_text())
         self.assertEqual(sorted(written), sorted(skipped), said)
 
-    def test_first_program_of_page_commits_and_reads(self):
-        page = (programs.ROOT / "docs" / "RUST.md").read_text().partition("```rust\n")[2].partition("```\n")[0]
-        self.assertIn("7687", page)
-        with servers.OneServer() as server:
-            (crate.path / "examples" / "first.rs").write_text(page.replace("7687", str(server.port)))
-            ran = crate.cargo("run", "-q", "--example", "first", BOLT_LIB=library)
-        self.assertEqual((0, "Stands\n1\n"), ran)
+    def test_programs_of_page_print_what_it_says(self):
+        found = pages.programs_of(pages.read("docs/RUST.md"), "rust")
+        self.assertGreater(len(found), 1)
+        for at, (block, wanted) in enumerate(found, 1):
+            with self.subTest(f"program {at}"), servers.ManyServer() as server:
+                self.assertIn("7687", block)
+                (crate.path / "examples" / "page.rs").write_text(pages.at_port(block, server.port))
+                status, said = crate.cargo("run", "-q", "--example", "page", BOLT_LIB=library)
+                self.assertEqual((0, wanted), (status, said.splitlines()))
 
 
 if __name__ == "__main__":

@@ -23,12 +23,14 @@
 //! ```
 //!
 //! A [`Connection`] runs queries, whose [`Row`]s become tuples or structs. A [`Transaction`] is rolled back if it is
-//! dropped. [`work_until_known`] does work in a transaction until it is known if it is committed.
+//! dropped. [`work_until_known`] does work in a transaction until it is known if it is committed. A [`Pool`] shares
+//! connections between threads.
 
 mod connection;
 mod convert;
 mod error;
 mod ffi;
+mod pool;
 mod retry;
 mod row;
 mod rows;
@@ -38,6 +40,7 @@ mod value;
 pub use connection::{Answer, Connection, Login, Query};
 pub use convert::FromValue;
 pub use error::{Error, ErrorKind, Kind, Mismatch, Outcome, Request};
+pub use pool::{Limits, Pool, Pooled};
 pub use retry::{until_known, until_known_with, work_until_known, Before, Fate, Known, Retry, Tries};
 pub use row::{Column, FromRow, Row};
 pub use rows::Rows;

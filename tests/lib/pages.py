@@ -6,6 +6,8 @@ import textwrap
 from tests.lib import programs
 
 ROOT = programs.ROOT
+# The languages of blocks for a shell, and of what programs print.
+SHELLS = ("", "sh", "console", "text", "bash")
 # Folders whose files a page may name in a line for a shell, and `bench`, which isn't there.
 FOLDERS = ("scripts", "tests", "benches", "bench", "fuzz", "examples", "python", "rust")
 
@@ -27,7 +29,7 @@ def blocks(text, language):
 
 def unmarked(text):
     """Returns the blocks that name no language: indented ones, and those fenced as sh, console, text or nothing."""
-    fenced = re.findall(r"(?ms)^```(?:sh|console|text|bash)?\n(.*?)\n```$", text)
+    fenced = [block for language, block in re.findall(r"(?ms)^```(\w*)\n(.*?)\n```$", text) if language in SHELLS]
     found, last = [[]], ""
     for line in re.sub(r"(?ms)^```.*?^```$", "", text).split("\n"):
         # A block begins after an empty line. Empty lines may be in it.
@@ -54,12 +56,18 @@ def python_blocks(text):
     These lines are the indented block after the words "It prints". If there is none, they come from the comments of the
     program: `print(..)  # SAID: MORE` says that SAID is printed.
     """
+    found = [(block, commented(block) if said is None else said) for block, said in programs_of(text, "python")]
+    return found + [(it, commented(it)) for it in unmarked(text) if is_python(it)]
+
+
+def programs_of(text, language):
+    """Returns the fenced programs in a language, with the lines of the block after "It prints", or None."""
     found = []
-    for part in text.split("```python\n")[1:]:
+    for part in text.split(f"```{language}\n")[1:]:
         block, _, after = part.partition("\n```")
         said = re.match(r"\s*It prints[^\n]*\n\n((?:    .*\n)+)", after)
-        found.append((block, textwrap.dedent(said[1]).splitlines() if said else commented(block)))
-    return found + [(it, commented(it)) for it in unmarked(text) if is_python(it)]
+        found.append((block, textwrap.dedent(said[1]).splitlines() if said else None))
+    return found
 
 
 def commented(block):
