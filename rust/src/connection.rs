@@ -168,7 +168,13 @@ fn extra(write: bool, token: Option<&str>) -> Value {
 }
 
 impl<S: Read + Write> Connection<S> {
-    /// Offers 5.1, 5.0 and 4.4 over a stream of which nothing was read or written yet, and logs in.
+    /// Offers 5.1, 5.0 and 4.4 over a new stream, and logs in. Nothing may have been read or written.
+    ///
+    /// # Errors
+    ///
+    /// - `Refused` if the server refuses the login.
+    /// - `Broken` if the stream fails or ends, or if the server takes no version or doesn't answer in Bolt.
+    /// - `NotSent` if the login can't be written, as one of more than 65,536 bytes, or if memory runs out.
     pub fn open(stream: S, login: &Login) -> Result<Connection<S>, Error> {
         let client = Client::open(0).map_err(refusal)?;
         let mut connection = Connection {
@@ -269,12 +275,24 @@ impl<S: Read + Write> Connection<S> {
         Ok(self.requests.len() - 1)
     }
 
-    /// A BEGIN, under the token if there is one.
+    /// Submits a BEGIN, under the token if there is one. Returns its index among the requests.
+    ///
+    /// # Errors
+    ///
+    /// These are the errors of each call that submits requests:
+    ///
+    /// - `NotSent` if the request isn't allowed after those before it, if 32 requests are pending, if it can't be
+    ///   written, or if memory runs out.
+    /// - `Broken` if the connection has ended, or if an earlier write has failed.
     pub fn ask_begin(&mut self, write: bool, token: Option<&str>) -> Result<usize, Error> {
         self.ask("BEGIN", Kind::Begin, &[&extra(write, token)])
     }
 
-    /// Asks a RUN and a PULL of all its rows, both or neither. Returns the index of the RUN; the PULL follows it.
+    /// Submits a RUN and a PULL of all its rows, both or neither. Returns the index of the RUN; the PULL follows it.
+    ///
+    /// # Errors
+    ///
+    /// Those of [`ask_begin`](Connection::ask_begin).
     pub fn ask_run(&mut self, query: &Query, write: bool, token: Option<&str>) -> Result<usize, Error> {
         if self.client.state().pending as usize > PIPELINE - 2 {
             return Err(refusal(FULL));
@@ -288,14 +306,29 @@ impl<S: Read + Write> Connection<S> {
         }
     }
 
+    /// Submits a COMMIT. Returns its index among the requests.
+    ///
+    /// # Errors
+    ///
+    /// Those of [`ask_begin`](Connection::ask_begin).
     pub fn ask_commit(&mut self) -> Result<usize, Error> {
         self.ask("COMMIT", Kind::Commit, &[])
     }
 
+    /// Submits a ROLLBACK. Returns its index among the requests.
+    ///
+    /// # Errors
+    ///
+    /// Those of [`ask_begin`](Connection::ask_begin).
     pub fn ask_rollback(&mut self) -> Result<usize, Error> {
         self.ask("ROLLBACK", Kind::Rollback, &[])
     }
 
+    /// Submits a RESET. Returns its index among the requests.
+    ///
+    /// # Errors
+    ///
+    /// Those of [`ask_begin`](Connection::ask_begin).
     pub fn ask_reset(&mut self) -> Result<usize, Error> {
         self.ask("RESET", Kind::Reset, &[])
     }
@@ -558,7 +591,13 @@ impl<S: Read + Write> Connection<S> {
     }
 
     /// Runs a query and returns its rows. It is part of the transaction that is open, or is committed with its last
-    /// row. It is refused if something was asked before and isn't settled.
+    /// row.
+    ///
+    /// # Errors
+    ///
+    /// - `NotSent` if something was asked before and isn't settled, or if the query can't be written.
+    /// - `Refused` if the server refuses it. A transaction that was open is gone.
+    /// - `Broken` if the connection breaks, or has ended. If [`Error::is_unknown`] is true, the query may be committed.
     pub fn run(&mut self, query: &Query) -> Result<Answer, Error> {
         self.alone()?;
         let run = self.ask_run(query, true, None)?;
@@ -579,8 +618,13 @@ impl<S: Read + Write> Connection<S> {
 
     /// Runs queries in one transaction, as one pipeline, under a token if there is one. Returns the rows of each.
     ///
-    /// It is refused if something was asked before and isn't settled. If it can't be asked as a whole, as with more
-    /// than 15 queries, nothing of it goes out, and the session has ended, unless its BEGIN was refused.
+    /// # Errors
+    ///
+    /// - `NotSent` if something was asked before and isn't settled, or if it can't be asked as a whole, as with more
+    ///   than 15 queries. Nothing of it goes out. In the second case the session has ended, unless its BEGIN was
+    ///   refused.
+    /// - `Refused` if the server refuses a request. A server that keeps tokens has committed nothing.
+    /// - `Broken` if the connection breaks, or has ended. If [`Error::is_unknown`] is true, it may be committed.
     pub fn transact(&mut self, token: Option<&str>, queries: &[Query]) -> Result<Vec<Answer>, Error> {
         self.alone()?;
         self.ask_begin(true, token)?;

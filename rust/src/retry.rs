@@ -115,6 +115,10 @@ fn refusal(error: &Error, is_chosen: impl Fn(&Request) -> bool) -> Option<&str> 
 
 /// Sends queries as one transaction under a token until it is known what became of it, at most `tries` times. It is
 /// [`until_known_with`] by [`Retry::Detect`], of a token that no earlier call left in doubt.
+///
+/// # Errors
+///
+/// Those of [`until_known_with`].
 pub fn until_known<S: Read + Write>(
     connect: impl FnMut() -> Option<S>,
     login: &Login,
